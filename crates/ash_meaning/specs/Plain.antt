@@ -1,0 +1,68 @@
+-- What the plain state stands for.
+use Rattle.std.specs.Prelude.{◌≡◌, ℕ, List, [], ◌∷◌, Option, Some, None, string_bytes}
+use Rattle.ash_host.specs.declared.word.Word.{Word}
+use Rattle.ash_meaning.specs.declared.plain.Script as declared
+use Rattle.ash_meaning.specs.declared.request.Argument.{Argument}
+use Rattle.ash_meaning.specs.declared.refusal.Refusal.{Refusal}
+use Rattle.ash_meaning.specs.declared.refusal.Refusal.TheVariants as refusals
+use Rattle.ash_meaning.specs.Meaning.{End, call, load_globals}
+use Rattle.ash_meaning.specs.State.{State, Script}
+use Rattle.ash_meaning.specs.Step.{find_function, words_for}
+use Rattle.ash_meaning.specs.Tree.{Function, module_of}
+use Rattle.ash_meaning.specs.small.Reading.{read_module}
+
+abbrev pub script_of : declared.Script → Script
+script_of s = record { name = string_bytes s.name; source = s.source.items; globals = s.globals.items }
+
+abbrev pub scripts_of : Option declared.Script → List Script
+scripts_of None = []
+scripts_of (Some s) = script_of s ∷ []
+
+abbrev pub state_of : Option declared.Script → ℕ → State
+state_of script seq = record { modules = scripts_of script; seq = seq }
+
+-- the tree that is kept is that of the source
+abbrev pub IsRead : Option declared.Script → Type 0
+IsRead None = Unit {0}
+IsRead (Some s) = read_module s.source.items ≡ Some (module_of s.tree)
+
+-- a source that was read, and how its initializers ended
+pub record IsLoaded (budget : ℕ) (name source : List ℕ) (end : End) (script : declared.Script) : Type 0 where
+  pub called : string_bytes script.name ≡ name
+  pub kept : script.source.items ≡ source
+  pub read : read_module source ≡ Some (module_of script.tree)
+  pub run : (end, script.globals.items) ≡ load_globals (module_of script.tree) budget
+
+-- a source is refused where it spells no module, or where memory was refused for one that does
+abbrev pub RefusesLoad : List ℕ → Refusal → Type 0
+RefusesLoad source refusals.NotYet = read_module source ≡ None
+RefusesLoad source refusals.NoMemory = Unit {0}
+RefusesLoad source _ = ⊥
+
+-- a call that was run: its function, the words of its arguments, how it ended and what it left in the globals
+pub record IsCalled (budget : ℕ) (name : List ℕ) (arguments : List Argument) (old : declared.Script) (end : End) (new : declared.Script) : Type 0 where
+  pub function : Function
+  pub words : List Word
+  pub found : find_function name (module_of old.tree) ≡ Some function
+  pub fit : words_for function.parameters arguments ≡ Some words
+  pub run : (end, new.globals.items) ≡ call function words old.globals.items budget
+  pub same : new ≡ record old { globals = new.globals }
+
+-- what finds the function and not the words, or both
+pub record FindsNoWords (name : List ℕ) (arguments : List Argument) (script : declared.Script) : Type 0 where
+  pub function : Function
+  pub found : find_function name (module_of script.tree) ≡ Some function
+  pub unfit : words_for function.parameters arguments ≡ None
+
+pub record FindsWords (name : List ℕ) (arguments : List Argument) (script : declared.Script) : Type 0 where
+  pub function : Function
+  pub words : List Word
+  pub found : find_function name (module_of script.tree) ≡ Some function
+  pub fit : words_for function.parameters arguments ≡ Some words
+
+-- why a call in a module is refused
+abbrev pub RefusesCall : List ℕ → List Argument → declared.Script → Refusal → Type 0
+RefusesCall name arguments script refusals.NoFunction = find_function name (module_of script.tree) ≡ None
+RefusesCall name arguments script refusals.BadArguments = FindsNoWords name arguments script
+RefusesCall name arguments script refusals.NoMemory = FindsWords name arguments script
+RefusesCall name arguments script _ = ⊥

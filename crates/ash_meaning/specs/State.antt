@@ -1,0 +1,71 @@
+-- What outlives a request, and what is asked and replied.
+use Rattle.std.specs.Prelude.{ℕ, List, [], string_bytes, Result, Ok, Err}
+use Rattle.ash_host.specs.declared.word.Word.{Word}
+use Rattle.ash_meaning.specs.declared.refusal.Refusal.{Refusal}
+use Rattle.ash_meaning.specs.declared.request.Argument as argument
+use Rattle.ash_meaning.specs.declared.request.Request as request
+use Rattle.ash_meaning.specs.declared.request.Request.TheVariants as requests
+use Rattle.ash_meaning.specs.declared.request.Answer as answer
+use Rattle.ash_meaning.specs.declared.request.Reply as reply
+use Rattle.ash_meaning.specs.declared.request.Reply.TheVariants as replies
+use Rattle.ash_meaning.specs.declared.outcome.Outcome as outcome
+use Rattle.ash_meaning.specs.declared.outcome.Outcome.TheVariants as outcomes
+use Rattle.ash_meaning.specs.Meaning.{End, Finished, Threw, Aborted}
+
+-- a module that is kept: its name, its source and what its globals hold, in source order
+pub record Script : Type 0 where
+  pub name : List ℕ
+  pub source : List ℕ
+  pub globals : List Word
+
+-- the modules that are kept, and how many requests have been answered
+pub record State : Type 0 where
+  pub modules : List Script
+  pub seq : ℕ
+
+abbrev pub empty : State
+empty = record { modules = []; seq = 0 }
+
+pub data Request : Type 0 where
+  Load : (name : List ℕ) → (source : List ℕ) → Request
+  Call : (script : List ℕ) → (function : List ℕ) → (arguments : List argument.Argument) → Request
+  Global : (script : List ℕ) → (name : List ℕ) → Request
+  Seq : Request
+
+pub data Reply : Type 0 where
+  Answered : (end : End) → (seq : ℕ) → Reply
+  Value : (word : Word) → Reply
+  Number : (seq : ℕ) → Reply
+  Refused : (refusal : Refusal) → Reply
+
+-- what the code's requests and replies stand for
+
+abbrev pub request_of : request.Request → Request
+request_of (requests.Load name source) = Load name.now source.now
+request_of (requests.Call script function arguments) = Call script.now function.now arguments.now
+request_of (requests.Global script name) = Global script.now name.now
+request_of requests.Seq = Seq
+
+abbrev pub end_of : outcome.Outcome → End
+end_of (outcomes.Finished value) = Finished value
+end_of (outcomes.Exception exception function line) = Threw exception (string_bytes function) line
+end_of (outcomes.Aborted function line) = Aborted (string_bytes function) line
+
+abbrev pub answered : answer.Answer → Reply
+answered a = Answered (end_of a.outcome) a.seq
+
+abbrev pub reply_of : reply.Reply → Reply
+reply_of (replies.Answer a) = answered a
+reply_of (replies.Value word) = Value word
+reply_of (replies.Seq seq) = Number seq
+reply_of (replies.Refused refusal) = Refused refusal
+
+-- the reply of a call that answers or refuses
+abbrev pub answer_of : Result answer.Answer Refusal → Reply
+answer_of (Ok a) = answered a
+answer_of (Err refusal) = Refused refusal
+
+-- the reply of a look-up that gives a word or refuses
+abbrev pub word_of : Result Word Refusal → Reply
+word_of (Ok word) = Value word
+word_of (Err refusal) = Refused refusal
