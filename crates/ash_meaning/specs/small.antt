@@ -1,2 +1,10 @@
 pub mod Tree
+pub mod Words
+pub mod Token
+pub mod Spelling
+pub mod Grammar
+pub mod Lexer
+pub mod Reader
+pub mod Scope
+pub mod Views
 pub mod Reading

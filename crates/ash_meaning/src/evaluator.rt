@@ -98,8 +98,8 @@ impl Machine<'_> {
     }
 
     #[cycle(value)]
-    fn value(&self, expr: &Expr) -> Word
-        ensures { expression (expr_of expr.now) (activity_of self.now) ≡ Done result (activity_of self.now) }
+    fn value(&mut self, expr: &Expr) -> Word
+        ensures { expression (expr_of expr.now) (activity_of self.old) ≡ Done result (activity_of self.new) }
     {
         match expr {
             Expr::Literal(word) => *word,
@@ -112,8 +112,8 @@ impl Machine<'_> {
     }
 
     #[cycle(value)]
-    fn chain(&self, first: Word, rest: &[Link]) -> Word
-        ensures { chain (links_from rest.now) first (activity_of self.now) ≡ Done result (activity_of self.now) }
+    fn chain(&mut self, first: Word, rest: &[Link]) -> Word
+        ensures { chain (links_from rest.now) first (activity_of self.old) ≡ Done result (activity_of self.new) }
     {
         let mut left = first;
         for link in rest {

@@ -29,24 +29,6 @@ pub enum Refusal {
     NoMemory,
 }
 
-impl Refusal {
-    /// The number that a reply tells.
-    pub fn code(self) -> u16 {
-        match self {
-            Refusal::NotYet => 199,
-            Refusal::NoModule => 401,
-            Refusal::ModuleTaken => 402,
-            Refusal::NoFunction => 403,
-            Refusal::BadArguments => 405,
-            Refusal::NoGlobal => 406,
-            Refusal::TooManyModules => 408,
-            Refusal::BadName => 409,
-            Refusal::SequenceSpent => 410,
-            Refusal::NoMemory => 509,
-        }
-    }
-}
-
 impl From<AllocError> for Refusal {
     ghost use Rattle.ash_meaning.specs.declared.refusal.Refusal.TheVariants.{NoMemory};
 

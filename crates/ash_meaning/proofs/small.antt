@@ -1,0 +1,14 @@
+pub mod Rows
+pub mod Loop
+pub mod Sound
+pub mod Shorter
+pub mod Inner
+pub mod Links
+pub mod Phrases
+pub mod Numbers
+pub mod Fronts
+pub mod Gaps
+pub mod Tokens
+pub mod Pieces
+pub mod Again
+pub mod Readings

@@ -1,0 +1,19 @@
+use Rattle.std.proofs.Common.{◌≡◌, ℕ, ◌≤◌, List, true, length, map, option_map, IfOk, arith, rules}
+use Rattle.std.proofs.lemmas.List.{length-map}
+use Rattle.std.specs.Borrow.{Bor}
+use Rattle.ash_meaning.specs.Tree as typed
+use Rattle.ash_meaning.specs.small.Tree.{items_of}
+use Rattle.ash_meaning.specs.small.Scope.{is_distinct, name_of, global_names, items_in}
+use Rattle.ash_meaning.specs.small.Views.{texts}
+use Rattle.ash_meaning.proofs.ScopeLemmas.{accepted}
+use Rattle.ash_meaning.proofs.small.resolver.resolve.Goals as goal
+
+pub returns : goal.returns
+returns c =
+    let items = items_of c.args.source.now in
+    let names = texts c.in_ok-globals.globals.items in
+    let same : names ≡ global_names items = search rules in
+    let few : length names ≤ 256 = omega (arith, length-map c.in_ok-globals.globals.items (λ (name : Bor (List ℕ)). name.now), c.len.ensures) in
+    let distinct : is_distinct (map name_of items) ≡ true = search rules in
+    let found : IfOk c.resolve_items.result (λ made. option_map typed.module_of made ≡ items_in names items) = rw (c.deref-2.ensures.value, c.as_slice-items.ensures.value) at c.resolve_items.ensures in
+    record { exact = rw (← accepted items names same few distinct) found }
