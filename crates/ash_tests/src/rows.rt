@@ -1,7 +1,8 @@
 // Requests and their replies, byte for byte.
 
 use ash_durable::Host;
-use ash_serve::{RunFault, run};
+use ash_serve::RunFault;
+use ash_serve::run::run;
 use std::test::Fail;
 
 const FIRST: &[u8] = b"int n = 2; int f(int k) { n += k; return n; }";
@@ -13,9 +14,8 @@ fn served(
     requests: &[u8],
 ) -> Result<(Result<(), RunFault>, Vec<u8>), Fail> {
     let mut host = Host::thin(rt.alloc());
-    let mut reader = requests;
     let mut replies = Vec::new(rt.alloc());
-    let end = run(rt.alloc(), &mut reader, &mut replies, &mut host, budget);
+    let end = run(rt.alloc(), requests, &mut replies, &mut host, budget);
     Ok((end, replies))
 }
 
@@ -28,17 +28,25 @@ fn replies(rt: &impl AllocGlobal, budget: u64, requests: &[u8]) -> Result<Vec<u8
 
 #[test]
 fn first_example(rt: HostRuntime) -> Result<(), Fail> {
-    let requests = b"load m 45\nint n = 2; int f(int k) { n += k; return n; }\ncall m f 5\nget m n\nquit\n";
+    let requests =
+        b"load m 45\nint n = 2; int f(int k) { n += k; return n; }\ncall m f 5\nget m n\nquit\n";
     let told = replies(&rt, 1000, requests)?;
-    assert_eq!(rt; told.as_slice(), b"ok seq 1\nok 7 seq 2\nok 7\nok\n".as_slice());
+    assert_eq!(rt;
+        told.as_slice(),
+        b"ok seq 1\nok 7 seq 2\nok 7\nok\n".as_slice()
+    );
     Ok(())
 }
 
 #[test]
 fn first_example_without_ticks(rt: HostRuntime) -> Result<(), Fail> {
-    let requests = b"load m 45\nint n = 2; int f(int k) { n += k; return n; }\ncall m f 5\nget m n\nquit\n";
+    let requests =
+        b"load m 45\nint n = 2; int f(int k) { n += k; return n; }\ncall m f 5\nget m n\nquit\n";
     let told = replies(&rt, 0, requests)?;
-    assert_eq!(rt; told.as_slice(), b"aborted (init) 1 seq 1\nrefused 401 NoModule\nrefused 401 NoModule\nok\n".as_slice());
+    assert_eq!(rt;
+        told.as_slice(),
+        b"aborted (init) 1 seq 1\nrefused 401 NoModule\nrefused 401 NoModule\nok\n".as_slice()
+    );
     Ok(())
 }
 
@@ -48,12 +56,18 @@ fn a_call_takes_two_ticks(rt: HostRuntime) -> Result<(), Fail> {
     let told = replies(&rt, 2, requests)?;
     assert_eq!(rt; told.as_slice(), b"ok seq 1\nok 1 seq 2\n".as_slice());
     let told = replies(&rt, 1, requests)?;
-    assert_eq!(rt; told.as_slice(), b"ok seq 1\naborted f 1 seq 2\n".as_slice());
+    assert_eq!(rt;
+        told.as_slice(),
+        b"ok seq 1\naborted f 1 seq 2\n".as_slice()
+    );
     Ok(())
 }
 
 /// What a host that has the first example's module replies to these requests.
-fn after_first(rt: &impl AllocGlobal, requests: &[u8]) -> Result<(Result<(), RunFault>, Vec<u8>), Fail> {
+fn after_first(
+    rt: &impl AllocGlobal,
+    requests: &[u8],
+) -> Result<(Result<(), RunFault>, Vec<u8>), Fail> {
     let mut all = Vec::from_slice(rt.alloc(), b"load m 45\n")?;
     all.extend_from_slice(FIRST)?;
     all.extend_from_slice(b"\n")?;
@@ -63,10 +77,12 @@ fn after_first(rt: &impl AllocGlobal, requests: &[u8]) -> Result<(Result<(), Run
 
 #[test]
 fn refusals_change_nothing(rt: HostRuntime) -> Result<(), Fail> {
-    let requests = b"frob\ncall m f x\ncall m nope\ncall m f 1 2\ncall m f 2147483648\ncall z f\nget m q\nload m 0\n\nload 9x 0\n\nseq\nget m n\n";
+    let requests =
+        b"frob\ncall m f x\ncall m nope\ncall m f 1 2\ncall m f 2147483648\ncall z f\nget m q\nload m 0\n\nload 9x 0\n\nseq\nget m n\n";
     let (end, told) = after_first(&rt, requests)?;
     end?;
-    let expected = b"ok seq 1\nrefused 601 BadRequest\nrefused 601 BadRequest\nrefused 403 NoFunction\nrefused 405 BadArguments\nrefused 405 BadArguments\nrefused 401 NoModule\nrefused 406 NoGlobal\nrefused 402 ModuleTaken\nrefused 409 BadName\nok 1\nok 2\n";
+    let expected =
+        b"ok seq 1\nrefused 601 BadRequest\nrefused 601 BadRequest\nrefused 403 NoFunction\nrefused 405 BadArguments\nrefused 405 BadArguments\nrefused 401 NoModule\nrefused 406 NoGlobal\nrefused 402 ModuleTaken\nrefused 409 BadName\nok 1\nok 2\n";
     assert_eq!(rt; told.as_slice(), expected.as_slice());
     Ok(())
 }
@@ -75,14 +91,19 @@ fn refusals_change_nothing(rt: HostRuntime) -> Result<(), Fail> {
 fn requests_of_later_stages(rt: HostRuntime) -> Result<(), Fail> {
     let (end, told) = after_first(&rt, b"discard m\nobject 1\nsnapshot\nload k 0\n\nseq\n")?;
     end?;
-    let expected = b"ok seq 1\nrefused 601 BadRequest\nrefused 601 BadRequest\nrefused 601 BadRequest\nrefused 408 TooManyModules\nok 1\n";
+    let expected =
+        b"ok seq 1\nrefused 601 BadRequest\nrefused 601 BadRequest\nrefused 601 BadRequest\nrefused 408 TooManyModules\nok 1\n";
     assert_eq!(rt; told.as_slice(), expected.as_slice());
     Ok(())
 }
 
 #[test]
 fn a_source_that_is_not_there_yet(rt: HostRuntime) -> Result<(), Fail> {
-    let told = replies(&rt, 1000, b"load m 8\nbool b; \nload m 3\n\xff\xfe\xfd\nseq\n")?;
+    let told = replies(
+        &rt,
+        1000,
+        b"load m 8\nbool b; \nload m 3\n\xff\xfe\xfd\nseq\n",
+    )?;
     let expected = b"refused 199 NotYet\nrefused 199 NotYet\nok 0\n";
     assert_eq!(rt; told.as_slice(), expected.as_slice());
     Ok(())
@@ -107,7 +128,8 @@ fn an_empty_source_and_a_byte_order_mark(rt: HostRuntime) -> Result<(), Fail> {
 
 #[test]
 fn integers_wrap(rt: HostRuntime) -> Result<(), Fail> {
-    let source = b"int a(int x) { return 2147483647 + x; } int b(int x, int y) { return x * y - 1; }";
+    let source =
+        b"int a(int x) { return 2147483647 + x; } int b(int x, int y) { return x * y - 1; }";
     let mut requests = format!(in rt.alloc(); "load m {}\n", source.len())?.into_bytes();
     requests.extend_from_slice(source)?;
     requests.extend_from_slice(b"\ncall m a 1\ncall m b -2147483648 -1\ncall m b -7 3\n")?;
@@ -124,7 +146,10 @@ fn an_abort_keeps_what_was_done(rt: HostRuntime) -> Result<(), Fail> {
     requests.extend_from_slice(source)?;
     requests.extend_from_slice(b"\ncall m f\nget m n\n")?;
     let told = replies(&rt, 2, &requests)?;
-    assert_eq!(rt; told.as_slice(), b"ok seq 1\naborted f 4 seq 2\nok 5\n".as_slice());
+    assert_eq!(rt;
+        told.as_slice(),
+        b"ok seq 1\naborted f 4 seq 2\nok 5\n".as_slice()
+    );
     Ok(())
 }
 

@@ -1,0 +1,10 @@
+use Rattle.std.proofs.Common.{◌≡◌, take, reverse}
+use Rattle.ash_disk.specs.Calls.{file_after, synced_after}
+use Rattle.ash_disk.proofs.crash.image_of_synced.Given as goal
+
+abbrev pub invariant-loop-call : goal.invariant-loop-call
+invariant-loop-call l =
+    record {
+      read : l.file.items ≡ file_after l.first (reverse (take l.call-index l.calls));
+      synced : l.synced.items ≡ synced_after l.first (reverse (take l.call-index l.calls));
+    }

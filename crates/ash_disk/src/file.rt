@@ -1,0 +1,90 @@
+//! A file of the system as a disk.
+ghost use Rattle.std.specs.Prelude.{◌≡◌, false, ⊤, [], IfOk};
+
+use crate::failure::counted;
+use crate::{DeviceFailed, Disk};
+use std::fs::{File, Files, OpenOptions};
+use std::io;
+use std::os::unix::fs::FileExt;
+use std::path::Path;
+
+/// An open file of the system. Reads and writes are at positions, and a sync reaches the device. No contract can
+/// say what a real device keeps, so it is never claimed honest.
+#[derive(Drop)]
+pub struct FileDisk {
+    file: File,
+    failures: u64,
+}
+
+impl FileDisk {
+    ghost use Rattle.ash_disk.specs.File.{file_failures};
+
+    /// The disk of a file that is open for reading and writing.
+    pub fn new(file: File) -> FileDisk
+        ensures { file_failures result ≡ 0 }
+    {
+        FileDisk { file, failures: 0 }
+    }
+
+    /// Opens a file that is there.
+    pub fn open<R: Files<File = File>>(files: &R, path: &str) -> io::Result<FileDisk>
+        ensures { IfOk result (λ disk. file_failures disk ≡ 0) }
+    {
+        let file = OpenOptions::new().read(true).write(true).open(files, path)?;
+        Ok(FileDisk::new(file))
+    }
+
+    /// Opens a file, or makes an empty one where there is none, and syncs its folder, so that a file which was just
+    /// made is still there after a crash. What the file holds stays.
+    pub fn open_or_make<R: Files<File = File>>(files: &R, path: &str) -> io::Result<FileDisk>
+        ensures { IfOk result (λ disk. file_failures disk ≡ 0) }
+    {
+        let mut options = OpenOptions::new();
+        options.read(true).write(true).create(true);
+        let file = options.open(files, path)?;
+        sync_folder(files, path)?;
+        Ok(FileDisk::new(file))
+    }
+}
+
+// A path with no folder in it is in the current one.
+fn sync_folder<R: Files<File = File>>(files: &R, path: &str) -> io::Result<()> {
+    let folder = match Path::new(path).parent() {
+        Some(folder) if !folder.as_str().is_empty() => folder.as_str(),
+        _ => ".",
+    };
+    File::open(files, folder)?.sync_all()
+}
+
+impl Disk for FileDisk {
+    ghost use Rattle.ash_disk.specs.File.{file_failures};
+
+    ghost honest = { λ _. false };
+
+    ghost seen = { λ _. [] };
+
+    ghost clock = { λ _. 0 };
+
+    ghost leaves = { λ _ _ _. ⊤ };
+
+    ghost failures = { file_failures };
+
+    ghost seen_may_stay = { λ _ _. tt };
+
+    fn len(&mut self) -> Result<u64, DeviceFailed> {
+        let metadata = counted(self.file.metadata(), &mut self.failures)?;
+        Ok(metadata.len())
+    }
+
+    fn read(&mut self, at: u64, into: &mut [u8]) -> Result<(), DeviceFailed> {
+        counted(self.file.read_exact_at(into, at), &mut self.failures)
+    }
+
+    fn write_at(&mut self, at: u64, bytes: &[u8]) -> Result<(), DeviceFailed> {
+        counted(self.file.write_all_at(bytes, at), &mut self.failures)
+    }
+
+    fn sync(&mut self) -> Result<(), DeviceFailed> {
+        counted(self.file.sync_all(), &mut self.failures)
+    }
+}

@@ -1,0 +1,30 @@
+//! Disks as the store sees them: files of bytes that are read, written over and synced, any call of which may fail.
+//! It stands on nothing. It promises, of every disk that is honest, what a read gives and which images a crash at
+//! any moment may leave, and of every disk that `DeviceFailed` is told only where the device has failed.
+//!
+//! In reading order: `failure` (the one error and its count), `disk` (the trait), `durably` (a write and its sync),
+//! `file` (a file of the system), `fuse` (a disk that fails from a chosen call on), `memory` (a disk in memory, with
+//! `call` and `bytes`, what it keeps and how it writes), `crash` (what a crash may leave of it, for tests). The words
+//! of the clauses stand in `specs/Image` (files and torn writes) and `specs/Moments` (times), and the laws about them
+//! in `proofs/TornLaws` and `proofs/MomentLaws`.
+#![tactic(auto)]
+
+mod bytes;
+mod call;
+mod crash;
+mod disk;
+mod durably;
+mod failure;
+mod file;
+mod fuse;
+mod memory;
+#[cfg(test)]
+mod tests;
+
+pub use crash::Survives;
+pub use disk::Disk;
+pub use durably::write_durably;
+pub use failure::DeviceFailed;
+pub use file::FileDisk;
+pub use fuse::FuseDisk;
+pub use memory::MemoryDisk;

@@ -1,0 +1,7 @@
+pub mod Bytes
+pub mod Signs
+pub mod Words
+pub mod Pieces
+pub mod Tokens
+pub mod Scan
+pub mod Steps

@@ -1,0 +1,27 @@
+//! The tokens of a script.
+//!
+//! `lex` cuts a text into its tokens, each with its line and the bytes that it takes, or tells the
+//! text's first lexical fault. It stands on no other crate of the repository. What it answers is what
+//! the text spells, by the definition in `specs/Tokens.antt`; what the text spells is answered, unless
+//! memory runs out; and each text has either tokens or a first fault, and one of them alone.
+//!
+//! In reading order: `tokens`, with the kinds in `signs` and `words`; `faults`; `bytes`, the classes of
+//! bytes; `pieces`, the longest piece at the front of a text; `numbers`; `lexer`, the pass over the text.
+#![tactic(auto)]
+
+mod bytes;
+mod faults;
+mod lexer;
+mod numbers;
+mod pieces;
+mod signs;
+#[cfg(test)]
+mod tests;
+mod tokens;
+mod words;
+
+pub use faults::LexFault;
+pub use lexer::{MAX_SOURCE, lex, one_reading};
+pub use signs::Sign;
+pub use tokens::{Token, TokenKind};
+pub use words::{ReservedWord, UnsupportedWord};

@@ -1,0 +1,12 @@
+use Rattle.std.proofs.Common.{◌≡◌, ◌<◌, ◌≤◌, ℕ, ◌+◌, ◌==◌, List, [], ◌∷◌, length, take, drop, arith, refl, sym, ◌∙◌, ap, Some, None}
+use Rattle.ash_serve.specs.Words.{words_left}
+use Rattle.ash_serve.proofs.LineLemmas.{pieces-at, pieces-none, none-space}
+use Rattle.ash_serve.proofs.words.Words.next.Goals as goal
+
+pub returns-in-None : goal.returns-in-None
+returns-in-None c =
+    ap words_left c.in_ok-line.was ∙ pieces-none c.in_ok-line.line.now (none-space c.in_ok-line.line.now c.in-None.ensures)
+
+pub returns-in-Some : goal.returns-in-Some
+returns-in-Some c =
+    ap words_left c.in_ok-line.was ∙ pieces-at c.in_ok-line.line.now c.in-Some.space c.in-Some.ensures

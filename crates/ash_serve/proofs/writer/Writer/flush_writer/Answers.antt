@@ -1,0 +1,10 @@
+use Rattle.std.proofs.Common.{◌≡◌, [], take, drop, refl}
+use Rattle.ash_serve.specs.Writer.{writer_outlet, writer_is_outlet}
+use Rattle.ash_serve.proofs.WriterLemmas.{split_front, keeps_none, send_fault, pass_after, flush_after}
+use Rattle.ash_serve.proofs.writer.Writer.flush_writer.Goals as goal
+
+pub returns-in-Ok : goal.returns-in-Ok
+returns-in-Ok g c = ((keeps_none _ _ c.flush.ensures.bytes, refl, refl), refl)
+
+pub returns-in-Err : goal.returns-in-Err
+returns-in-Err g c = ([], [], (keeps_none _ _ c.flush.ensures.bytes, refl, refl), refl)

@@ -1,0 +1,10 @@
+use Rattle.std.proofs.Common.{◌≡◌, [], take, drop, refl}
+use Rattle.ash_serve.specs.Writer.{writer_outlet, writer_is_outlet}
+use Rattle.ash_serve.proofs.WriterLemmas.{split_front, keeps_none, send_fault, pass_after, flush_after}
+use Rattle.ash_serve.proofs.writer.WriterSink.flush.Goals as goal
+
+pub returns-in-Err : goal.returns-in-Err
+returns-in-Err g c = send_fault (writer_outlet g.W.Write.contents) c.args.self.now c.send.new.self [] c.in-Err.ensures
+
+pub returns-in-Ok : goal.returns-in-Ok
+returns-in-Ok g c = flush_after (writer_outlet g.W.Write.contents) (writer_is_outlet g.W.Write.contents) c.args.self.now c.send.new.self c.flush_writer.new.self c.flush_writer.result c.in-Ok.ensures c.flush_writer.ensures

@@ -1,0 +1,10 @@
+-- The statuses of the program.
+use Rattle.std.specs.Prelude.{ℕ}
+use Rattle.ash_serve.specs.declared.program.Fault.{Fault}
+use Rattle.ash_serve.specs.declared.program.Fault.TheVariants.{Usage, NoMemory, Run}
+
+-- 2 for wrong words, 1 for any other fault
+abbrev pub status_of : Fault → ℕ
+status_of Usage = 2
+status_of NoMemory = 1
+status_of (Run fault) = 1

@@ -1,0 +1,90 @@
+-- The text of replies.
+use Rattle.std.specs.Prelude.{ℕ, ◌+◌, true, false, List, [], ◌∷◌, ◌++◌, codes, Option, Some, None, decimal}
+use Rattle.std.specs.Fmt.{signed_decimal}
+use Rattle.std.specs.List.{flat_map}
+use Rattle.ash_host.specs.declared.word.Word.{Word}
+use Rattle.ash_host.specs.declared.word.Word.TheVariants.{Bool, Int, Uint, Int64, Uint64, Null, Object}
+use Rattle.ash_meaning.specs.declared.outcome.Exception.{Exception}
+use Rattle.ash_meaning.specs.declared.outcome.Exception.TheVariants as exceptions
+use Rattle.ash_meaning.specs.declared.refusal.Refusal.{Refusal}
+use Rattle.ash_meaning.specs.declared.refusal.Refusal.TheVariants as refusals
+use Rattle.ash_meaning.specs.Meaning.{End, Finished, Threw, Aborted}
+use Rattle.ash_meaning.specs.State.{Reply, Answered, Value, Number, Refused}
+
+-- what is told of a line: the host's reply, that the run ends, or why it is no request
+pub data Told : Type 0 where
+  Replied : (reply : Reply) → Told
+  Left : Told
+  NoRequest : Told
+  LongLine : Told
+
+abbrev pub word_text : Word → List ℕ
+word_text (Bool true) = codes "true"
+word_text (Bool false) = codes "false"
+word_text (Int number) = signed_decimal number
+word_text (Uint number) = decimal number
+word_text (Int64 number) = signed_decimal number
+word_text (Uint64 number) = decimal number
+word_text Null = codes "null"
+word_text (Object number) = codes "object " ++ decimal number
+
+abbrev pub exception_text : Exception → List ℕ
+exception_text exceptions.NullPointerAccess = codes "NullPointerAccess"
+exception_text exceptions.DivideByZero = codes "DivideByZero"
+exception_text exceptions.DivideOverflow = codes "DivideOverflow"
+exception_text exceptions.StackOverflow = codes "StackOverflow"
+exception_text exceptions.PoolEmpty = codes "PoolEmpty"
+exception_text exceptions.ObjectLimit = codes "ObjectLimit"
+exception_text exceptions.BadHostAnswer = codes "BadHostAnswer"
+exception_text (exceptions.Raised code) = codes "Raised " ++ decimal code
+exception_text exceptions.NumbersSpent = codes "NumbersSpent"
+
+abbrev pub refusal_text : Refusal → List ℕ
+refusal_text refusals.NotYet = codes "199 NotYet"
+refusal_text refusals.NoModule = codes "401 NoModule"
+refusal_text refusals.ModuleTaken = codes "402 ModuleTaken"
+refusal_text refusals.NoFunction = codes "403 NoFunction"
+refusal_text refusals.BadArguments = codes "405 BadArguments"
+refusal_text refusals.NoGlobal = codes "406 NoGlobal"
+refusal_text refusals.TooManyModules = codes "408 TooManyModules"
+refusal_text refusals.BadName = codes "409 BadName"
+refusal_text refusals.SequenceSpent = codes "410 SequenceSpent"
+refusal_text refusals.NoMemory = codes "509 NoMemory"
+
+-- a function of the script and the line that it came to
+abbrev pub place_text : List ℕ → ℕ → List ℕ
+place_text function line = codes " " ++ (function ++ (codes " " ++ decimal line))
+
+abbrev pub finished_text : Option Word → List ℕ
+finished_text None = codes "ok"
+finished_text (Some word) = codes "ok " ++ word_text word
+
+-- how a run ended
+abbrev pub end_text : End → List ℕ
+end_text (Finished value) = finished_text value
+end_text (Threw exception function line) = codes "exception " ++ (exception_text exception ++ place_text function line)
+end_text (Aborted function line) = codes "aborted" ++ place_text function line
+
+-- how many requests have been answered
+abbrev pub seq_text : ℕ → List ℕ
+seq_text seq = codes " seq " ++ decimal seq
+
+abbrev pub reply_text : Reply → List ℕ
+reply_text (Answered end seq) = end_text end ++ seq_text seq
+reply_text (Value word) = codes "ok " ++ word_text word
+reply_text (Number seq) = codes "ok " ++ decimal seq
+reply_text (Refused refusal) = codes "refused " ++ refusal_text refusal
+
+abbrev pub told_text : Told → List ℕ
+told_text (Replied reply) = reply_text reply
+told_text Left = codes "ok"
+told_text NoRequest = codes "refused 601 BadRequest"
+told_text LongLine = codes "refused 602 LineTooLong"
+
+-- a reply is a line
+unfoldable pub reply_line : Told → List ℕ
+reply_line told = told_text told ++ 10 ∷ []
+
+-- replies, one after another
+abbrev pub text_of : List Told → List ℕ
+text_of replies = flat_map reply_line replies

@@ -1,0 +1,30 @@
+//! The request loop: from the bytes of requests to the bytes of replies. It stands on the host of `ash_durable`
+//! and on std's `Read` and `Write`. It promises that what is written is the text of the replies of the defined
+//! run to the requests that the input spells, each sent before the next request is read.
+//!
+//! `source` and `sink` are what the loop needs of both ends; `line`, `words`, `number`, `spelled` and `bytes`
+//! read a request; `request` carries it out; `reply` puts its text; `turn` and `serve` make the loop; `reader`,
+//! `writer` and `run` are that loop over std's traits.
+#![tactic(auto)]
+
+mod bytes;
+pub mod fault;
+mod line;
+mod number;
+pub mod program;
+pub mod reader;
+mod reply;
+mod request;
+pub mod run;
+pub mod serve;
+pub mod sink;
+pub mod source;
+mod spelled;
+mod turn;
+mod words;
+pub mod writer;
+
+pub use fault::RunFault;
+
+#[cfg(test)]
+mod tests;
