@@ -4,13 +4,11 @@
 //! rounds it is cut so many times, and the bytes per second are told.
 #![tactic(auto)]
 
-use std::env;
-use std::io;
-use std::time::Instant;
-
 use anyhow::Result;
 use ash_lex::{MAX_SOURCE, lex};
 use std::alloc::{AllocError, Global};
+use std::time::Instant;
+use std::{env, io};
 
 /// What the source is made of, again and again.
 const LINES: &str = "\
@@ -50,7 +48,10 @@ fn main(rt: HostRuntime) -> Result<()> {
     println!(rt; "{bytes} bytes, {count} tokens")?;
     if let Some(rounds) = rounds {
         let all = u128::from(rounds).wrapping_mul(bytes as u128);
-        let speed = all.wrapping_mul(1_000_000_000).checked_div(nanoseconds).unwrap_or(0);
+        let speed = all
+            .wrapping_mul(1_000_000_000)
+            .checked_div(nanoseconds)
+            .unwrap_or(0);
         println!(rt; "{speed} bytes per second")?;
     }
     Ok(())

@@ -9,10 +9,9 @@ use ash_durable::Host;
 use clap::error::ErrorKind;
 use clap::{Arg, ArgAction, ArgMatches, Command};
 use std::alloc::{AllocError, Global};
-use std::env;
-use std::io;
 use std::process::ExitCode;
 use std::rt::Env;
+use std::{env, io};
 use thiserror::Error;
 
 /// The most counters that the pool may be given.
