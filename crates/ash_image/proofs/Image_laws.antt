@@ -1,0 +1,188 @@
+-- The two laws of an image and of its file: what is read is depicted, and what is depicted is read.
+use Rattle.std.proofs.Common.{◌≡◌, ℕ, zero, suc, ◌^◌, ◌<◌, true, false, ltb, leb, eqb, List, [], ◌++◌, length, get_or, Option, Some, None, refl, sym, ap, subst, ◌∙◌, append_assoc, arith, inl, inr}
+use Rattle.std.specs.Bool.{IsTrue}
+use Rattle.std.specs.Int.{w32, w64, cast_signed, cast_unsigned}
+use Rattle.std.specs.List.{AllByRecursion}
+use Rattle.std.proofs.lemmas.Bool.{ltb-true, leb-true, le-leb}
+use Rattle.std.proofs.lemmas.Int.{of_z-to_z, to_z-of_z}
+use Rattle.std.proofs.Math.Facts.{sfits_to_z, Fits-of_z}
+use Rattle.ash_host.specs.declared.word.Word.{Word}
+use Rattle.ash_host.specs.declared.word.Word.TheVariants as words
+use Rattle.ash_meaning.specs.State.{Script, State}
+use Rattle.ash_meaning.specs.Step.{is_module_name, most_modules}
+use Rattle.ash_image.specs.Fields.{number, text, items, ◌>>=◌, as_at, number_at, whole}
+use Rattle.ash_image.specs.Image.{word, script, image_of, FitsWord, FitsModule, Fits, Depicts, version, open_gate, shut_gate, magic, generation, file_of, FitsFile, IsFile, IsClosed}
+use Rattle.ash_image.specs.ImageReading.{value_at, word_at, name_at, globals_at, module_at, modules_at, image_at, file_at}
+use Rattle.ash_image.proofs.Numbers.{IsBytes}
+use Rattle.ash_image.proofs.Names.{name_short}
+use Rattle.ash_image.proofs.Field_laws.{bind_some, some_is, Takes, Takes-then, IsField, number_field, text_field, checked_field, pair_field, as_field, refit_field, after_number-field, before_number-field, after_bytes-field, items_field, within_field, whole_takes, whole_again}
+
+-- ---- words
+
+-- the bytes behind a tag carry this word
+record Carries (tag : ℕ) (bytes : List ℕ) (x : Word × List ℕ) : Type 0 where
+  value : List ℕ
+  spelled : word x.0 ≡ number 1 tag ++ value
+  taken : Takes bytes value x.1
+  fits : FitsWord x.0
+
+number_value : {fits : ℕ → Type 0} {read : List ℕ → Option (ℕ × List ℕ)} (tag size : ℕ) (to : ℕ → Word) → IsField (number size) fits read
+    → ((n : ℕ) → fits n → (word (to n) ≡ number 1 tag ++ number size n) × FitsWord (to n))
+    → (bytes : List ℕ) (x : Word × List ℕ) → IsBytes bytes → as_at to read bytes ≡ Some x → Carries tag bytes x
+number_value {fits} {read} tag size to field is bytes x ok e =
+    let a = bind_some (read bytes) (λ n. Some (to n.0, n.1)) x e in
+    let t = field.takes bytes a.0 ok a.1 in
+    let made : Word × List ℕ = (to a.0.0, a.0.1) in
+    let p = is a.0.0 t.1 in
+    subst (λ (y : Word × List ℕ). Carries tag bytes y) (some_is made x a.2) (record { value = number size a.0.0; spelled = p.0; taken = t.0; fits = p.1 })
+
+is_flag : (n : ℕ) → (n < 256 ^ 1) × IsTrue (ltb n 2) → (word (words.Bool (eqb n 1)) ≡ number 1 0 ++ number 1 n) × FitsWord (words.Bool (eqb n 1))
+is_flag zero h = (refl, tt)
+is_flag (suc zero) h = (refl, tt)
+is_flag (suc (suc n)) h = absurd (omega (arith, ltb-true (suc (suc n)) 2 h.1))
+
+value_takes : (tag : ℕ) (bytes : List ℕ) (x : Word × List ℕ) → IsBytes bytes → value_at tag bytes ≡ Some x → Carries tag bytes x
+unfolding value_at
+value_takes zero bytes x ok e = number_value 0 1 (λ n. words.Bool (eqb n 1)) (checked_field (λ n. ltb n 2) (number_field 1)) is_flag bytes x ok e
+value_takes (suc zero) bytes x ok e =
+    number_value 1 4 (λ n. words.Int (cast_signed w32 n)) (number_field 4) (λ n lt. (ap (λ (v : ℕ). number 1 1 ++ number 4 v) (of_z-to_z w32 n lt), sfits_to_z {w = w32} {n = n} (record { fits = lt }))) bytes x ok e
+value_takes (suc (suc zero)) bytes x ok e = number_value 2 4 (λ n. words.Uint n) (number_field 4) (λ n lt. (refl, lt)) bytes x ok e
+value_takes (suc (suc (suc zero))) bytes x ok e =
+    number_value 3 8 (λ n. words.Int64 (cast_signed w64 n)) (number_field 8) (λ n lt. (ap (λ (v : ℕ). number 1 3 ++ number 8 v) (of_z-to_z w64 n lt), sfits_to_z {w = w64} {n = n} (record { fits = lt }))) bytes x ok e
+value_takes (suc (suc (suc (suc zero)))) bytes x ok e = number_value 4 8 (λ n. words.Uint64 n) (number_field 8) (λ n lt. (refl, lt)) bytes x ok e
+value_takes (suc (suc (suc (suc (suc zero))))) bytes x ok e =
+    let made : Word × List ℕ = (words.Null, bytes) in
+    subst (λ (y : Word × List ℕ). Carries 5 bytes y) (some_is made x e) (record { value = []; spelled = refl; taken = record { parts = refl; rest_fits = ok }; fits = tt })
+value_takes (suc (suc (suc (suc (suc (suc zero)))))) bytes x ok e = number_value 6 8 (λ n. words.Object n) (number_field 8) (λ n lt. (refl, lt)) bytes x ok e
+value_takes (suc (suc (suc (suc (suc (suc (suc n))))))) bytes x ok e = absurd cc
+
+word_takes : (bytes : List ℕ) (x : Word × List ℕ) → IsBytes bytes → word_at bytes ≡ Some x → Takes bytes (word x.0) x.1 × FitsWord x.0
+unfolding word_at
+word_takes bytes x ok e =
+    let a = bind_some (number_at 1 bytes) (λ tag. value_at tag.0 tag.1) x e in
+    let t = (number_field 1).takes bytes a.0 ok a.1 in
+    let v = value_takes a.0.0 a.0.1 x t.0.rest_fits a.2 in
+    let both = Takes-then bytes (number 1 a.0.0) a.0.1 v.value x.1 t.0 v.taken in
+    (subst (λ (s : List ℕ). Takes bytes s x.1) (sym v.spelled) both, v.fits)
+
+value_again : {fits : ℕ → Type 0} {read : List ℕ → Option (ℕ × List ℕ)} (tag size : ℕ) (to : ℕ → Word) → IsField (number size) fits read → tag < 256 ^ 1
+    → ((bytes : List ℕ) → value_at tag bytes ≡ as_at to read bytes)
+    → (n : ℕ) (rest : List ℕ) → fits n → word_at ((number 1 tag ++ number size n) ++ rest) ≡ Some (to n, rest)
+unfolding word_at
+value_again {fits} {read} tag size to field lt is n rest h =
+    ap word_at (append_assoc (number 1 tag) (number size n) rest)
+    ∙ ap (λ (o : Option (ℕ × List ℕ)). o >>= λ t. value_at t.0 t.1) ((number_field 1).again tag (number size n ++ rest) lt)
+    ∙ is (number size n ++ rest)
+    ∙ ap (λ (o : Option (ℕ × List ℕ)). o >>= λ m. Some (to m.0, m.1)) (field.again n rest h)
+
+word_again : (w : Word) (rest : List ℕ) → FitsWord w → word_at (word w ++ rest) ≡ Some (w, rest)
+unfolding value_at word_at
+word_again (words.Bool true) rest h = value_again 0 1 (λ n. words.Bool (eqb n 1)) (checked_field (λ n. ltb n 2) (number_field 1)) (omega arith) (λ bytes. refl) 1 rest (omega arith, refl)
+word_again (words.Bool false) rest h = value_again 0 1 (λ n. words.Bool (eqb n 1)) (checked_field (λ n. ltb n 2) (number_field 1)) (omega arith) (λ bytes. refl) 0 rest (omega arith, refl)
+word_again (words.Int z) rest h =
+    value_again 1 4 (λ n. words.Int (cast_signed w32 n)) (number_field 4) (omega arith) (λ bytes. refl) (cast_unsigned w32 z) rest (Fits-of_z {w = w32} {z = z} h).fits
+    ∙ ap (λ v. Some (words.Int v, rest)) (to_z-of_z w32 z h)
+word_again (words.Uint n) rest h = value_again 2 4 (λ n. words.Uint n) (number_field 4) (omega arith) (λ bytes. refl) n rest h
+word_again (words.Int64 z) rest h =
+    value_again 3 8 (λ n. words.Int64 (cast_signed w64 n)) (number_field 8) (omega arith) (λ bytes. refl) (cast_unsigned w64 z) rest (Fits-of_z {w = w64} {z = z} h).fits
+    ∙ ap (λ v. Some (words.Int64 v, rest)) (to_z-of_z w64 z h)
+word_again (words.Uint64 n) rest h = value_again 4 8 (λ n. words.Uint64 n) (number_field 8) (omega arith) (λ bytes. refl) n rest h
+word_again words.Null rest h =
+    ap (λ (o : Option (ℕ × List ℕ)). o >>= λ t. value_at t.0 t.1) ((number_field 1).again 5 rest (omega arith))
+word_again (words.Object n) rest h = value_again 6 8 (λ n. words.Object n) (number_field 8) (omega arith) (λ bytes. refl) n rest h
+
+pub word_field : IsField word FitsWord word_at
+word_field = record { takes = word_takes; again = word_again }
+
+-- ---- modules and states
+
+name_field : IsField (text 1) (λ name. (length name < 256 ^ 1) × IsTrue (is_module_name name)) name_at
+unfolding name_at
+name_field = checked_field is_module_name (text_field 1)
+
+globals_field : IsField (items 2 word) (λ globals. (length globals < 256 ^ 2) × AllByRecursion FitsWord globals) globals_at
+unfolding globals_at
+globals_field = items_field 2 (number_field 2) word_field
+
+pub module_field : IsField script FitsModule module_at
+unfolding module_at
+module_field =
+    as_field
+    (pair_field name_field (pair_field (text_field 4) globals_field))
+    (λ (x : List ℕ × (List ℕ × List Word)). record { name = x.0; source = x.1.0; globals = x.1.1 }) (λ (m : Script). (m.name, (m.source, m.globals))) script FitsModule
+    (λ m h. refl)
+    (λ x h. refl)
+    (λ x h. record { sizes = record { name = h.0.1; source = h.1.0; globals = h.1.1.0 }; words = h.1.1.1 })
+    (λ m h. ((omega (arith, name_short m.name h.sizes.name), h.sizes.name), (h.sizes.source, (h.sizes.globals, h.words))))
+
+modules_field : IsField (items 1 script) (λ modules. ((length modules < 256 ^ 1) × IsTrue (leb (length modules) most_modules)) × AllByRecursion FitsModule modules) modules_at
+unfolding modules_at
+modules_field = items_field 1 (checked_field (λ n. leb n most_modules) (number_field 1)) module_field
+
+pub image_field : IsField image_of Fits image_at
+unfolding image_at
+image_field =
+    as_field
+    (after_number-field 2 version (omega arith) (after_number-field 4 0 (omega arith) (pair_field (number_field 8) (after_number-field 8 0 (omega arith) (after_number-field 2 0 (omega arith) (before_number-field 4 0 (omega arith) modules_field))))))
+    (λ (x : ℕ × List Script). record { modules = x.1; seq = x.0 }) (λ (state : State). (state.seq, state.modules)) image_of Fits
+    (λ state h. refl)
+    (λ x h. refl)
+    (λ x h. record { seq = h.0; count = leb-true _ _ h.1.0.1; modules = h.1.1 })
+    (λ state h. (h.seq, ((omega (arith, h.count), le-leb _ _ h.count), h.modules)))
+
+pub file_field : IsField file_of FitsFile file_at
+unfolding file_at
+file_field =
+    refit_field
+    (after_number-field 1 open_gate (omega arith) (after_bytes-field magic (after_number-field 8 generation (omega arith) (before_number-field 1 shut_gate (omega arith) (within_field 4 image_field)))))
+    file_of FitsFile
+    (λ state. refl)
+    (λ state h. record { image = h.0; room = h.1 })
+    (λ state h. (h.image, h.room))
+
+-- ---- what the readers promise
+
+pub is_depicted : (bytes : List ℕ) (state : State) → IsBytes bytes → whole image_at bytes ≡ Some state → Depicts bytes state
+is_depicted bytes state ok e = whole_takes image_field bytes state ok e
+
+pub is_read : (bytes : List ℕ) (state : State) → Depicts bytes state → whole image_at bytes ≡ Some state
+is_read bytes state h = ap (whole image_at) h.1 ∙ whole_again image_field state h.0
+
+pub not_some : {A : Type 0} (x : A) → None ≡ Some x → ⊥
+not_some x e = absurd cc
+
+-- bytes depict one state
+pub depicts_one : (bytes : List ℕ) (a b : State) → Depicts bytes a → Depicts bytes b → a ≡ b
+depicts_one bytes a b h g = some_is a b (sym (is_read bytes a h) ∙ is_read bytes b g)
+
+pub is_file : (bytes : List ℕ) (x : State × List ℕ) → IsBytes bytes → file_at bytes ≡ Some x → IsFile bytes x.0
+is_file bytes x ok e =
+    let t = file_field.takes bytes x ok e in
+    (t.1, x.1, t.0.parts)
+
+pub is_file_read : (bytes : List ℕ) (state : State) (h : IsFile bytes state) → file_at bytes ≡ Some (state, h.1)
+is_file_read bytes state h = ap file_at h.2 ∙ file_field.again state h.1 h.0
+
+-- bytes are the file of one state
+pub file_of_one : (bytes : List ℕ) (a b : State) → IsFile bytes a → IsFile bytes b → a ≡ b
+file_of_one bytes a b h g =
+    let same = some_is (a, h.1) (b, g.1) (sym (is_file_read bytes a h) ∙ is_file_read bytes b g) in
+    ap (λ (x : State × List ℕ). x.0) same
+
+-- a file of a state is open
+pub is_open : (bytes : List ℕ) (state : State) → IsFile bytes state → IsClosed bytes → ⊥
+is_open bytes state h (inl short) = omega (arith, ap length h.2)
+is_open bytes state h (inr other) = other (ap (λ (bs : List ℕ). get_or bs 0 0) h.2)
+
+-- what is read is no other state's file
+pub is_damaged : (bytes : List ℕ) → file_at bytes ≡ None → (state : State) → IsFile bytes state → ⊥
+is_damaged bytes none state h = not_some (state, h.1) (sym none ∙ is_file_read bytes state h)
+
+-- a file that is read is open
+pub is_read_open : (bytes : List ℕ) (x : State × List ℕ) → IsBytes bytes → file_at bytes ≡ Some x → IsClosed bytes → ⊥
+is_read_open bytes x ok e = is_open bytes x.0 (is_file bytes x ok e)
+
+pub only_file : (bytes : List ℕ) (x : State × List ℕ) → file_at bytes ≡ Some x → (state : State) → IsFile bytes state → Some x.0 ≡ Some state
+only_file bytes x e state h =
+    let same = some_is x (state, h.1) (sym e ∙ is_file_read bytes state h) in
+    ap (λ (y : State × List ℕ). Some y.0) same

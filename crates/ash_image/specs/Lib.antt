@@ -1,0 +1,3 @@
+pub mod Fields
+pub mod Image
+pub mod ImageReading

@@ -1,0 +1,167 @@
+// Reading an image and its file.
+
+ghost use Rattle.std.specs.Prelude.{◌≡◌, string_bytes, Some, None, if◌then◌else◌};
+ghost use Rattle.ash_meaning.specs.Step.{is_module_name};
+ghost use Rattle.ash_image.specs.Fields.{Gives, times_at, whole};
+ghost use Rattle.ash_image.specs.Image.{script_of, scripts_of, stored_of};
+ghost use Rattle.ash_image.specs.ImageReading.{file_at, globals_at, image_at, module_at, modules_at, name_at, word_at};
+
+use crate::image::fields::{
+    Unread, front, past, past_u8, past_u16, past_u32, past_u64, u8_at, u16_at, u32_at, u64_at,
+};
+use crate::image::name::is_module_name;
+use crate::image::{
+    GENERATION, LAST_NUMBER, MAGIC, NO_OBJECTS, NO_REGISTRY, NO_SERVICES, OPEN, SHUT, Stored,
+    StoredModule, VERSION,
+};
+use ash_host::Word;
+use std::alloc::Global;
+
+#[tactic(auto, unfolding(crate::specs::ImageReading::word_at, crate::specs::ImageReading::value_at))]
+fn word_of(bytes: &[u8]) -> Result<(Word, &[u8]), Unread>
+    ensures { Gives (λ x. (x.0, x.1.now)) result (word_at bytes.now) }
+{
+    let (tag, rest) = u8_at(bytes)?;
+    match tag {
+        0 => {
+            let (value, rest) = u8_at(rest)?;
+            if value < 2 {
+                Ok((Word::Bool(value == 1), rest))
+            } else {
+                Err(Unread::Damaged)
+            }
+        }
+        1 => {
+            let (value, rest) = u32_at(rest)?;
+            Ok((Word::Int(value.cast_signed()), rest))
+        }
+        2 => {
+            let (value, rest) = u32_at(rest)?;
+            Ok((Word::Uint(value), rest))
+        }
+        3 => {
+            let (value, rest) = u64_at(rest)?;
+            Ok((Word::Int64(value.cast_signed()), rest))
+        }
+        4 => {
+            let (value, rest) = u64_at(rest)?;
+            Ok((Word::Uint64(value), rest))
+        }
+        5 => Ok((Word::Null, rest)),
+        6 => {
+            let (value, rest) = u64_at(rest)?;
+            Ok((Word::Object(value), rest))
+        }
+        _ => Err(Unread::Damaged),
+    }
+}
+
+/// The bytes as a module's name.
+fn as_name(alloc: Global, bytes: &[u8]) -> Result<String, Unread>
+    ensures { Gives (λ name. string_bytes name) result (if is_module_name bytes.now then Some bytes.now else None) }
+{
+    if !is_module_name(bytes) {
+        return Err(Unread::Damaged);
+    }
+    let Ok(name) = str::from_utf8(bytes) else {
+        return Err(Unread::Damaged);
+    };
+    Ok(String::from_str(alloc, name)?)
+}
+
+#[tactic(auto, unfolding(crate::specs::ImageReading::name_at))]
+fn name_of(alloc: Global, bytes: &[u8]) -> Result<(String, &[u8]), Unread>
+    ensures { Gives (λ x. (string_bytes x.0, x.1.now)) result (name_at bytes.now) }
+{
+    let (length, rest) = u8_at(bytes)?;
+    let (name, rest) = front(rest, length as usize)?;
+    let name = as_name(alloc, name)?;
+    Ok((name, rest))
+}
+
+fn words_of(alloc: Global, count: u16, bytes: &[u8]) -> Result<(Vec<Word>, &[u8]), Unread>
+    ensures { Gives (λ x. (x.0.items, x.1.now)) result (times_at word_at count bytes.now) }
+{
+    let mut words = Vec::new(alloc);
+    let mut rest = bytes;
+    for _ in 0..count {
+        let (word, after) = word_of(rest)?;
+        words.push(word)?;
+        rest = after;
+    }
+    Ok((words, rest))
+}
+
+#[tactic(auto, unfolding(crate::specs::ImageReading::module_at, crate::specs::ImageReading::globals_at))]
+fn module_of(alloc: Global, bytes: &[u8]) -> Result<(StoredModule, &[u8]), Unread>
+    ensures { Gives (λ x. (script_of x.0, x.1.now)) result (module_at bytes.now) }
+{
+    let (name, rest) = name_of(alloc, bytes)?;
+    let (length, rest) = u32_at(rest)?;
+    let (source, rest) = front(rest, length as usize)?;
+    let (count, rest) = u16_at(rest)?;
+    let (globals, rest) = words_of(alloc, count, rest)?;
+    let source = Vec::from_slice(alloc, source)?;
+    let module = StoredModule {
+        name,
+        source,
+        globals,
+    };
+    Ok((module, rest))
+}
+
+#[tactic(auto, unfolding(crate::specs::ImageReading::modules_at, crate::specs::Fields::times_at))]
+fn modules_of(alloc: Global, bytes: &[u8]) -> Result<(Option<StoredModule>, &[u8]), Unread>
+    ensures { Gives (λ x. (scripts_of x.0, x.1.now)) result (modules_at bytes.now) }
+{
+    let (count, rest) = u8_at(bytes)?;
+    match count {
+        0 => Ok((None, rest)),
+        1 => {
+            let (module, rest) = module_of(alloc, rest)?;
+            Ok((Some(module), rest))
+        }
+        _ => Err(Unread::Damaged),
+    }
+}
+
+#[tactic(auto, unfolding(crate::specs::ImageReading::image_at))]
+fn image_of(alloc: Global, bytes: &[u8]) -> Result<(Stored, &[u8]), Unread>
+    ensures { Gives (λ x. (stored_of x.0, x.1.now)) result (image_at bytes.now) }
+{
+    let rest = past_u16(bytes, VERSION)?;
+    let rest = past_u32(rest, NO_REGISTRY)?;
+    let (seq, rest) = u64_at(rest)?;
+    let rest = past_u64(rest, LAST_NUMBER)?;
+    let rest = past_u16(rest, NO_SERVICES)?;
+    let (module, rest) = modules_of(alloc, rest)?;
+    let rest = past_u32(rest, NO_OBJECTS)?;
+    Ok((Stored { seq, module }, rest))
+}
+
+/// The state that the bytes depict, all of the bytes.
+pub fn whole_image(alloc: Global, bytes: &[u8]) -> Result<Stored, Unread>
+    ensures { Gives (λ s. stored_of s) result (whole image_at bytes.now) }
+{
+    let (stored, rest) = image_of(alloc, bytes)?;
+    if rest.is_empty() {
+        Ok(stored)
+    } else {
+        Err(Unread::Damaged)
+    }
+}
+
+/// The state whose file stands at the front of the bytes, and what is behind it.
+#[tactic(auto, unfolding(crate::specs::ImageReading::file_at))]
+pub fn file_of(alloc: Global, bytes: &[u8]) -> Result<(Stored, &[u8]), Unread>
+    ensures { Gives (λ x. (stored_of x.0, x.1.now)) result (file_at bytes.now) }
+{
+    let rest = past_u8(bytes, OPEN)?;
+    let rest = past(rest, MAGIC)?;
+    let rest = past_u64(rest, GENERATION)?;
+    let (length, rest) = u32_at(rest)?;
+    let (image, rest) = front(rest, length as usize)?;
+    let stored = whole_image(alloc, image)?;
+    let rest = past_u8(rest, SHUT)?;
+    Ok((stored, rest))
+}

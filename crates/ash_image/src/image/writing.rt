@@ -1,0 +1,176 @@
+// Writing the file of a state.
+
+ghost use Rattle.std.specs.Prelude.{◌≡◌, ◌<◌, ◌≤◌, ◌^◌, ◌*◌, ◌++◌, ℕ, length, OnOk, IfSome};
+ghost use Rattle.std.specs.List.{flat_map, AllByRecursion};
+ghost use Rattle.ash_image.specs.Fields.{items, number};
+ghost use Rattle.ash_image.specs.Image.{Fits, FitsModule, FitsWord, HasSizes, image_of, script, script_in, scripts_in, state_in, word};
+
+use crate::image::{LAST_NUMBER, ModuleParts, NO_OBJECTS, NO_REGISTRY, NO_SERVICES, VERSION};
+use ash_host::Word;
+use byteorder::{ByteOrder, LittleEndian};
+use std::alloc::AllocError;
+
+pub fn put_u8(out: &mut Vec<u8>, value: u8) -> Result<(), AllocError>
+    ensures { OnOk result (out.new.items ≡ out.old.items ++ number 1 value) }
+{
+    out.push(value)?;
+    Ok(())
+}
+
+fn put_u16(out: &mut Vec<u8>, value: u16) -> Result<(), AllocError>
+    ensures { OnOk result (out.new.items ≡ out.old.items ++ number 2 value) }
+{
+    let mut bytes = [0; 2];
+    LittleEndian::write_u16(&mut bytes, value);
+    out.extend_from_slice(&bytes)
+}
+
+pub fn put_u32(out: &mut Vec<u8>, value: u32) -> Result<(), AllocError>
+    ensures { OnOk result (out.new.items ≡ out.old.items ++ number 4 value) }
+{
+    let mut bytes = [0; 4];
+    LittleEndian::write_u32(&mut bytes, value);
+    out.extend_from_slice(&bytes)
+}
+
+pub fn put_u64(out: &mut Vec<u8>, value: u64) -> Result<(), AllocError>
+    ensures { OnOk result (out.new.items ≡ out.old.items ++ number 8 value) }
+{
+    let mut bytes = [0; 8];
+    LittleEndian::write_u64(&mut bytes, value);
+    out.extend_from_slice(&bytes)
+}
+
+fn put_word(out: &mut Vec<u8>, value: Word) -> Result<(), AllocError>
+    ensures written { OnOk result (out.new.items ≡ out.old.items ++ word value) }
+    ensures fits { OnOk result (FitsWord value) }
+{
+    match value {
+        Word::Bool(truth) => {
+            put_u8(out, 0)?;
+            put_u8(out, u8::from(truth))
+        }
+        Word::Int(number) => {
+            put_u8(out, 1)?;
+            put_u32(out, number.cast_unsigned())
+        }
+        Word::Uint(number) => {
+            put_u8(out, 2)?;
+            put_u32(out, number)
+        }
+        Word::Int64(number) => {
+            put_u8(out, 3)?;
+            put_u64(out, number.cast_unsigned())
+        }
+        Word::Uint64(number) => {
+            put_u8(out, 4)?;
+            put_u64(out, number)
+        }
+        Word::Null => put_u8(out, 5),
+        Word::Object(number) => {
+            put_u8(out, 6)?;
+            put_u64(out, number)
+        }
+    }
+}
+
+fn put_words(out: &mut Vec<u8>, words: &[Word]) -> Result<(), AllocError>
+    ensures written { OnOk result (out.new.items ≡ out.old.items ++ flat_map word words.now) }
+    ensures fits { OnOk result (AllByRecursion FitsWord words.now) }
+{
+    for word in words {
+        put_word(out, *word)?;
+    }
+    Ok(())
+}
+
+fn put_module(out: &mut Vec<u8>, parts: ModuleParts<'_>) -> Result<(), AllocError>
+    requires { HasSizes (script_in parts) }
+    ensures written { OnOk result (out.new.items ≡ out.old.items ++ script (script_in parts.entry)) }
+    ensures fits { OnOk result (FitsModule (script_in parts.entry)) }
+{
+    put_u8(out, parts.name.len() as u8)?;
+    out.extend_from_slice(parts.name.as_bytes())?;
+    put_u32(out, parts.source.len() as u32)?;
+    out.extend_from_slice(parts.source)?;
+    put_u16(out, parts.globals.len() as u16)?;
+    put_words(out, parts.globals)
+}
+
+fn put_modules(out: &mut Vec<u8>, parts: Option<ModuleParts<'_>>) -> Result<(), AllocError>
+    requires { IfSome parts (λ m. HasSizes (script_in m)) }
+    ensures written { OnOk result (out.new.items ≡ out.old.items ++ items 1 script (scripts_in parts.entry)) }
+    ensures fits { OnOk result (AllByRecursion FitsModule (scripts_in parts.entry)) }
+{
+    match parts {
+        None => put_u8(out, 0),
+        Some(parts) => {
+            put_u8(out, 1)?;
+            put_module(out, parts)
+        }
+    }
+}
+
+/// Writes the image of a state.
+pub fn put_image(
+    out: &mut Vec<u8>,
+    parts: Option<ModuleParts<'_>>,
+    seq: u64,
+) -> Result<(), AllocError>
+    requires { IfSome parts (λ m. HasSizes (script_in m)) }
+    ensures written { OnOk result (out.new.items ≡ out.old.items ++ image_of (state_in parts.entry seq)) }
+    ensures fits { OnOk result (Fits (state_in parts.entry seq)) }
+{
+    put_u16(out, VERSION)?;
+    put_u32(out, NO_REGISTRY)?;
+    put_u64(out, seq)?;
+    put_u64(out, LAST_NUMBER)?;
+    put_u16(out, NO_SERVICES)?;
+    put_modules(out, parts)?;
+    put_u32(out, NO_OBJECTS)
+}
+
+fn word_length(value: Word) -> usize
+    ensures exact { result ≡ length (word value) }
+    ensures most { result ≤ 9 }
+{
+    match value {
+        Word::Null => 1,
+        Word::Bool(_) => 2,
+        Word::Int(_) | Word::Uint(_) => 5,
+        Word::Int64(_) | Word::Uint64(_) | Word::Object(_) => 9,
+    }
+}
+
+fn words_length(words: &[Word]) -> usize
+    requires { length words.now < 2 ^ 16 }
+    ensures exact { result ≡ length (flat_map word words.now) }
+    ensures most { result ≤ 9 * 2 ^ 16 }
+{
+    let mut total = 0;
+    for word in words {
+        total += word_length(*word);
+    }
+    total
+}
+
+fn module_length(parts: ModuleParts<'_>) -> usize
+    requires { HasSizes (script_in parts) }
+    ensures exact { result ≡ length (script (script_in parts.entry)) }
+    ensures most { result < 2 ^ 33 }
+{
+    1 + parts.name.len() + 4 + parts.source.len() + 2 + words_length(parts.globals)
+}
+
+/// How long the image of a state is, whatever its sequence number.
+pub fn image_length(parts: Option<ModuleParts<'_>>) -> usize
+    requires { IfSome parts (λ m. HasSizes (script_in m)) }
+    ensures exact { (seq : ℕ) → result ≡ length (image_of (state_in parts.entry seq)) }
+    ensures most { result < 2 ^ 34 }
+{
+    let fixed = 2 + 4 + 8 + 8 + 2 + 1 + 4;
+    match parts {
+        None => fixed,
+        Some(parts) => fixed + module_length(parts),
+    }
+}
