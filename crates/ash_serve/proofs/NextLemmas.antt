@@ -1,10 +1,9 @@
 -- What bytes spell, as they are read.
-use Rattle.std.proofs.Common.{◌≡◌, ◌<◌, ◌≤◌, ℕ, ◌+◌, ◌-◌, ◌==◌, nat_lt, not, Bool, true, false, List, [], ◌∷◌, ◌++◌, length, take, drop, refl, sym, ap, ◌∙◌, subst, arith, append_assoc, length-append, Option, Some, None, option_map, if◌then◌else◌}
-use Rattle.std.proofs.lemmas.List.{append-nil}
+use Rattle.std.proofs.Common.{◌≡◌, ◌<◌, ◌≤◌, ℕ, ◌==◌, nat_lt, true, false, List, [], ◌∷◌, ◌++◌, length, take, drop, refl, ap, ◌∙◌, subst, arith, append_assoc, Some, None}
 use Rattle.std.proofs.lemmas.Grind.{common_steps}
 use Rattle.std.proofs.lemmas.Bool.Decides.{nat_tests}
 use Rattle.ash_serve.specs.Reading.{is_line}
-use Rattle.ash_serve.specs.Lines.{Line, Asked, BadRequest, LineTooLong, cut_line, spelling, Spelling, Says, Loads, Next, End, Cut, Whole, next, on_line, after_line, after_source, is_unfinished}
+use Rattle.ash_serve.specs.Lines.{Line, Asked, BadRequest, LineTooLong, cut_line, spelling, Says, Loads, Cut, Whole, next, on_line, after_line, after_source, is_unfinished}
 use Rattle.ash_meaning.specs.State.{Load}
 use Rattle.ash_serve.specs.Serving.{Spells}
 

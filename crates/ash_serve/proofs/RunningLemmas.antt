@@ -1,15 +1,15 @@
 -- A run over a reader and a writer, from the run over their source and sink.
-use Rattle.std.proofs.Common.{◌≡◌, ◌≤◌, ℕ, ◌+◌, ◌^◌, true, List, [], ◌∷◌, ◌++◌, length, refl, sym, ap, ◌∙◌, subst, arith, append_assoc, length-append, Option, Some, None, Ok, Err, Result, inl, inr, ⊎_elim, ◌⊎◌}
+use Rattle.std.proofs.Common.{◌≡◌, ℕ, ◌^◌, List, [], ◌∷◌, ◌++◌, refl, sym, ap, ◌∙◌, subst, arith, append_assoc, Option, Some, None, Ok, Err, Result, inl, inr, ⊎_elim, ◌⊎◌}
 use Rattle.std.proofs.lemmas.List.{append-nil}
 use Rattle.std.specs.Io.KnownBytes.{Appends, Keeps, Consumes, IsAtEnd}
 use Rattle.ash_meaning.specs.State.{State}
-use Rattle.ash_serve.specs.Lines.{Line, Quit, Asks}
-use Rattle.ash_serve.specs.Replies.{Told, Left, reply_line, text_of}
-use Rattle.ash_serve.specs.Sink.{Sent, Stops}
-use Rattle.ash_serve.specs.Serving.{Log, Serves, Served, IsOver, AnswersAll}
+use Rattle.ash_serve.specs.Lines.{Quit, Asks}
+use Rattle.ash_serve.specs.Replies.{Left, reply_line, text_of}
+use Rattle.ash_serve.specs.Sink.{Sent}
+use Rattle.ash_serve.specs.Serving.{Log, Serves, Served, IsOver}
 use Rattle.ash_serve.specs.Running.{Run, RunEnds, ReadsFrom, ReadsAll, EndsWithQuit}
 use Rattle.ash_serve.specs.Reader.{left_of, allowance_of, reader_feed, reader_is_feed}
-use Rattle.ash_serve.specs.Writer.{writer_outlet, writer_is_outlet, appends-nothing, appends-onward}
+use Rattle.ash_serve.specs.Writer.{writer_outlet, writer_is_outlet, appends-onward}
 use Rattle.ash_serve.specs.declared.reader.Reader.{Reader}
 use Rattle.ash_serve.specs.declared.writer.Writer.{Writer}
 use Rattle.ash_serve.specs.declared.fault.RunFault.{RunFault}

@@ -1,12 +1,11 @@
 -- A run, turn by turn.
-use Rattle.std.proofs.Common.{◌≡◌, ◌<◌, ◌≤◌, ℕ, ◌+◌, Bool, true, false, List, [], ◌∷◌, ◌++◌, length, refl, sym, ap, ◌∙◌, subst, arith, append_assoc, length-append, Option, Some, None, Ok, Err, Result, inl, inr}
+use Rattle.std.proofs.Common.{◌≡◌, ◌<◌, ℕ, true, false, List, [], ◌∷◌, ◌++◌, length, refl, sym, ap, ◌∙◌, subst, arith, append_assoc, Some, None, Ok, Err, Result}
 use Rattle.std.proofs.lemmas.List.{append-nil}
-use Rattle.std.specs.List.{flat_map}
 use Rattle.ash_meaning.specs.State.{State}
 use Rattle.ash_serve.specs.Source.{Feed, IsFeed}
 use Rattle.ash_serve.specs.Sink.{Outlet, IsOutlet, Sent, Stops}
-use Rattle.ash_serve.specs.Lines.{Line, Asked, Quit, BadRequest, LineTooLong, Whole, Next, next, Asks, is_unfinished}
-use Rattle.ash_serve.specs.Replies.{Told, Replied, Left, NoRequest, LongLine, reply_line, text_of}
+use Rattle.ash_serve.specs.Lines.{Line, Asked, Quit, BadRequest, LineTooLong, Whole, next, Asks, is_unfinished}
+use Rattle.ash_serve.specs.Replies.{Told, Left, NoRequest, LongLine, reply_line, text_of}
 use Rattle.ash_serve.specs.Serving.{Taken, Turns, Served, Answers, AnswersAll, Spells, Log, Serves, Ends, told_of, turn_after}
 use Rattle.ash_serve.specs.declared.fault.RunFault.{RunFault}
 use Rattle.ash_serve.specs.declared.fault.RunFault.TheVariants as faults

@@ -1,10 +1,10 @@
 -- Bytes that are put one after another.
-use Rattle.std.proofs.Common.{◌≡◌, ℕ, ◌+◌, ◌<◌, ◌≤◌, List, [], ◌∷◌, ◌++◌, length, drop, get_or, refl, sym, ap, ◌∙◌, subst, arith, Ok, Err, Result, append_assoc, add-one, drop-cons}
+use Rattle.std.proofs.Common.{◌≡◌, ℕ, ◌+◌, ◌<◌, ◌≤◌, List, [], ◌++◌, length, drop, get_or, refl, sym, ap, ◌∙◌, subst, arith, Ok, Err, Result, append_assoc, add-one, drop-cons}
 use Rattle.std.proofs.lemmas.List.{append-nil}
 use Rattle.std.proofs.lemmas.Grind.{common_steps}
 use Rattle.std.specs.Borrow.{Bor}
 use Rattle.std.specs.List.{flat_map}
-use Rattle.ash_serve.specs.Sink.{Outlet, IsOutlet, Holds, Stops, Sent, Puts, Flushes, Says}
+use Rattle.ash_serve.specs.Sink.{Outlet, IsOutlet, Holds, Stops, Puts, Flushes, Says}
 use Rattle.ash_serve.specs.declared.sink.WriteFault.{WriteFault}
 
 -- nothing was put

@@ -1,9 +1,8 @@
 -- Bytes that are read one after another.
-use Rattle.std.proofs.Common.{◌≡◌, ◌<◌, ℕ, ◌+◌, ◌==◌, ◌&&◌, not, Bool, true, false, List, [], ◌∷◌, ◌++◌, length, refl, sym, ap, subst, arith, Ok, Err, Some, None, Option, Result, length-append, append_assoc}
+use Rattle.std.proofs.Common.{◌≡◌, ◌<◌, ℕ, ◌==◌, not, true, List, [], ◌∷◌, ◌++◌, length, refl, sym, subst, arith, Ok, Err, Some, None, Option, Result, length-append, append_assoc}
 use Rattle.std.proofs.lemmas.List.{append-nil}
 use Rattle.std.proofs.lemmas.List.Folds.{list_all-append}
 use Rattle.std.proofs.lemmas.Grind.{common_steps}
-use Rattle.std.specs.List.{list_all}
 use Rattle.ash_serve.specs.Source.{Feed, IsFeed, Faults, Gives}
 use Rattle.ash_serve.specs.Reading.{is_line, Within, Through, FaultsWithin, Skips, IsLong, ReadsLine}
 use Rattle.ash_serve.specs.declared.line.Skipped.{Skipped}

@@ -1,5 +1,5 @@
 -- What taking a request did, by what was read.
-use Rattle.std.proofs.Common.{◌≡◌, ◌<◌, ◌≤◌, ℕ, ◌+◌, nat_lt, Bool, true, false, List, [], ◌∷◌, ◌++◌, length, take, refl, sym, ap, ◌∙◌, subst, arith, append_assoc, length-append, Option, Some, None, Ok, Err, Result, ◌⊎◌}
+use Rattle.std.proofs.Common.{◌≡◌, ◌<◌, ◌≤◌, ℕ, nat_lt, Bool, true, false, List, [], ◌∷◌, ◌++◌, length, take, refl, sym, ap, ◌∙◌, subst, arith, Some, None, Ok, Err, ◌⊎◌}
 use Rattle.std.proofs.lemmas.Bool.Decides.{nat_tests}
 use Rattle.std.proofs.lemmas.Grind.{common_steps}
 use Rattle.ash_meaning.specs.State.{State, Load, Reply, Refused, reply_of}
@@ -9,10 +9,9 @@ use Rattle.ash_meaning.specs.small.Reading.{read_module}
 use Rattle.ash_meaning.proofs.Modules.{read_module-long}
 use Rattle.ash_meaning.specs.declared.request.Reply as reply
 use Rattle.ash_serve.specs.Source.{Feed, IsFeed, Faults}
-use Rattle.ash_serve.specs.Reading.{is_line, Within, Through, FaultsWithin, kept_part}
-use Rattle.ash_serve.specs.Lines.{Line, Asked, BadRequest, LineTooLong, spelling, Says, Loads, Cut, next, is_unfinished}
-use Rattle.ash_serve.specs.Replies.{Told}
-use Rattle.ash_serve.specs.Serving.{Taken, Served, Answers, Spells, told_of, fault_of}
+use Rattle.ash_serve.specs.Reading.{Within, Through, FaultsWithin, kept_part}
+use Rattle.ash_serve.specs.Lines.{Line, Asked, BadRequest, LineTooLong, spelling, Says, Loads, next, is_unfinished}
+use Rattle.ash_serve.specs.Serving.{Taken, Answers, told_of, fault_of}
 use Rattle.ash_serve.specs.declared.source.ReadFault.{ReadFault}
 use Rattle.ash_serve.specs.declared.source.ReadFault.TheVariants.{TooLong, Failed}
 use Rattle.ash_serve.specs.declared.fault.RunFault.{RunFault}

@@ -1,5 +1,5 @@
 -- A run over a reader and a writer, told by bytes alone, where those of the reader and the writer are known.
-use Rattle.std.specs.Prelude.{◌≡◌, ◌≤◌, ◌⊎◌, ℕ, ◌^◌, true, List, [], ◌∷◌, ◌++◌, length, Option, Some, None, Result, Ok, Err, IfSome}
+use Rattle.std.specs.Prelude.{◌≡◌, ◌≤◌, ◌⊎◌, ℕ, ◌^◌, true, List, [], ◌∷◌, ◌++◌, length, Option, Result, Ok, Err, IfSome}
 use Rattle.std.specs.Io.KnownBytes.{Appends, Keeps}
 use Rattle.ash_meaning.specs.State.{State}
 use Rattle.ash_serve.specs.Lines.{Line, Quit, Cut, next, Asks, is_unfinished}

@@ -1,5 +1,5 @@
 -- A run: requests are read, carried out and answered, one after another.
-use Rattle.std.specs.Prelude.{◌≡◌, ◌≢◌, ◌⊎◌, ℕ, Bool, true, List, [], ◌∷◌, ◌++◌, Result, Ok, Err, Option, Some, None}
+use Rattle.std.specs.Prelude.{◌≡◌, ◌⊎◌, ℕ, true, List, [], ◌∷◌, ◌++◌, Result, Ok, Err, Option, Some, None}
 use Rattle.ash_meaning.specs.State.{State}
 use Rattle.ash_meaning.specs.Step.{Steps}
 use Rattle.ash_serve.specs.Source.{Feed, Faults}

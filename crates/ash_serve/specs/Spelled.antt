@@ -1,5 +1,5 @@
 -- What the code's reading of a line stands for.
-use Rattle.std.specs.Prelude.{◌≡◌, ℕ, Bool, true, false, List, [], ◌∷◌, ◌++◌, Option, Some, None, option_map}
+use Rattle.std.specs.Prelude.{ℕ, List, [], ◌∷◌, ◌++◌, Option, option_map}
 use Rattle.ash_meaning.specs.declared.request.Argument.{Argument}
 use Rattle.ash_meaning.specs.State.{Call, Global, Seq}
 use Rattle.ash_serve.specs.Lines.{Asked, Quit, BadRequest, Spelling, Says, Loads}

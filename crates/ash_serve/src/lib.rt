@@ -12,7 +12,7 @@ pub mod fault;
 mod line;
 mod number;
 pub mod program;
-pub mod reader;
+mod reader;
 mod reply;
 mod request;
 pub mod run;
@@ -22,7 +22,7 @@ pub mod source;
 mod spelled;
 mod turn;
 mod words;
-pub mod writer;
+mod writer;
 
 pub use fault::RunFault;
 

@@ -1,6 +1,4 @@
-use Rattle.std.proofs.Common.{◌≡◌, ◌<◌, ◌≤◌, ◌+◌, List, ℕ, refl, sym, ap, ◌∙◌, arith, [], ◌∷◌, ◌++◌, length, length-append, vec_len}
-use Rattle.std.proofs.lemmas.Grind.{common_steps}
-use Rattle.ash_serve.specs.Reading.{kept_part}
+use Rattle.std.proofs.Common.{refl, arith, [], ◌∷◌, ◌++◌, length-append}
 use Rattle.ash_serve.proofs.SourceLemmas.{gives_end, gives_byte, takes_then, faults_then}
 use Rattle.ash_serve.proofs.KeptLemmas.{kept-more, kept-nil}
 use Rattle.ash_serve.proofs.bytes.read_bytes.Goals as goal

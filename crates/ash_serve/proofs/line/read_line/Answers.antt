@@ -1,7 +1,7 @@
-use Rattle.std.proofs.Common.{◌≡◌, ◌<◌, ◌≤◌, List, ℕ, true, false, refl, arith, [], ◌∷◌, ◌++◌, length, length-append, rules, subst, sym, vec_len, vec_capacity}
+use Rattle.std.proofs.Common.{◌≡◌, List, ℕ, arith, [], ◌∷◌, length-append, subst, sym}
 use Rattle.std.proofs.lemmas.Grind.{common_steps}
-use Rattle.ash_serve.specs.Reading.{Through, Within, ReadsLine}
-use Rattle.ash_serve.proofs.SourceLemmas.{gives_end, gives_byte, within-push, within-through, within-end, within-fault, within-nil, within-none, long_line, takes_then}
+use Rattle.ash_serve.specs.Reading.{Within}
+use Rattle.ash_serve.proofs.SourceLemmas.{gives_end, gives_byte, within-push, within-end, within-fault, within-nil, within-none, long_line}
 use Rattle.ash_serve.proofs.line.read_line.Goals as goal
 
 pub bytes-init : goal.bytes-init

@@ -1,4 +1,4 @@
-use Rattle.std.proofs.Common.{◌≤◌, length, vec_capacity, List, ℕ}
+use Rattle.std.proofs.Common.{◌≤◌, length, vec_capacity}
 use Rattle.ash_serve.specs.Reading.{Within}
 use Rattle.ash_serve.proofs.line.read_line.Given as goal
 

@@ -1,5 +1,4 @@
-use Rattle.std.proofs.Common.{◌≡◌, List, ℕ, true, false, refl, arith, [], ◌∷◌, ◌++◌, length, length-append, rules, subst}
-use Rattle.ash_serve.specs.Reading.{Through, Within, HasSkipped}
+use Rattle.std.proofs.Common.{◌≡◌, refl, arith, [], ◌∷◌, ◌++◌, length-append}
 use Rattle.ash_serve.proofs.SourceLemmas.{gives_end, gives_byte, within-push, within-through, within-end, within-fault, through-none, is_line-nil}
 use Rattle.ash_serve.proofs.line.skip_line.Goals as goal
 

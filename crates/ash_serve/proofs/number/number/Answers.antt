@@ -1,4 +1,4 @@
-use Rattle.std.proofs.Common.{◌≡◌, ◌<◌, ◌≤◌, ◌+◌, ◌*◌, ◌-◌, ℕ, List, length, get_or, refl, sym, ◌∙◌, true, false, arith, rules}
+use Rattle.std.proofs.Common.{◌≡◌, get_or, sym, ◌∙◌, true, arith, rules}
 use Rattle.ash_serve.specs.Lines.{number_of, is_number}
 use Rattle.ash_serve.proofs.NumberLemmas.{number-parts, digit-at, below-step, value-step, value-end, tens-most, some_number}
 use Rattle.ash_serve.proofs.number.number.Goals as goal

@@ -1,4 +1,4 @@
-use Rattle.std.proofs.Common.{◌≡◌, arith, refl, rules}
+use Rattle.std.proofs.Common.{refl, rules}
 use Rattle.ash_serve.proofs.ReaderLemmas.{came_end, came_byte}
 use Rattle.ash_serve.proofs.reader.read_byte.Goals as goal
 

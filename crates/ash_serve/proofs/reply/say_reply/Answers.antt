@@ -1,11 +1,7 @@
-use Rattle.std.proofs.Common.{◌≡◌, ◌∷◌, [], ◌++◌, List, ℕ, codes, refl, sym, ap, ◌∙◌, subst, length, drop, append_assoc}
-use Rattle.std.proofs.lemmas.List.{append-nil}
-use Rattle.std.specs.Borrow.{Bor}
-use Rattle.std.specs.List.{flat_map}
-use Rattle.ash_meaning.specs.State.{reply_of, end_of}
-use Rattle.ash_serve.specs.Sink.{Holds, Stops, Puts, Says}
-use Rattle.ash_serve.specs.Replies.{word_text, exception_text, refusal_text, place_text, end_text, reply_text, seq_text}
-use Rattle.ash_serve.proofs.SinkLemmas.{holds-nil, holds-then, stops-more, holds-stops, puts-then, says-then, holds-sent, left-piece, left-none}
+use Rattle.std.proofs.Common.{◌∷◌, []}
+use Rattle.ash_meaning.specs.State.{reply_of}
+use Rattle.ash_serve.specs.Replies.{reply_text}
+use Rattle.ash_serve.proofs.SinkLemmas.{stops-more, says-then}
 use Rattle.ash_serve.proofs.reply.say_reply.Goals as goal
 
 pub returns-in-Err : goal.returns-in-Err

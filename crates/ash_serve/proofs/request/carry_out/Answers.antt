@@ -1,4 +1,4 @@
-use Rattle.std.proofs.Common.{◌≡◌, sym, refl}
+use Rattle.std.proofs.Common.{sym, refl}
 use Rattle.ash_meaning.specs.State.{Call, Global, Seq}
 use Rattle.ash_serve.specs.Lines.{Asked, Quit, BadRequest}
 use Rattle.ash_serve.specs.declared.request.Told.TheVariants as tolds

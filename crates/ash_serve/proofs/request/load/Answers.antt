@@ -1,4 +1,3 @@
-use Rattle.std.proofs.Common.{◌≡◌}
 use Rattle.ash_serve.proofs.TakenLemmas.{load_fault, load_cut, load_line_fault, load_line_cut, load_bad, load_good}
 use Rattle.ash_serve.proofs.request.load.Goals as goal
 

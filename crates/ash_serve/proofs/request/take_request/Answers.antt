@@ -1,4 +1,3 @@
-use Rattle.std.proofs.Common.{◌≡◌, sym, refl}
 use Rattle.ash_serve.proofs.TakenLemmas.{line_fault, line_cut, line_long}
 use Rattle.ash_serve.proofs.request.take_request.Goals as goal
 

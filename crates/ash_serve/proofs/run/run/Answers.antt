@@ -1,4 +1,4 @@
-use Rattle.std.proofs.Common.{◌≡◌, refl, rules, ap}
+use Rattle.std.proofs.Common.{rules, ap}
 use Rattle.ash_serve.proofs.RunningLemmas.{run_writes}
 use Rattle.ash_serve.proofs.run.run.Goals as goal
 

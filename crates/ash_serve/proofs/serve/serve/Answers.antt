@@ -1,4 +1,4 @@
-use Rattle.std.proofs.Common.{inl, inr, refl, arith}
+use Rattle.std.proofs.Common.{inl, inr}
 use Rattle.ash_serve.proofs.ServingLemmas.{log-nil, log-more, served-falls, serves_fault}
 use Rattle.ash_serve.proofs.serve.serve.Goals as goal
 

@@ -1,5 +1,4 @@
-use Rattle.std.proofs.Common.{◌≡◌, ◌∙◌, ◌∷◌, [], List, ◌++◌, length, sym, subst, arith, length-append, Option, Some, ap}
-use Rattle.std.proofs.lemmas.Grind.{common_steps}
+use Rattle.std.proofs.Common.{◌∙◌, ◌∷◌, [], List, length, sym, arith, length-append, ap}
 use Rattle.ash_meaning.specs.declared.request.Argument.{Argument}
 use Rattle.ash_serve.specs.Lines.{arguments_of}
 use Rattle.ash_serve.specs.Words.{words_left}

@@ -1,4 +1,4 @@
-use Rattle.std.proofs.Common.{◌≡◌, ◌∙◌, List, length, sym, ap, arith, refl, true, false}
+use Rattle.std.proofs.Common.{◌≡◌, ◌∙◌, length, sym, ap, arith, true, false}
 use Rattle.ash_serve.proofs.WordLemmas.{spelling-bad, spelling-good, length-pieces, pieces-left}
 use Rattle.ash_serve.specs.Words.{is_none_left}
 use Rattle.ash_serve.proofs.spelled.read_words.Goals as goal

@@ -1,4 +1,4 @@
-use Rattle.std.proofs.Common.{◌≡◌, ◌≤◌, ◌-◌, arith, rules, refl, take, drop, length}
+use Rattle.std.proofs.Common.{arith}
 use Rattle.ash_serve.proofs.WriterLemmas.{wrote_nothing, wrote_more, wrote_failed, slice_rest, slice_length}
 use Rattle.ash_serve.proofs.writer.write_out.Goals as goal
 use Rattle.ash_serve.proofs.writer.write_out.Goals.{in-Ok, in-Err+else-ne}

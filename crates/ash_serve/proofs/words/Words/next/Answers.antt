@@ -1,4 +1,4 @@
-use Rattle.std.proofs.Common.{◌≡◌, ◌<◌, ◌≤◌, ℕ, ◌+◌, ◌==◌, List, [], ◌∷◌, length, take, drop, arith, refl, sym, ◌∙◌, ap, Some, None}
+use Rattle.std.proofs.Common.{◌∙◌, ap}
 use Rattle.ash_serve.specs.Words.{words_left}
 use Rattle.ash_serve.proofs.LineLemmas.{pieces-at, pieces-none, none-space}
 use Rattle.ash_serve.proofs.words.Words.next.Goals as goal

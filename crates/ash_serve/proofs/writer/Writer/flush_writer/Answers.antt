@@ -1,6 +1,5 @@
-use Rattle.std.proofs.Common.{◌≡◌, [], take, drop, refl}
-use Rattle.ash_serve.specs.Writer.{writer_outlet, writer_is_outlet}
-use Rattle.ash_serve.proofs.WriterLemmas.{split_front, keeps_none, send_fault, pass_after, flush_after}
+use Rattle.std.proofs.Common.{[], refl}
+use Rattle.ash_serve.proofs.WriterLemmas.{keeps_none}
 use Rattle.ash_serve.proofs.writer.Writer.flush_writer.Goals as goal
 
 pub returns-in-Ok : goal.returns-in-Ok

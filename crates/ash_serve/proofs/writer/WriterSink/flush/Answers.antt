@@ -1,6 +1,6 @@
-use Rattle.std.proofs.Common.{◌≡◌, [], take, drop, refl}
+use Rattle.std.proofs.Common.{[]}
 use Rattle.ash_serve.specs.Writer.{writer_outlet, writer_is_outlet}
-use Rattle.ash_serve.proofs.WriterLemmas.{split_front, keeps_none, send_fault, pass_after, flush_after}
+use Rattle.ash_serve.proofs.WriterLemmas.{send_fault, flush_after}
 use Rattle.ash_serve.proofs.writer.WriterSink.flush.Goals as goal
 
 pub returns-in-Err : goal.returns-in-Err
