@@ -2,7 +2,7 @@
 use Rattle.std.specs.Prelude.{ℤ, pos, ◌+ℤ◌, ◌-ℤ◌, ◌*ℤ◌}
 use Rattle.std.specs.Int.{int_wrap, w32}
 use Rattle.ash_host.specs.declared.word.Word.{Word}
-use Rattle.ash_host.specs.declared.word.Word.TheVariants.{Bool, Int, Uint, Int64, Uint64, Null, Object}
+use Rattle.ash_host.specs.declared.word.Word.TheVariants.{Int}
 
 -- the number of an `int`; typed code asks it of nothing else, and what is no `int` reads as zero
 abbrev pub int_of : Word → ℤ

@@ -1,8 +1,27 @@
-//! What scripts and the program that embeds them hand to each other: words, the values of the script language.
+//! What scripts and the program that embeds them hand to each other: words, the values of the script language, and
+//! host objects, what the embedding program keeps behind handles, with the two kinds that come with the product.
 //! It stands on nothing, so that every other crate can speak of it. It promises that the integer operators are
-//! those of whole numbers, reduced to the width of their type.
+//! those of whole numbers, reduced to the width of their type, and of every host object that each answer lies
+//! within the relation that its kind tells.
+//!
+//! In reading order: `word` (values), `answer` (what a call of a host object answers), `fault` (why one isn't saved
+//! or restored), `host_object` (the trait), `counter` and `tally` (the kinds that come with the product, with `int`,
+//! the number that they keep).
 #![tactic(auto)]
 
+mod answer;
+mod counter;
+mod event;
+mod fault;
+mod host_object;
+mod int;
+pub mod laws;
+mod tally;
 pub mod word;
 
+pub use answer::HostAnswer;
+pub use counter::Counter;
+pub use fault::{NoMemory, RestoreFault};
+pub use host_object::HostObject;
+pub use tally::Tally;
 pub use word::Word;

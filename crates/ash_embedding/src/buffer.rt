@@ -1,0 +1,115 @@
+//! A kind with a growing state: bytes that scripts put at its end and take from there.
+ghost use Rattle.std.specs.Prelude.{◌≡◌, ◌<◌, ◌≤◌, ◌↔◌, ℕ, List, [], ◌∷◌, length, vec_len};
+ghost use Rattle.ash_host.specs.Calls.{Invoke, SameRelation};
+ghost use Rattle.ash_host.specs.declared.word.Word.{Word};
+ghost use Rattle.ash_embedding.specs.Buffers.{AllowsBuffer};
+
+use ash_host::{HostAnswer, HostObject, NoMemory, RestoreFault, Word};
+use std::alloc::Global;
+
+/// How many bytes a buffer holds at most, which is the most that a state may have.
+pub const CAPACITY: usize = 1024;
+
+/// Bytes that scripts put at the end and take from there. Method 1 `void put(int)` puts the low 8 bits of its
+/// argument, and raises 1 where the buffer is full. Method 2 `int take()` takes the last byte, and raises 2 where
+/// there is none. Property 1 `int length` says how many there are, and can't be written. Its factory takes no
+/// arguments. Any other number or arguments answer `Nothing`, a property `Null`, and change nothing.
+#[derive(Drop)]
+pub struct Buffer {
+    bytes: Vec<u8>,
+    ghost bounded: { vec_len bytes ≤ 1024 },
+}
+
+impl Buffer {
+    /// The number of the kind.
+    pub const KIND: u16 = 3;
+
+    /// An empty buffer.
+    pub fn new(alloc: Global) -> Buffer
+        ensures kind { ⟦<Buffer as HostObject>⟧.kind_of result ≡ 3 }
+        ensures empty { ⟦<Buffer as HostObject>⟧.state result ≡ [] }
+        ensures refuses { (bytes : List ℕ)
+            → ⟦<Buffer as HostObject>⟧.refuses result bytes ↔ (1024 < length bytes) }
+        ensures exact { SameRelation (⟦<Buffer as HostObject>⟧.allows result) AllowsBuffer }
+    {
+        Buffer {
+            bytes: Vec::new(alloc),
+        }
+    }
+
+    // Method 1.
+    fn put(&mut self, number: i32) -> HostAnswer
+        ensures { AllowsBuffer (Invoke 1 (Word.Int number ∷ [])) self.old.bytes.items result
+            self.new.bytes.items }
+    {
+        if self.bytes.len() == CAPACITY {
+            return HostAnswer::Raise(1);
+        }
+        match self.bytes.push((number.cast_unsigned() % 256) as u8) {
+            Ok(()) => HostAnswer::Nothing,
+            Err(_) => HostAnswer::NoMemory,
+        }
+    }
+
+    // Method 2.
+    fn take(&mut self) -> HostAnswer
+        ensures { AllowsBuffer (Invoke 2 []) self.old.bytes.items result self.new.bytes.items }
+    {
+        match self.bytes.pop() {
+            Some(byte) => HostAnswer::Value(Word::Int(byte.into())),
+            None => HostAnswer::Raise(2),
+        }
+    }
+}
+
+impl HostObject for Buffer {
+    ghost kind_of = { λ _. 3 };
+
+    ghost state = { λ buffer. buffer.bytes.items };
+
+    ghost allows = { λ _. AllowsBuffer };
+
+    ghost refuses = { λ _ bytes. 1024 < length bytes };
+
+    fn kind(&self) -> u16 {
+        Buffer::KIND
+    }
+
+    fn start(&mut self, args: &[Word]) -> HostAnswer {
+        if args.is_empty() {
+            self.bytes.clear();
+        }
+        HostAnswer::Nothing
+    }
+
+    fn invoke(&mut self, method: u16, args: &[Word]) -> HostAnswer {
+        match (method, args) {
+            (1, [Word::Int(number)]) => self.put(*number),
+            (2, []) => self.take(),
+            _ => HostAnswer::Nothing,
+        }
+    }
+
+    fn get(&self, prop: u16) -> Word {
+        match prop {
+            1 => Word::Int(self.bytes.len() as i32),
+            _ => Word::Null,
+        }
+    }
+
+    fn set(&mut self, _prop: u16, _v: Word) {}
+
+    fn save(&self, out: &mut Vec<u8>) -> Result<(), NoMemory> {
+        out.extend_from_slice(&self.bytes)?;
+        Ok(())
+    }
+
+    fn restore(&mut self, bytes: &[u8]) -> Result<(), RestoreFault> {
+        if bytes.len() > CAPACITY {
+            return Err(RestoreFault::Refused);
+        }
+        self.bytes.clear();
+        self.bytes.extend_from_slice(bytes)?;
+        Ok(())
+    }
+}
