@@ -1,0 +1,200 @@
+-- What bytes that were read say of a file.
+use Rattle.std.proofs.Common.{◌≡◌, inl, inr, ℕ, ◌+◌, ◌-◌, ◌<◌, ◌≤◌, ◌^◌, Bool, true, false, not, IsTrue, List, [], ◌∷◌, ◌++◌, length, take, drop, get_or, refl, sym, ◌∙◌, ap, subst, arith, append_assoc, length-append, length-drop, take-append-drop}
+use Rattle.std.proofs.lemmas.Bool.{false≢true, not-false}
+use Rattle.std.proofs.lemmas.List.{take_at, drop_at, take_all, get_or-drop, drop-drop, map_push}
+use Rattle.std.proofs.lemmas.Slice.Eq.{bytes_eq-Decides}
+use Rattle.std.specs.Str.{bytes_eq}
+use Rattle.byteorder.specs.Endian.{little_number}
+use Rattle.ash_journal.specs.Layout.{magic, eight_bytes, four_bytes, mark, block, records, solid, Fits, IsOpen, IsShut, IsCut, IsCutAt, HasMark, LacksMark}
+use Rattle.ash_disk.specs.Image.{bytes_at}
+use Rattle.ash_disk.specs.Moments.{During}
+use Rattle.ash_journal.specs.Writes.{IsIdle, AreIdle, WhileStarted, WhileCreated}
+use Rattle.ash_disk.proofs.MomentLaws.{at_start, at_end, goes_on, weaker}
+use Rattle.ash_journal.specs.declared.record.Record.{Record}
+use Rattle.ash_journal.specs.Reading.{IsBlock, IsReadTo, IsOnlyRead, AreAt, bodies_of}
+use Rattle.ash_journal.proofs.LayoutLaws.{AreBytes, eight_back, length-mark, length-block, length-solid, records-nil, records-cons, solid-push, solid_alone}
+use Rattle.ash_journal.proofs.SettleLaws.{fits_push, grown}
+
+-- ---- tests of bytes
+
+pub differ : (xs ys : List ℕ) (r : Bool) → r ≡ not (bytes_eq xs ys) → r ≡ true → xs ≡ ys → ⊥
+differ xs ys r is differs same =
+    let equal : bytes_eq xs ys ≡ true = (bytes_eq-Decides xs ys).1 same in
+    false≢true (sym (ap not equal) ∙ sym is ∙ differs)
+
+pub same_bytes : (xs ys : List ℕ) (r : Bool) → r ≡ not (bytes_eq xs ys) → r ≡ false → xs ≡ ys
+same_bytes xs ys r is equal = (bytes_eq-Decides xs ys).0 (not-false (bytes_eq xs ys) (sym is ∙ equal))
+
+-- ---- a mark
+
+pub magic_is : magic ≡ 65 ∷ 83 ∷ 72 ∷ 79 ∷ 83 ∷ 84 ∷ 48 ∷ 49 ∷ []
+unfolding magic
+magic_is = refl
+
+pub mark_magic : (g : ℕ) → take 8 (mark g) ≡ magic
+unfolding mark magic
+mark_magic g = take_at magic (eight_bytes g) 8 refl
+
+are_bytes-drop : (n : ℕ) (bytes : List ℕ) → AreBytes bytes → AreBytes (drop n bytes)
+are_bytes-drop n bytes fits i = subst (λ (b : ℕ). b < 256) (sym (get_or-drop n bytes i 0)) (fits (n + i))
+
+pub mark_read : (bytes : List ℕ) (n : ℕ) → length bytes ≡ 16 → AreBytes bytes → take 8 bytes ≡ magic → n ≡ little_number 8 (drop 8 bytes) → bytes ≡ mark n
+unfolding mark
+mark_read bytes n long fits is_magic is_number =
+    sym (take-append-drop 8 bytes) ∙ ap (λ (l : List ℕ). l ++ drop 8 bytes) is_magic
+    ∙ ap (λ (l : List ℕ). magic ++ l) (sym (eight_back (drop 8 bytes) (omega (arith, long, length-drop 8 bytes)) (are_bytes-drop 8 bytes fits)) ∙ ap eight_bytes (sym is_number))
+
+-- ---- the first bytes of a file
+
+pub marked_front : (file front : List ℕ) (g : ℕ) → front ≡ take 17 file → get_or front 0 0 ≡ 1 → 2 ≤ length front → take (length front - 1) (drop 1 front) ≡ mark g → g < 2 ^ 64 → HasMark g file
+marked_front file [] g is gate long marked fits = absurd (omega arith)
+marked_front file (first ∷ rest) g is gate long marked fits = record {
+  rest = drop 17 file;
+  bytes = sym (take-append-drop 17 file) ∙ ap (λ (l : List ℕ). l ++ drop 17 file) (sym is ∙ ap (λ (b : ℕ). b ∷ rest) gate ∙ ap (λ (l : List ℕ). 1 ∷ l) (sym (take_all (length (first ∷ rest) - 1) rest (omega arith)) ∙ marked));
+  numbered = fits;
+}
+
+open_front : (file front : List ℕ) → front ≡ take 17 file → get_or front 0 0 ≡ 1 → 2 ≤ length front → IsOpen file
+open_front [] front is gate long = absurd (omega (arith, ap length is, long))
+open_front (x ∷ []) front is gate long = absurd (omega (arith, ap length is, long))
+open_front (x ∷ y ∷ rest) front is gate long = sym (ap (λ (l : List ℕ). get_or l 0 0) is) ∙ gate
+
+pub unmarked_front : (file front : List ℕ) → front ≡ take 17 file → get_or front 0 0 ≡ 1 → 2 ≤ length front → ((g : ℕ) → g < 2 ^ 64 → take (length front - 1) (drop 1 front) ≡ mark g → ⊥) → LacksMark file
+unmarked_front file front is gate long none = (open_front file front is gate long, λ g marked. none g marked.numbered (front_is g marked))
+  where
+    front_is : (g : ℕ) → HasMark g file → take (length front - 1) (drop 1 front) ≡ mark g
+    front_is g marked =
+        let whole : front ≡ 1 ∷ mark g = is ∙ ap (λ (l : List ℕ). take 17 l) marked.bytes ∙ ap (λ (l : List ℕ). 1 ∷ l) (take_at (mark g) marked.rest 16 (length-mark g)) in
+        ap (λ (l : List ℕ). take (length l - 1) (drop 1 l)) whole ∙ take_all (length (1 ∷ mark g) - 1) (mark g) (omega (arith, length-mark g))
+
+-- ---- a block
+
+size_front : (seen : List ℕ) (at n : ℕ) → four_bytes n ≡ bytes_at seen at 4 → drop at seen ≡ four_bytes n ++ drop 4 (drop at seen)
+size_front seen at n is =
+    sym (take-append-drop 4 (drop at seen)) ∙ ap (λ (l : List ℕ). l ++ drop 4 (drop at seen)) (sym is)
+
+pub cut_block : (seen : List ℕ) (at n : ℕ) → n < 2 ^ 32 → four_bytes n ≡ bytes_at seen at 4 → length seen - at - 4 ≤ n → IsCut (drop at seen)
+cut_block seen at n fits is short =
+    inr (n, drop 4 (drop at seen), fits, size_front seen at n is, omega (arith, short, length-drop 4 (drop at seen), length-drop at seen))
+
+pub whole_block : (seen : List ℕ) (at n : ℕ) (bytes body : List ℕ) (gate : ℕ) → n < 2 ^ 32 → four_bytes n ≡ bytes_at seen at 4 → bytes ≡ bytes_at seen (at + 4) (n + 1) → length bytes ≡ n + 1 → bytes ≡ body ++ gate ∷ [] → IsBlock body gate (drop at seen)
+unfolding block
+whole_block seen at n bytes body gate fits is read long parts =
+    let body_long : length body ≡ n = omega (arith, long, ap length parts, length-append body (gate ∷ [])) in
+    let more = drop (n + 1) (drop (at + 4) seen) in
+    let behind : drop 4 (drop at seen) ≡ body ++ gate ∷ more = drop-drop 4 at seen ∙ sym (take-append-drop (n + 1) (drop (at + 4) seen)) ∙ ap (λ (l : List ℕ). l ++ more) (sym read ∙ parts) ∙ append_assoc body (gate ∷ []) more in (
+      omega (arith, body_long, fits),
+      more,
+      size_front seen at n is ∙ ap (λ (m : ℕ). four_bytes m ++ drop 4 (drop at seen)) (sym body_long) ∙ ap (λ (l : List ℕ). four_bytes (length body) ++ l) behind
+          ∙ sym (append_assoc (four_bytes (length body)) body (gate ∷ more)),
+    )
+
+-- ---- records
+
+-- how far a run of records reaches from an offset on
+placed_push : (at : ℕ) (found : List Record) (r : Record) → AreAt at found → r.gate ≡ at + length (records (bodies_of found)) → AreAt at (found ++ r ∷ [])
+placed_push at [] r placed gate = (omega (arith, gate, ap length records-nil), tt)
+placed_push at (first ∷ found) r placed gate = (
+  placed.0,
+  placed_push (at + 5 + length first.body.items) found r placed.1 (omega (arith, gate, ap length (records-cons first.body.items (bodies_of found)), length-append (block first.body.items) (records (bodies_of found)), length-block first.body.items)),
+)
+
+pub read_start : (g : ℕ) (image rest file : List ℕ) (found : List Record) (at gate : ℕ) → found ≡ [] → Fits g image [] → file ≡ solid g image [] ++ gate ∷ rest → at ≡ length (solid g image []) → IsReadTo g image found at gate file
+read_start g image rest file found at gate none fits is at_is =
+    subst (λ (f : List Record). IsReadTo g image f at gate file) (sym none) (record { behind = rest; bytes = is; fits = fits; end_is = at_is; placed = tt })
+
+behind_gate : (front behind file : List ℕ) (at gate : ℕ) → file ≡ front ++ gate ∷ behind → at ≡ length front → drop (at + 1) file ≡ behind
+behind_gate front behind file at gate is at_is =
+    ap (λ (l : List ℕ). drop (at + 1) l) (is ∙ sym (append_assoc front (gate ∷ []) behind)) ∙ drop_at (front ++ gate ∷ []) behind (at + 1) (omega (arith, at_is, length-append front (gate ∷ [])))
+
+-- an open gate with nothing whole behind it
+pub read_cut : (g : ℕ) (image file : List ℕ) (found : List Record) (at gate : ℕ) → gate ≡ 1 → IsReadTo g image found at gate file → IsCut (drop (at + 1) file) → IsCutAt at file
+read_cut g image file found at gate is_open so_far cut =
+    inr (
+      g,
+      image,
+      bodies_of found,
+      so_far.behind,
+      so_far.fits,
+      so_far.bytes ∙ ap (λ (b : ℕ). solid g image (bodies_of found) ++ b ∷ so_far.behind) is_open,
+      subst IsCut (behind_gate (solid g image (bodies_of found)) so_far.behind file at gate so_far.bytes so_far.end_is) cut,
+      so_far.end_is,
+    )
+
+-- one record more
+pub read_more : (g : ℕ) (image file : List ℕ) (found : List Record) (r : Record) (at gate next end : ℕ) → gate ≡ 1 → IsReadTo g image found at gate file → IsBlock r.body.items next (drop (at + 1) file) → r.gate ≡ at → end ≡ at + (5 + length r.body.items) → IsReadTo g image (found ++ r ∷ []) end next file
+read_more g image file found r at gate next end is_open so_far is_block gate_is end_is = record {
+  behind = is_block.1;
+  bytes = so_far.bytes ∙ ap (λ (b : ℕ). front ++ b ∷ so_far.behind) is_open ∙ ap (λ (l : List ℕ). front ++ 1 ∷ l) (sym (behind_gate front so_far.behind file at gate so_far.bytes so_far.end_is) ∙ is_block.2)
+      ∙ grown g image (bodies_of found) r.body.items (next ∷ is_block.1) ∙ ap (λ (bs : List (List ℕ)). solid g image bs ++ next ∷ is_block.1) (sym pushed);
+  fits = subst (λ (bs : List (List ℕ)). Fits g image bs) (sym pushed) (fits_push g image (bodies_of found) r.body.items so_far.fits is_block.0);
+  end_is = omega (arith, end_is, so_far.end_is, ap length (ap (solid g image) pushed ∙ solid-push g image (bodies_of found) r.body.items), length-append front (1 ∷ block r.body.items), length-block r.body.items);
+  placed = placed_push (21 + length image) found r so_far.placed (omega (arith, gate_is, so_far.end_is, length-solid g image (bodies_of found)));
+}
+  where
+    front : List ℕ
+    front = solid g image (bodies_of found)
+
+    pushed : bodies_of (found ++ r ∷ []) ≡ bodies_of found ++ r.body.items ∷ []
+    pushed = map_push (λ (q : Record). q.body.items) found r
+
+-- ---- disks that are only read
+
+pub read_none : {D : Type 0} (honest : D → Bool) (seen : D → List ℕ) (clock : D → ℕ) (leaves : D → ℕ → List ℕ → Type 0) (d : D) → IsOnlyRead honest seen clock leaves d d
+read_none honest seen clock leaves d = record { honesty = refl; same = λ _. refl; moments = λ _. at_start (clock d) (leaves d) (leaves d (clock d)) (λ image left. left) }
+
+pub read_on : {D : Type 0} (honest : D → Bool) (seen : D → List ℕ) (clock : D → ℕ) (leaves : D → ℕ → List ℕ → Type 0) (a b c : D) → IsOnlyRead honest seen clock leaves a b → IsOnlyRead honest seen clock leaves b c → IsOnlyRead honest seen clock leaves a c
+read_on honest seen clock leaves a b c one two = record {
+  honesty = two.honesty ∙ one.honesty;
+  same = λ is. two.same (subst IsTrue (sym one.honesty) is) ∙ one.same is;
+  moments = λ is.
+      let first = one.moments is in
+      goes_on (clock a) (clock b) (clock c) (leaves a) (leaves b) (leaves c) (leaves a (clock a)) first
+      (weaker (clock b) (clock c) (leaves b) (leaves c) (leaves b (clock b)) (leaves a (clock a)) (at_end (clock a) (clock b) (leaves a) (leaves b) (leaves a (clock a)) first) (two.moments (subst IsTrue (sym one.honesty) is)));
+}
+
+-- ---- a generation
+
+behind_mark : (g : ℕ) (file : List ℕ) (marked : HasMark g file) → drop 17 file ≡ marked.rest
+behind_mark g file marked =
+    ap (λ (l : List ℕ). drop 17 l) marked.bytes ∙ drop_at (1 ∷ mark g) marked.rest 17 (omega (arith, length-mark g))
+
+pub image_cut : (g : ℕ) (file : List ℕ) → HasMark g file → IsCut (drop 17 file) → IsCutAt 0 file
+image_cut g file marked cut = inl (g, marked.rest, marked.bytes, subst IsCut (behind_mark g file marked) cut, refl)
+
+-- the image behind a mark, and the first gate behind it
+pub image_read : (g : ℕ) (file image : List ℕ) (gate : ℕ) → HasMark g file → IsBlock image gate (drop 17 file) → Fits g image [] × (rest : List ℕ) × (file ≡ solid g image [] ++ gate ∷ rest)
+image_read g file image gate marked is_block = (
+  record { numbered = marked.numbered; image_short = is_block.0; bodies_short = tt },
+  is_block.1,
+  marked.bytes ∙ ap (λ (l : List ℕ). 1 ∷ (mark g ++ l)) (sym (behind_mark g file marked) ∙ is_block.2) ∙ sym (solid_alone g image (gate ∷ is_block.1)),
+)
+
+pub length-alone : (g : ℕ) (image : List ℕ) → length (solid g image []) ≡ 21 + length image
+length-alone g image = omega (arith, length-solid g image [], ap length records-nil)
+
+-- ---- files that were idle before
+
+-- disks that were only read are as idle as they were
+pub read_idle : {D : Type 0} (honest : D → Bool) (seen : D → List ℕ) (clock : D → ℕ) (leaves : D → ℕ → List ℕ → Type 0) (a b : D) → IsTrue (honest a) → IsOnlyRead honest seen clock leaves a b → AreIdle (leaves a (clock a)) → AreIdle (leaves b (clock b))
+read_idle honest seen clock leaves a b is read (inl tiny) =
+    inl (λ image left. tiny image (at_end (clock a) (clock b) (leaves a) (leaves b) (leaves a (clock a)) (read.moments is) image left))
+read_idle honest seen clock leaves a b is read (inr shut) =
+    inr (λ image left. shut image (at_end (clock a) (clock b) (leaves a) (leaves b) (leaves a (clock a)) (read.moments is) image left))
+
+one_idle : (images : List ℕ → Type 0) → AreIdle images → (image : List ℕ) → images image → IsIdle image
+one_idle images (inl tiny) image left = inl (tiny image left)
+one_idle images (inr shut) image left = inr (shut image left)
+
+-- reading, and then what leaves images with P
+pub idle_goes_on : {D : Type 0} (honest : D → Bool) (seen : D → List ℕ) (clock : D → ℕ) (leaves : D → ℕ → List ℕ → Type 0) (a b c : D) (P : List ℕ → Type 0) → IsTrue (honest a) → IsOnlyRead honest seen clock leaves a b → AreIdle (leaves a (clock a)) → ((image : List ℕ) → IsIdle image → P image) → During (clock b) (clock c) (leaves b) (leaves c) P → During (clock a) (clock c) (leaves a) (leaves c) P
+idle_goes_on honest seen clock leaves a b c P is read idle so call =
+    goes_on (clock a) (clock b) (clock c) (leaves a) (leaves b) (leaves c) P
+    (weaker (clock a) (clock b) (leaves a) (leaves b) (leaves a (clock a)) P (λ image left. so image (one_idle (leaves a (clock a)) idle image left)) (read.moments is)) call
+
+pub started_created : (image file left : List ℕ) → WhileStarted (mark 1 ++ (block image ++ 0 ∷ [])) file left → WhileCreated image left
+started_created image file left (inl idle) = inl idle
+started_created image file left (inr (inl rests)) = inl (inr (subst IsShut (sym rests.1) refl))
+started_created image file left (inr (inr whole)) =
+    let rest = drop (length (mark 1 ++ (block image ++ 0 ∷ []))) (drop 1 file) in
+    inr (whole.0, rest, whole.1 ∙ ap (λ (l : List ℕ). whole.0 ∷ l) (append_assoc (mark 1) (block image ++ 0 ∷ []) rest ∙ ap (λ (l : List ℕ). mark 1 ++ l) (append_assoc (block image) (0 ∷ []) rest)))

@@ -1,0 +1,20 @@
+use Rattle.std.proofs.Common.{◌∙◌, ◌∷◌, [], ap}
+use Rattle.ash_disk.specs.Image.{after_write}
+use Rattle.ash_journal.specs.Writes.{WhileShut}
+use Rattle.ash_journal.proofs.GateLaws.{within, shut_written, shut_torn, while_written, on_ok_both}
+use Rattle.ash_journal.proofs.gate.shut_gate.Goals as goal
+
+pub returns-clause-shut : goal.returns-clause-shut
+returns-clause-shut g c =
+    on_ok_both c.write_durably.result
+    (λ written durable front behind split.
+    let fits = within front behind c.args.gate _ split.long split.bytes in
+    record {
+      bytes = written split.honest_disk fits ∙ ap (λ l. after_write l c.args.gate (0 ∷ [])) split.bytes ∙ shut_written front behind c.args.gate split.long;
+      durable = durable split.honest_disk fits;
+    })
+    c.write_durably.ensures.written c.write_durably.ensures.durable
+
+pub returns-clause-moments : goal.returns-clause-moments
+returns-clause-moments g c front behind split =
+    while_written _ _ _ _ _ _ c.args.gate 1 (WhileShut front behind) split.durable split.bytes (shut_torn front behind c.args.gate split.long) (c.write_durably.ensures.moments split.honest_disk (within front behind c.args.gate _ split.long split.bytes))

@@ -1,0 +1,10 @@
+-- How two devices count their failures.
+use Rattle.std.specs.Prelude.{◌≡◌, ◌⊎◌, ℕ, ◌≤◌}
+use Rattle.ash_disk.specs.Failures.{Rose}
+
+-- No count falls. Where the answer is that a device failed, one of them rose, and where it is another, none did.
+pub record CountsFailures (failed : Type 0) (first second first_after second_after : ℕ) : Type 0 where
+  pub first_never_falls : first ≤ first_after
+  pub second_never_falls : second ≤ second_after
+  pub told : failed → Rose first first_after ⊎ Rose second second_after
+  pub none : (failed → ⊥) → (first_after ≡ first) × (second_after ≡ second)

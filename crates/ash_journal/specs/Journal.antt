@@ -1,0 +1,94 @@
+-- What a journal shows, and what its files hold.
+use Rattle.std.specs.Prelude.{◌≡◌, ◌≢◌, ℕ, Bool, true, false, IsTrue, List, [], ◌∷◌, ◌++◌, length}
+use Rattle.ash_disk.specs.Image.{Only}
+use Rattle.ash_journal.specs.declared.journal.Journal.{Journal}
+use Rattle.ash_journal.specs.declared.beside.Beside.{Beside}
+use Rattle.ash_journal.specs.declared.beside.Beside.TheVariants.{Shut, Older}
+use Rattle.ash_journal.specs.Layout.{solid, records, Fits}
+use Rattle.ash_journal.specs.Beside.{first_of, second_of, is_stray, OtherIs}
+use Rattle.ash_journal.specs.Runs.{Run}
+
+-- the disk that was handed over first
+abbrev pub first_disk : {D : Type 0} → Journal D → D
+first_disk j = first_of j.swapped j.current j.other
+
+-- the disk that was handed over second
+abbrev pub second_disk : {D : Type 0} → Journal D → D
+second_disk j = second_of j.swapped j.current j.other
+
+-- the first disk stays as it was where it is the current one, else the second does
+abbrev pub KeepsOneOf : {D : Type 0} → Bool → D → D → D → D → Type 0
+KeepsOneOf false first second first_after second_after = first_after ≡ first
+KeepsOneOf true first second first_after second_after = second_after ≡ second
+
+-- the other way round: the disk that isn't current stays as it was
+abbrev pub KeepsOtherOf : {D : Type 0} → Bool → D → D → D → D → Type 0
+KeepsOtherOf false first second first_after second_after = second_after ≡ second
+KeepsOtherOf true first second first_after second_after = first_after ≡ first
+
+-- the disk that holds the current file
+abbrev pub current_disk : {D : Type 0} → Journal D → D
+current_disk j = j.current
+
+-- the number of the current generation
+abbrev pub generation : {D : Type 0} → Journal D → ℕ
+generation j = j.generation
+
+-- the bytes of the open records: their lengths, bodies and gates
+abbrev pub record_bytes : {D : Type 0} → Journal D → ℕ
+record_bytes j = j.record_bytes
+
+-- the gate behind the last open record is 0, or is still to be written over
+abbrev pub EndIs : Bool → ℕ → Type 0
+EndIs false gate = gate ≡ 0
+EndIs true gate = gate ≢ 0
+
+-- nothing is to be written over
+abbrev pub NothingIsOwed : Bool → Beside → Type 0
+NothingIsOwed false Shut = Unit {0}
+NothingIsOwed false Older = Unit {0}
+NothingIsOwed _ _ = ⊥
+
+-- Two honest disks hold this image and these records, all of it on the devices, and a journal knows what it needs of
+-- them.
+pub record FilesAre {D : Type 0} (honest : D → Bool) (seen : D → List ℕ) (clock : D → ℕ) (leaves : D → ℕ → List ℕ → Type 0) (number end size : ℕ) (stray : Bool) (beside : Beside) (current other : D) (image : List ℕ) (bodies : List (List ℕ)) : Type 0 where
+  pub current_honest : IsTrue (honest current)
+  pub other_honest : IsTrue (honest other)
+  pub gate : ℕ
+  pub behind : List ℕ
+  pub shut : gate ≢ 1
+  pub bytes : seen current ≡ solid number image bodies ++ gate ∷ behind
+  pub fits : Fits number image bodies
+  pub end_is : end ≡ length (solid number image bodies)
+  pub size_is : size ≡ length (records bodies)
+  pub owed : EndIs stray gate
+  pub other_is : OtherIs beside number (seen other)
+  pub current_durable : Only (seen current) (leaves current (clock current))
+  pub other_durable : Only (seen other) (leaves other (clock other))
+
+-- The files hold this image and these records, as `open` finds them: gates may be owed a repair.
+abbrev pub Finds : {D : Type 0} → (D → Bool) → (D → List ℕ) → (D → ℕ) → (D → ℕ → List ℕ → Type 0) → Journal D → List ℕ → List (List ℕ) → Type 0
+Finds honest seen clock leaves j image bodies =
+    FilesAre honest seen clock leaves j.generation j.end j.record_bytes j.stray j.beside j.current j.other image bodies
+
+-- nothing is to be written over in a journal's files
+abbrev pub IsReady : {D : Type 0} → Journal D → Type 0
+IsReady j = NothingIsOwed j.stray j.beside
+
+-- The files hold this image and these records, nothing is owed, and they settle on them alone: the journal is ready.
+pub record Holds {D : Type 0} (honest : D → Bool) (seen : D → List ℕ) (clock : D → ℕ) (leaves : D → ℕ → List ℕ → Type 0) (j : Journal D) (image : List ℕ) (bodies : List (List ℕ)) : Type 0 where
+  pub files : Finds honest seen clock leaves j image bodies
+  pub ready : NothingIsOwed j.stray j.beside
+  pub run : Run clock leaves (clock (first_disk j)) (clock (second_disk j)) (first_disk j) (second_disk j) ((image, bodies) ∷ [])
+
+-- the disk that holds the current file stays as it was
+abbrev pub KeepsOne : {D : Type 0} → Journal D → Journal D → Type 0
+KeepsOne old new = KeepsOneOf old.swapped (first_disk old) (second_disk old) (first_disk new) (second_disk new)
+
+-- the disk that doesn't hold the current file stays as it was
+abbrev pub KeepsOther : {D : Type 0} → Journal D → Journal D → Type 0
+KeepsOther old new = KeepsOtherOf old.swapped (first_disk old) (second_disk old) (first_disk new) (second_disk new)
+
+-- a disk of which no gate is to be written over stays as it was
+abbrev pub KeepsUnowed : {D : Type 0} → Journal D → Journal D → Type 0
+KeepsUnowed old new = (old.stray ≡ false → KeepsOne old new) × (is_stray old.beside ≡ false → KeepsOther old new)

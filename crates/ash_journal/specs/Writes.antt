@@ -1,0 +1,58 @@
+-- What one disk holds before and while a gate is written.
+use Rattle.std.specs.Prelude.{◌≡◌, ◌⊎◌, ℕ, ◌≤◌, Bool, true, false, IsTrue, List, [], ◌∷◌, ◌++◌, length, drop}
+use Rattle.ash_disk.specs.Image.{Only}
+use Rattle.ash_journal.specs.Layout.{mark, block, IsShut}
+
+-- An honest disk whose file is all on the device, and has these bytes before an offset and these from it on.
+pub record IsSplit {D : Type 0} (honest : D → Bool) (seen : D → List ℕ) (clock : D → ℕ) (leaves : D → ℕ → List ℕ → Type 0) (disk : D) (at : ℕ) (front behind : List ℕ) : Type 0 where
+  pub honest_disk : IsTrue (honest disk)
+  pub long : length front ≡ at
+  pub bytes : seen disk ≡ front ++ behind
+  pub durable : Only (seen disk) (leaves disk (clock disk))
+
+-- the disk's file is these bytes, and all of it is on the device
+pub record IsOn {D : Type 0} (seen : D → List ℕ) (clock : D → ℕ) (leaves : D → ℕ → List ℕ → Type 0) (disk : D) (file : List ℕ) : Type 0 where
+  pub bytes : seen disk ≡ file
+  pub durable : Only (seen disk) (leaves disk (clock disk))
+
+-- what a crash may leave while 0 is written over a gate
+abbrev pub WhileShut : List ℕ → List ℕ → List ℕ → Type 0
+WhileShut front behind image = (image ≡ front ++ behind) ⊎ ((gate : ℕ) × (image ≡ front ++ gate ∷ drop 1 behind))
+
+-- What a crash may leave while bytes are written behind a gate that is 0, and then 1 over the gate: until the bytes
+-- are on the device the gate is 0, and while the gate is written they stand whole behind it.
+abbrev pub WhileCommitted : List ℕ → List ℕ → List ℕ → List ℕ → Type 0
+WhileCommitted front bytes behind image =
+    ((rest : List ℕ) × (image ≡ front ++ 0 ∷ rest))
+    ⊎ ((gate : ℕ) × (image ≡ front ++ gate ∷ (bytes ++ drop (length bytes) behind)))
+
+-- with 0 for the first of these bytes, where that is owed
+abbrev pub repaired : Bool → List ℕ → List ℕ
+repaired true behind = 0 ∷ drop 1 behind
+repaired false behind = behind
+
+-- what a crash may leave while a gate is repaired, where that is owed
+abbrev pub WhileRepaired : Bool → List ℕ → List ℕ → List ℕ → Type 0
+WhileRepaired owed front behind image =
+    (image ≡ front ++ behind) ⊎ ((owed ≡ true) × (gate : ℕ) × (image ≡ front ++ gate ∷ drop 1 behind))
+
+-- what a crash may leave while bytes take the place of a file's
+abbrev pub WhileReplaced : Bool → List ℕ → List ℕ → List ℕ → Type 0
+WhileReplaced is_open bytes file image = WhileRepaired is_open [] file image ⊎ WhileCommitted [] bytes (drop 1 file) image
+
+-- a file of at most one byte, or one whose first gate is 0: nothing was ever in it, or it is out of use
+abbrev pub IsIdle : List ℕ → Type 0
+IsIdle file = (length file ≤ 1) ⊎ IsShut file
+
+-- all images that a crash may leave have at most one byte, or all have 0 for their first gate
+abbrev pub AreIdle : (List ℕ → Type 0) → Type 0
+AreIdle images = ((image : List ℕ) → images image → length image ≤ 1) ⊎ ((image : List ℕ) → images image → IsShut image)
+
+-- what a crash may leave while bytes are put into a file that was idle
+abbrev pub WhileStarted : List ℕ → List ℕ → List ℕ → Type 0
+WhileStarted bytes file image = IsIdle image ⊎ WhileCommitted [] bytes (drop 1 file) image
+
+-- what a crash may leave of the first file while a journal is created
+abbrev pub WhileCreated : List ℕ → List ℕ → Type 0
+WhileCreated image file =
+    IsIdle file ⊎ ((gate : ℕ) × (rest : List ℕ) × (file ≡ gate ∷ (mark 1 ++ (block image ++ 0 ∷ rest))))

@@ -1,0 +1,365 @@
+//! The journal.
+ghost use Rattle.std.specs.Prelude.{◌≡◌, ◌≤◌, ◌+◌, ◌^◌};
+
+use crate::beside::{Beside, place};
+use crate::bytes::{generation_bytes, record_bytes};
+use crate::creating::create_both;
+use crate::error::{AppendError, CreateFault, InstallError, OpenFault};
+use crate::gate::{commit, repair, replace};
+use crate::opening::{Contents, read_both};
+use crate::record::Record;
+use ash_disk::{DeviceFailed, Disk};
+use std::alloc::Global;
+use std::mem;
+
+/// A journal over two disks: a generation's image, and records that were added to it.
+#[derive(Drop)]
+pub struct Journal<D> {
+    alloc: Global,
+    current: D,
+    other: D,
+    /// Whether the current disk was handed over as the second.
+    swapped: bool,
+    generation: u64,
+    /// The offset of the gate behind the last open record.
+    end: u64,
+    record_bytes: u64,
+    /// Whether that gate is still to be written over.
+    stray: bool,
+    beside: Beside,
+    ghost within: { end ≤ record_bytes + 2 ^ 33 },
+}
+
+/// Two disks that were opened: a journal over them, and what they hold.
+#[derive(Drop)]
+pub struct Opened<D> {
+    pub journal: Journal<D>,
+    /// The image of the current generation.
+    pub image: Vec<u8>,
+    /// Its open records, in order.
+    pub records: Vec<Record>,
+}
+
+/// Why two disks were not opened, and the disks.
+#[derive(Drop)]
+pub struct OpenRefused<D> {
+    pub fault: OpenFault,
+    pub first: D,
+    pub second: D,
+}
+
+/// Why no journal was created over two disks, and the disks.
+#[derive(Drop)]
+pub struct CreateRefused<D> {
+    pub fault: CreateFault,
+    pub first: D,
+    pub second: D,
+}
+
+impl<D: Disk> Journal<D> {
+    ghost use Rattle.std.specs.Prelude.{◌≡◌, ◌<◌, ◌-◌, ◌↔◌, ◌∷◌, ◌++◌, [], ℕ, List, length, IsTrue, IfOk, IfErr, OnOk, OnErr, IsErr, IsErrOf, MatchResult};
+    ghost use Rattle.ash_journal.specs.Failures.{CountsFailures};
+    ghost use Rattle.ash_journal.specs.Journal.{first_disk, second_disk, generation, record_bytes, current_disk, IsReady, Finds, Holds, KeepsOne, KeepsOther, KeepsUnowed};
+    ghost use Rattle.ash_journal.specs.Current.{Among};
+    ghost use Rattle.ash_disk.specs.Moments.{EveryMoment};
+    ghost use Rattle.ash_journal.specs.Layout.{IsClosed};
+    ghost use Rattle.ash_journal.specs.Opening.{FaultIs, CreateFaultIs, IsCreatedOrClosed};
+    ghost use Rattle.ash_journal.specs.Writes.{AreIdle};
+    ghost use Rattle.ash_journal.specs.Reading.{AreAt, IsOnlyRead, bodies_of};
+    ghost use Rattle.ash_journal.specs.Runs.{Run};
+
+    /// Makes a journal of two disks of which neither file is open: generation 1 with an image and no records, in the
+    /// first. The journal is ready for records.
+    ///
+    /// Refusals, the first that holds: `DeviceFailed` at any call of a device, `AlreadyThere` where a file is open,
+    /// `NoMemory`. They hand the disks back, and but for `DeviceFailed` nothing was written.
+    ///
+    /// Each file is looked at in two calls; then the first gate of each that isn't 0 there is written as 0, both files
+    /// are synced, and the generation is committed by two writes and two syncs. Where neither file ever held more than
+    /// a byte, or its first gate was 0, a crash on the way leaves no file open, or the whole generation.
+    pub fn create(
+        alloc: Global,
+        first: D,
+        second: D,
+        image: &[u8],
+    ) -> Result<Journal<D>, CreateRefused<D>>
+        requires { length image.now < 2 ^ 32 }
+        ensures created { IfOk result (λ j. IsTrue (D.honest first) → IsTrue (D.honest second)
+            → Holds D.honest D.seen D.clock D.leaves j image.now []) }
+        ensures in_first { IfOk result (λ j. current_disk j ≡ first_disk j) }
+        ensures number { IfOk result (λ j. generation j ≡ 1) }
+        ensures emptied { IfOk result (λ j. record_bytes j ≡ 0) }
+        ensures closed { OnOk result (IsTrue (D.honest first) → IsTrue (D.honest second)
+            → IsClosed (D.seen first) × IsClosed (D.seen second)) }
+        ensures fault { IfErr result (λ r. IsTrue (D.honest first) → IsTrue (D.honest second)
+            → CreateFaultIs r.fault (D.seen first) (D.seen second)
+            (IsOnlyRead D.honest D.seen D.clock D.leaves first r.first
+            × IsOnlyRead D.honest D.seen D.clock D.leaves second r.second)) }
+        ensures moments { IsTrue (D.honest first) → IsTrue (D.honest second)
+            → AreIdle (D.leaves first (D.clock first)) → AreIdle (D.leaves second (D.clock second))
+            → MatchResult result
+            (λ j. EveryMoment (D.clock first) (D.clock (first_disk j)) (D.leaves (first_disk j))
+            (D.clock second) (D.clock (second_disk j)) (D.leaves (second_disk j))
+            (IsCreatedOrClosed image.now))
+            (λ r. EveryMoment (D.clock first) (D.clock r.first) (D.leaves r.first)
+            (D.clock second) (D.clock r.second) (D.leaves r.second)
+            (IsCreatedOrClosed image.now)) }
+        ensures honesty_first { MatchResult result
+            (λ j. D.honest (first_disk j) ≡ D.honest first) (λ r. D.honest r.first ≡ D.honest first) }
+        ensures honesty_second { MatchResult result
+            (λ j. D.honest (second_disk j) ≡ D.honest second)
+            (λ r. D.honest r.second ≡ D.honest second) }
+        ensures cause { MatchResult result
+            (λ j. CountsFailures ⊥ (D.failures first) (D.failures second)
+            (D.failures (first_disk j)) (D.failures (second_disk j)))
+            (λ r. CountsFailures (r.fault ≡ CreateFault.DeviceFailed)
+            (D.failures first) (D.failures second) (D.failures r.first) (D.failures r.second)) }
+    {
+        let mut one = first;
+        let mut two = second;
+        match create_both(alloc, &mut one, &mut two, image) {
+            Ok(()) => Ok(Journal {
+                alloc,
+                current: one,
+                other: two,
+                swapped: false,
+                generation: 1,
+                end: 21 + image.len() as u64,
+                record_bytes: 0,
+                stray: false,
+                beside: Beside::Shut,
+            }),
+            Err(fault) => Err(CreateRefused {
+                fault,
+                first: one,
+                second: two,
+            }),
+        }
+    }
+
+    /// Opens two disks: syncs them, and reads which is current, its image and its open records, in order, with memory
+    /// for these. It writes nothing, and leaves gates that are owed a repair to `settle`, which comes before the first
+    /// record or image.
+    ///
+    /// Refusals: `NoGeneration` where no file is open; `Damaged` where an open file has no magic and generation, two
+    /// open files have one number, or the current file is cut short, with the offset of the gate before the record that
+    /// is, else 0; `DeviceFailed`; `NoMemory`. They hand the disks back as they were read.
+    pub fn open(alloc: Global, first: D, second: D) -> Result<Opened<D>, OpenRefused<D>>
+        ensures found { IfOk result (λ o. IsTrue (D.honest first) → IsTrue (D.honest second)
+            → Finds D.honest D.seen D.clock D.leaves o.journal o.image.items (bodies_of o.records.items)) }
+        ensures offsets { IfOk result (λ o. IsTrue (D.honest first) → IsTrue (D.honest second)
+            → AreAt (21 + length o.image.items) o.records.items) }
+        ensures fault { IfErr result (λ r. IsTrue (D.honest first) → IsTrue (D.honest second)
+            → FaultIs r.fault (D.seen first) (D.seen second)) }
+        ensures run { (a b : ℕ) (pairs : List (List ℕ × List (List ℕ)))
+            → IsTrue (D.honest first) → IsTrue (D.honest second)
+            → Run D.clock D.leaves a b first second pairs
+            → MatchResult result
+            (λ o. Among (o.image.items, bodies_of o.records.items) pairs
+            × Run D.clock D.leaves a b (first_disk o.journal) (second_disk o.journal) pairs)
+            (λ r. Run D.clock D.leaves a b r.first r.second pairs) }
+        ensures first_read { MatchResult result
+            (λ o. IsOnlyRead D.honest D.seen D.clock D.leaves first (first_disk o.journal))
+            (λ r. IsOnlyRead D.honest D.seen D.clock D.leaves first r.first) }
+        ensures second_read { MatchResult result
+            (λ o. IsOnlyRead D.honest D.seen D.clock D.leaves second (second_disk o.journal))
+            (λ r. IsOnlyRead D.honest D.seen D.clock D.leaves second r.second) }
+        ensures cause { MatchResult result
+            (λ o. CountsFailures ⊥ (D.failures first) (D.failures second)
+            (D.failures (first_disk o.journal)) (D.failures (second_disk o.journal)))
+            (λ r. CountsFailures (r.fault ≡ OpenFault.DeviceFailed)
+            (D.failures first) (D.failures second) (D.failures r.first) (D.failures r.second)) }
+    {
+        let mut one = first;
+        let mut two = second;
+        let contents = match read_both(alloc, &mut one, &mut two) {
+            Ok(contents) => contents,
+            Err(fault) => {
+                return Err(OpenRefused {
+                    fault,
+                    first: one,
+                    second: two,
+                });
+            }
+        };
+        let Contents { choice, reading } = contents;
+        let (current, other) = place(choice.swapped, one, two);
+        let journal = Journal {
+            alloc,
+            current,
+            other,
+            swapped: choice.swapped,
+            generation: choice.generation,
+            end: reading.tail.end,
+            record_bytes: reading.tail.end - 21 - reading.image.len() as u64,
+            stray: reading.tail.gate != 0,
+            beside: choice.beside,
+        };
+        Ok(Opened {
+            journal,
+            image: reading.image,
+            records: reading.tail.records,
+        })
+    }
+
+    /// The number of the current generation.
+    pub fn generation(&self) -> u64
+        ensures { result ≡ generation self.now }
+    {
+        self.generation
+    }
+
+    /// Adds a record to the current generation, on a journal that is ready: from `create`, or from a `settle` that
+    /// answered `Ok`, until a `DeviceFailed`. At `Ok` the record is acknowledged, and every crash leaves it.
+    ///
+    /// `NoMemory` comes before any call of a device, and changes nothing. After `DeviceFailed` the record is there or
+    /// not, and the journal is to be opened again. A record is one write and a sync, twice; nothing is read.
+    pub fn append(&mut self, body: &[u8]) -> Result<(), AppendError>
+        requires short { length body.now < 2 ^ 32 }
+        requires room { record_bytes self.old < 2 ^ 62 }
+        ensures acknowledged { OnOk result ((image : List ℕ) (bodies : List (List ℕ))
+            → Holds D.honest D.seen D.clock D.leaves self.old image bodies
+            → Holds D.honest D.seen D.clock D.leaves self.new image (bodies ++ body.now ∷ [])) }
+        ensures run { (image : List ℕ) (bodies : List (List ℕ))
+            → Holds D.honest D.seen D.clock D.leaves self.old image bodies
+            → (a b : ℕ) (pairs : List (List ℕ × List (List ℕ)))
+            → Run D.clock D.leaves a b (first_disk self.old) (second_disk self.old) pairs
+            → Run D.clock D.leaves a b (first_disk self.new) (second_disk self.new)
+            ((image, bodies ++ body.now ∷ []) ∷ pairs) }
+        ensures longer { OnOk result (record_bytes self.new
+            ≡ record_bytes self.old + 5 + length body.now) }
+        ensures no_longer { OnErr result (record_bytes self.new ≡ record_bytes self.old) }
+        ensures untouched { KeepsOther self.old self.new }
+        ensures number { generation self.new ≡ generation self.old }
+        ensures cause { CountsFailures (IsErrOf result AppendError.DeviceFailed)
+            (D.failures (first_disk self.old)) (D.failures (second_disk self.old))
+            (D.failures (first_disk self.new)) (D.failures (second_disk self.new)) }
+        ensures memory { IsErrOf result AppendError.NoMemory → self.new ≡ self.old }
+        ensures honesty_first { D.honest (first_disk self.new) ≡ D.honest (first_disk self.old) }
+        ensures honesty_second { D.honest (second_disk self.new) ≡ D.honest (second_disk self.old) }
+    {
+        let bytes = match record_bytes(self.alloc, body) {
+            Ok(bytes) => bytes,
+            Err(_) => return Err(AppendError::NoMemory),
+        };
+        match commit(&mut self.current, self.end, &bytes) {
+            Ok(()) => {}
+            Err(_) => return Err(AppendError::DeviceFailed),
+        }
+        let added = bytes.len() as u64;
+        self.end += added;
+        self.record_bytes += added;
+        Ok(())
+    }
+
+    /// The bytes of the open records: their lengths, bodies and gates.
+    pub fn record_bytes(&self) -> u64
+        ensures { result ≡ record_bytes self.now }
+    {
+        self.record_bytes
+    }
+
+    /// The disks, the first and the second as they were handed over. Nothing is written.
+    pub fn close(self) -> (D, D)
+        ensures first { result.0 ≡ first_disk self }
+        ensures second { result.1 ≡ second_disk self }
+    {
+        let Journal {
+            alloc: _,
+            current,
+            other,
+            swapped,
+            generation: _,
+            end: _,
+            record_bytes: _,
+            stray: _,
+            beside: _,
+        } = self;
+        place(swapped, current, other)
+    }
+
+    /// Writes 0 over the gates that a crash left with another value: the one behind the last open record, and the first
+    /// of the file that isn't current unless that is an older generation. Each only where it isn't 0, and with its own
+    /// sync. At `Ok` the journal is ready for records. It takes no memory.
+    ///
+    /// After `DeviceFailed` it is to be opened again.
+    pub fn settle(&mut self) -> Result<(), DeviceFailed>
+        ensures settled { OnOk result ((image : List ℕ) (bodies : List (List ℕ))
+            → Finds D.honest D.seen D.clock D.leaves self.old image bodies
+            → Holds D.honest D.seen D.clock D.leaves self.new image bodies) }
+        ensures run { (image : List ℕ) (bodies : List (List ℕ))
+            → Finds D.honest D.seen D.clock D.leaves self.old image bodies
+            → (a b : ℕ) (pairs : List (List ℕ × List (List ℕ)))
+            → Run D.clock D.leaves a b (first_disk self.old) (second_disk self.old) pairs
+            → Run D.clock D.leaves a b (first_disk self.new) (second_disk self.new) pairs }
+        ensures only_owed { IsReady self.old
+            → (first_disk self.new ≡ first_disk self.old) × (second_disk self.new ≡ second_disk self.old) }
+        ensures each_owed { KeepsUnowed self.old self.new }
+        ensures number { generation self.new ≡ generation self.old }
+        ensures size { record_bytes self.new ≡ record_bytes self.old }
+        ensures cause { CountsFailures (IsErr result)
+            (D.failures (first_disk self.old)) (D.failures (second_disk self.old))
+            (D.failures (first_disk self.new)) (D.failures (second_disk self.new)) }
+        ensures honesty_first { D.honest (first_disk self.new) ≡ D.honest (first_disk self.old) }
+        ensures honesty_second { D.honest (second_disk self.new) ≡ D.honest (second_disk self.old) }
+    {
+        repair(&mut self.current, self.stray, self.end)?;
+        self.stray = false;
+        repair(&mut self.other, self.beside.is_stray(), 0)?;
+        self.beside = self.beside.repaired();
+        Ok(())
+    }
+
+    /// Puts a new generation with an image and no records in the other file, on a journal that is ready. The file that
+    /// was current isn't touched, and stays as the older generation.
+    ///
+    /// Refusals, the first that holds: `GenerationSpent` where the number is 2^64 - 1; `NoMemory`; both change nothing
+    /// and come before any call of a device. After `DeviceFailed` the old generation is current or the new one, and the
+    /// journal is to be opened again. It is one write and a sync, twice, and once more where the other file's first
+    /// gate is to be shut; nothing is read.
+    pub fn install(&mut self, image: &[u8]) -> Result<(), InstallError>
+        requires short { length image.now < 2 ^ 32 }
+        ensures installed { OnOk result ((was : List ℕ) (bodies : List (List ℕ))
+            → Holds D.honest D.seen D.clock D.leaves self.old was bodies
+            → Holds D.honest D.seen D.clock D.leaves self.new image.now []) }
+        ensures run { (was : List ℕ) (bodies : List (List ℕ))
+            → Holds D.honest D.seen D.clock D.leaves self.old was bodies
+            → Run D.clock D.leaves (D.clock (first_disk self.old)) (D.clock (second_disk self.old))
+            (first_disk self.new) (second_disk self.new) ((image.now, []) ∷ (was, bodies) ∷ []) }
+        ensures higher { OnOk result (generation self.new ≡ generation self.old + 1) }
+        ensures emptied { OnOk result (record_bytes self.new ≡ 0) }
+        ensures no_higher { OnErr result ((generation self.new ≡ generation self.old)
+            × (record_bytes self.new ≡ record_bytes self.old)) }
+        ensures untouched { KeepsOne self.old self.new }
+        ensures spent { IsErrOf result InstallError.GenerationSpent
+            ↔ (generation self.old ≡ 2 ^ 64 - 1) }
+        ensures unchanged { IsErrOf result InstallError.GenerationSpent → self.new ≡ self.old }
+        ensures memory { IsErrOf result InstallError.NoMemory → self.new ≡ self.old }
+        ensures cause { CountsFailures (IsErrOf result InstallError.DeviceFailed)
+            (D.failures (first_disk self.old)) (D.failures (second_disk self.old))
+            (D.failures (first_disk self.new)) (D.failures (second_disk self.new)) }
+        ensures honesty_first { D.honest (first_disk self.new) ≡ D.honest (first_disk self.old) }
+        ensures honesty_second { D.honest (second_disk self.new) ≡ D.honest (second_disk self.old) }
+    {
+        if self.generation == u64::MAX {
+            return Err(InstallError::GenerationSpent);
+        }
+        let number = self.generation + 1;
+        let bytes = match generation_bytes(self.alloc, number, image) {
+            Ok(bytes) => bytes,
+            Err(_) => return Err(InstallError::NoMemory),
+        };
+        match replace(&mut self.other, self.beside.is_older(), &bytes) {
+            Ok(()) => {}
+            Err(_) => return Err(InstallError::DeviceFailed),
+        }
+        mem::swap(&mut self.current, &mut self.other);
+        self.swapped = !self.swapped;
+        self.generation = number;
+        self.end = 21 + image.len() as u64;
+        self.record_bytes = 0;
+        self.stray = false;
+        self.beside = Beside::Older;
+        Ok(())
+    }
+}

@@ -1,0 +1,50 @@
+//! A journal of records over two disks, which outlives a crash at any moment. It stands on `ash_disk`, and takes images
+//! and records as strings of bytes of which it knows nothing. It promises that what was acknowledged is there after
+//! every crash, that what was in progress is there whole or not at all, and that opening finds exactly what the bytes
+//! hold or tells what they have for a fault.
+//!
+//! A file, with numbers little-endian:
+//!
+//! | bytes | what |
+//! |---|---|
+//! | 1 | gate: 1 is open, any other value closed |
+//! | 8 | `ASHOST01` |
+//! | 8 | the number of the generation |
+//! | 4 | the length of the image |
+//! | | the image |
+//! | 1 | gate |
+//! | 4 | for each record, the length of its body |
+//! | | its body |
+//! | 1 | gate |
+//!
+//! A record is there where the gate before it is 1. A file is open where its first gate is 1 and something follows. Of
+//! two open files the one with the greater number is current, and the other stays as it is, an older generation.
+//!
+//! Nothing is written behind a gate but while it is 0 on the device, and then the gate is written, alone, as 1: a torn
+//! write changes one byte of which two values matter, and what is behind it is whole by then. So a record is added by a
+//! write and a sync of its length, body and next gate, and a write and a sync of the gate before it; and a generation
+//! is installed by the same two steps in the file that is not current, whose first gate is shut and synced before.
+//! After a crash a gate may hold another value than 0 and 1. It counts as closed, but what stands behind it may be
+//! whole, so `settle` writes 0 over it before anything is written behind it.
+//!
+//! In reading order: `journal` (the calls), `gate` (the only writers), `bytes` (what they write), `creating`,
+//! `opening` and `reading` (two files, and one), `beside` (the file that is not current), `record`, `error`. The words
+//! of the clauses stand in `specs/Layout` (a file), `specs/Current` (two files, and what they settle on), `specs/Runs`
+//! (moments), `specs/Journal` (what a journal holds) and `specs/Opening` (faults).
+#![tactic(auto)]
+
+mod beside;
+mod bytes;
+mod creating;
+mod error;
+mod gate;
+mod journal;
+mod opening;
+mod reading;
+mod record;
+#[cfg(test)]
+mod tests;
+
+pub use error::{AppendError, CreateFault, InstallError, OpenFault};
+pub use journal::{CreateRefused, Journal, OpenRefused, Opened};
+pub use record::Record;

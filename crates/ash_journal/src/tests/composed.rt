@@ -1,0 +1,127 @@
+//! A caller that makes every call once, proved.
+ghost use Rattle.std.specs.Prelude.{◌≡◌, ◌<◌, ◌^◌, ◌∷◌, [], ℕ, List, length, IsTrue, IfOk};
+ghost use Rattle.ash_journal.specs.Reading.{bodies_of};
+ghost use Rattle.ash_journal.specs.Journal.{Holds};
+
+use crate::*;
+use ash_disk::{Disk, MemoryDisk};
+use std::alloc::Global;
+use std::test::Fail;
+
+// Why the caller stopped.
+#[derive(Debug, Drop)]
+enum Stop {
+    Refused,
+    Full,
+}
+
+// A new journal with three records.
+fn three_records<D: Disk + Drop>(
+    alloc: Global,
+    first: D,
+    second: D,
+    image: &[u8],
+    body: &[u8],
+) -> Result<Journal<D>, Stop>
+    requires image_short { length image.now < 2 ^ 32 }
+    requires body_short { length body.now < 2 ^ 32 }
+    ensures { IfOk result (λ j. IsTrue (D.honest first) → IsTrue (D.honest second)
+        → Holds D.honest D.seen D.clock D.leaves j image.now (body.now ∷ body.now ∷ body.now ∷ [])) }
+{
+    let mut journal = match Journal::create(alloc, first, second, image) {
+        Ok(journal) => journal,
+        Err(_) => return Err(Stop::Refused),
+    };
+    match journal.append(body) {
+        Ok(()) => {}
+        Err(_) => return Err(Stop::Refused),
+    }
+    match journal.append(body) {
+        Ok(()) => {}
+        Err(_) => return Err(Stop::Refused),
+    }
+    match journal.append(body) {
+        Ok(()) => Ok(journal),
+        Err(_) => Err(Stop::Refused),
+    }
+}
+
+// A generation and a record more, and then the journal is closed, opened again and settled.
+fn reopened<D: Disk + Drop>(
+    alloc: Global,
+    mut journal: Journal<D>,
+    image: &[u8],
+    body: &[u8],
+) -> Result<Opened<D>, Stop>
+    requires image_short { length image.now < 2 ^ 32 }
+    requires body_short { length body.now < 2 ^ 32 }
+    ensures found { IfOk result (λ o. (was : List ℕ) (bodies : List (List ℕ))
+        → Holds D.honest D.seen D.clock D.leaves journal was bodies
+        → (o.image.items ≡ image.now) × (bodies_of o.records.items ≡ body.now ∷ [])) }
+    ensures ready { IfOk result (λ o. (was : List ℕ) (bodies : List (List ℕ))
+        → Holds D.honest D.seen D.clock D.leaves journal was bodies
+        → Holds D.honest D.seen D.clock D.leaves o.journal image.now (body.now ∷ [])) }
+{
+    match journal.install(image) {
+        Ok(()) => {}
+        Err(_) => return Err(Stop::Refused),
+    }
+    match journal.append(body) {
+        Ok(()) => {}
+        Err(_) => return Err(Stop::Refused),
+    }
+    let (first, second) = journal.close();
+    let mut found = match Journal::open(alloc, first, second) {
+        Ok(found) => found,
+        Err(_) => return Err(Stop::Refused),
+    };
+    match found.journal.settle() {
+        Ok(()) => Ok(found),
+        Err(_) => Err(Stop::Refused),
+    }
+}
+
+// All of that, and one record more.
+fn composed<D: Disk + Drop>(
+    alloc: Global,
+    first: D,
+    second: D,
+    image: &[u8],
+    body: &[u8],
+) -> Result<Journal<D>, Stop>
+    requires image_short { length image.now < 2 ^ 32 }
+    requires body_short { length body.now < 2 ^ 32 }
+    ensures { IfOk result (λ j. IsTrue (D.honest first) → IsTrue (D.honest second)
+        → Holds D.honest D.seen D.clock D.leaves j image.now (body.now ∷ body.now ∷ [])) }
+{
+    let journal = match three_records(alloc, first, second, image, body) {
+        Ok(journal) => journal,
+        Err(stop) => return Err(stop),
+    };
+    let found = match reopened(alloc, journal, image, body) {
+        Ok(found) => found,
+        Err(stop) => return Err(stop),
+    };
+    let mut journal = found.journal;
+    if journal.record_bytes() >= 1 << 62 {
+        return Err(Stop::Full);
+    }
+    match journal.append(body) {
+        Ok(()) => Ok(journal),
+        Err(_) => Err(Stop::Refused),
+    }
+}
+
+#[test]
+fn every_call_once(rt: HostRuntime) -> Result<(), Fail> {
+    let alloc = rt.alloc();
+    let (first, second) = (MemoryDisk::new(alloc), MemoryDisk::new(alloc));
+    let journal = composed(alloc, first, second, b"image", b"body")?;
+    assert_eq!(rt; journal.generation(), 2);
+    assert_eq!(rt; journal.record_bytes(), 18);
+    let (_, second) = journal.close();
+    let file =
+        b"\x01ASHOST01\x02\0\0\0\0\0\0\0\x05\0\0\0image\x01\x04\0\0\0body\x01\x04\0\0\0body\0";
+    assert_eq!(rt; second.bytes(), file.as_slice());
+    Ok(())
+}

@@ -1,0 +1,135 @@
+//! Every cut and every changed byte of a file with three records, against a reading of the layout by hand.
+use super::opened;
+use crate::*;
+use std::alloc::{AllocError, Global};
+use std::test::Fail;
+
+// What a file that is beside an empty one is, read by hand from the layout.
+#[derive(Debug, Drop, PartialEq)]
+enum Expected {
+    Closed,
+    Damaged(u64),
+    // The generation, and the places where the image, each record's body, and the file's open part end.
+    Open(u64, usize, Vec<usize>),
+}
+
+// Where the block from a place on ends, behind its length, or nothing where it or the gate behind it is cut.
+fn block_end(file: &[u8], at: usize) -> Option<usize> {
+    let size = file.get(at..at.checked_add(4)?)?;
+    let mut bytes = 0_usize;
+    for byte in size.iter().rev() {
+        bytes = bytes.wrapping_mul(256).wrapping_add(usize::from(*byte));
+    }
+    let end = at.checked_add(4)?.checked_add(bytes)?;
+    file.get(end)?;
+    Some(end)
+}
+
+fn read_by_hand(alloc: Global, file: &[u8]) -> Result<Expected, AllocError> {
+    if file.len() < 2 || file.first() != Some(&1) {
+        return Ok(Expected::Closed);
+    }
+    let Some(mark) = file.get(1..17) else {
+        return Ok(Expected::Damaged(0));
+    };
+    if mark.get(..8) != Some(b"ASHOST01".as_slice()) {
+        return Ok(Expected::Damaged(0));
+    }
+    let mut generation = 0_u64;
+    for byte in mark.iter().skip(8).rev() {
+        generation = generation.wrapping_mul(256).wrapping_add(u64::from(*byte));
+    }
+    let Some(image) = block_end(file, 17) else {
+        return Ok(Expected::Damaged(0));
+    };
+    let mut ends = Vec::new(alloc);
+    let mut gate = image;
+    for _ in 0..file.len() {
+        if file.get(gate) != Some(&1) {
+            break;
+        }
+        let Some(end) = block_end(file, gate.wrapping_add(1)) else {
+            return Ok(Expected::Damaged(gate as u64));
+        };
+        ends.push(end)?;
+        gate = end;
+    }
+    Ok(Expected::Open(generation, image, ends))
+}
+
+fn found(alloc: Global, file: &[u8]) -> Result<Expected, AllocError> {
+    match opened(alloc, file, b"")? {
+        Err(OpenFault::NoGeneration) => Ok(Expected::Closed),
+        Err(OpenFault::Damaged(at)) => Ok(Expected::Damaged(at)),
+        Err(_) => Err(AllocError),
+        Ok(opened) => {
+            let image = opened.image.len().wrapping_add(21);
+            let mut ends = Vec::new(alloc);
+            for record in &opened.records {
+                let end = (record.gate as usize)
+                    .wrapping_add(5)
+                    .wrapping_add(record.body.len());
+                ends.push(end)?;
+            }
+            Ok(Expected::Open(opened.journal.generation(), image, ends))
+        }
+    }
+}
+
+const FILE: &[u8] =
+    b"\x01ASHOST01\x07\0\0\0\0\0\0\0\x05\0\0\0image\x01\x03\0\0\0one\x01\0\0\0\0\x01\x05\0\0\0three\0junk";
+
+#[test]
+fn every_cut(rt: HostRuntime) -> Result<(), Fail> {
+    let alloc = rt.alloc();
+    for len in 0..=FILE.len() {
+        let file = &FILE[..len];
+        assert_eq!(rt;
+            found(alloc, file)?,
+            read_by_hand(alloc, file)?,
+            "cut to {len}"
+        );
+    }
+    let whole = vec![in alloc; 34, 39, 49]?;
+    assert_eq!(rt; found(alloc, FILE)?, Expected::Open(7, 26, whole));
+    Ok(())
+}
+
+#[test]
+fn every_changed_byte(rt: HostRuntime) -> Result<(), Fail> {
+    let alloc = rt.alloc();
+    for at in 0..FILE.len() {
+        for byte in 0..=255 {
+            let mut file = FILE.to_vec(alloc)?;
+            if let Some(place) = file.as_mut_slice().get_mut(at) {
+                *place = byte;
+            }
+            let file = file.as_slice();
+            assert_eq!(rt;
+                found(alloc, file)?,
+                read_by_hand(alloc, file)?,
+                "{byte} at {at}"
+            );
+        }
+    }
+    Ok(())
+}
+
+#[test]
+fn two_files(rt: HostRuntime) -> Result<(), Fail> {
+    let alloc = rt.alloc();
+    let older = b"\x01ASHOST01\x06\0\0\0\0\0\0\0";
+    let same = b"\x01ASHOST01\x07\0\0\0\0\0\0\0";
+    // Of the older file nothing is read but its gate, magic and number.
+    let both = opened(alloc, older, FILE)?;
+    assert!(rt; matches!(both, Ok(_)));
+    assert!(rt; matches!(opened(alloc, FILE, same)?, Err(OpenFault::Damaged(0))));
+    assert!(rt;
+        matches!(
+            opened(alloc, FILE, b"\x01ASHOST02\x06")?,
+            Err(OpenFault::Damaged(0))
+        )
+    );
+    assert!(rt; matches!(opened(alloc, b"\x02", b"")?, Err(OpenFault::NoGeneration)));
+    Ok(())
+}
