@@ -1,0 +1,5 @@
+use Rattle.ash_tree.proofs.Rows.{block_is}
+use Rattle.ash_tree.proofs.nodes.block.Goals as goal
+
+pub returns : goal.returns
+returns c = block_is c.args.place c.args.body

@@ -1,0 +1,5 @@
+use Rattle.ash_tree.proofs.Rows.{switch_is}
+use Rattle.ash_tree.proofs.nodes.switch.Goals as goal
+
+pub returns : goal.returns
+returns c = switch_is c.args.place c.args.value c.args.labels

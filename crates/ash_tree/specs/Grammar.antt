@@ -1,0 +1,87 @@
+-- The grammar of modules and of registered declarations, one case for each production:
+--
+--   module   = { ";" | class | function | vars ";" }
+--   class    = "class" NAME "{" { member } "}"
+--   member   = function | vars ";" | NAME params block
+--   function = rtype NAME params block
+--   params   = "(" [ type NAME { "," type NAME } ] ")"
+--   rtype    = "void" | type
+--   declaration = rtype NAME "(" [ type [NAME] { "," type [NAME] } ] ")" | type NAME
+use Rattle.std.specs.Prelude.{ℕ, List, [], ◌∷◌, Option, Some, None}
+use Rattle.ash_lex.specs.Tokens.{name, sign, reserved}
+use Rattle.ash_lex.specs.declared.signs.Sign.TheVariants as signs
+use Rattle.ash_lex.specs.declared.words.ReservedWord.TheVariants as words
+use Rattle.ash_tree.specs.declared.tree.places.Place.{Place}
+use Rattle.ash_tree.specs.Tree.{Named, Vars, Stmt, Parameter, Function, Member, AMethod, AField, AConstructor, Class, Item, AClass, AFunction, AGlobal, Declaration, ASignature, AProperty}
+use Rattle.ash_tree.specs.Tokens.{Tokens}
+use Rattle.ash_tree.specs.Statements.{IsType, IsVars, IsBlock}
+
+-- rtype = "void" | type
+pub data IsResultType : Tokens → Option Named → Tokens → Type 0 where
+  void : {p : Place} {left : Tokens} → IsResultType ((reserved words.Void, p) ∷ left) None left
+  typed : {from left : Tokens} {t : Named} → IsType from t left → IsResultType from (Some t) left
+
+-- type NAME
+pub data IsParameter : Tokens → Parameter → Tokens → Type 0 where
+  parameter : {p : Place} {text : List ℕ} {from left : Tokens} {t : Named} → IsType from t ((name text, p) ∷ left) → IsParameter from (record { of = t; place = p; name = text }) left
+
+-- { "," type NAME }
+pub data AreMoreParameters : Tokens → List Parameter → Tokens → Type 0 where
+  no_more_parameters : {left : Tokens} → AreMoreParameters left [] left
+  more_parameters : {p : Place} {from behind left : Tokens} {x : Parameter} {xs : List Parameter} → IsParameter from x behind → AreMoreParameters behind xs left → AreMoreParameters ((sign signs.Comma, p) ∷ from) (x ∷ xs) left
+
+-- params = "(" [ type NAME { "," type NAME } ] ")"
+pub data AreParameters : Tokens → List Parameter → Tokens → Type 0 where
+  no_parameters : {p q : Place} {left : Tokens} → AreParameters ((sign signs.OpenParenthesis, p) ∷ (sign signs.CloseParenthesis, q) ∷ left) [] left
+  parameters : {p q : Place} {from behind left : Tokens} {x : Parameter} {xs : List Parameter} → IsParameter from x behind → AreMoreParameters behind xs ((sign signs.CloseParenthesis, q) ∷ left) → AreParameters ((sign signs.OpenParenthesis, p) ∷ from) (x ∷ xs) left
+
+-- function = rtype NAME params block
+pub data IsFunction : ℕ → Tokens → Function → Tokens → Type 0 where
+  function : {free : ℕ} {p : Place} {text : List ℕ} {from behind inside left : Tokens} {r : Option Named} {xs : List Parameter} {body : List Stmt} → IsResultType from r ((name text, p) ∷ behind) → AreParameters behind xs inside → IsBlock free 0 inside body left → IsFunction free from (record { place = p; result = r; name = text; parameters = xs; body = body }) left
+
+-- member = function | vars ";" | NAME params block
+pub data IsMember : ℕ → Tokens → Member → Tokens → Type 0 where
+  method : {free : ℕ} {from left : Tokens} {f : Function} → IsFunction free from f left → IsMember free from (AMethod f) left
+  fields : {free : ℕ} {p : Place} {from left : Tokens} {v : Vars} → IsVars free 0 from v ((sign signs.Semicolon, p) ∷ left) → IsMember free from (AField v) left
+  constructor : {free : ℕ} {p : Place} {text : List ℕ} {from inside left : Tokens} {xs : List Parameter} {body : List Stmt} → AreParameters from xs inside → IsBlock free 0 inside body left → IsMember free ((name text, p) ∷ from) (AConstructor (record { place = p; name = text; parameters = xs; body = body })) left
+
+-- { member }
+pub data AreMembers : ℕ → Tokens → List Member → Tokens → Type 0 where
+  no_members : {free : ℕ} {left : Tokens} → AreMembers free left [] left
+  more_members : {free : ℕ} {from behind left : Tokens} {x : Member} {xs : List Member} → IsMember free from x behind → AreMembers free behind xs left → AreMembers free from (x ∷ xs) left
+
+-- class = "class" NAME "{" { member } "}"
+pub data IsClass : ℕ → Tokens → Class → Tokens → Type 0 where
+  class : {free : ℕ} {p q o z : Place} {text : List ℕ} {from left : Tokens} {xs : List Member} → AreMembers free from xs ((sign signs.CloseBrace, z) ∷ left) → IsClass free ((reserved words.Class, p) ∷ (name text, q) ∷ (sign signs.OpenBrace, o) ∷ from) (record { place = q; name = text; members = xs }) left
+
+-- class | function | vars ";"
+pub data IsItem : ℕ → Tokens → Item → Tokens → Type 0 where
+  a_class : {free : ℕ} {from left : Tokens} {c : Class} → IsClass free from c left → IsItem free from (AClass c) left
+  a_function : {free : ℕ} {from left : Tokens} {f : Function} → IsFunction free from f left → IsItem free from (AFunction f) left
+  globals : {free : ℕ} {p : Place} {from left : Tokens} {v : Vars} → IsVars free 0 from v ((sign signs.Semicolon, p) ∷ left) → IsItem free from (AGlobal v) left
+
+-- module = { ";" | class | function | vars ";" }: the tokens are those of a module with these items, all of them
+pub data Derives : ℕ → Tokens → List Item → Type 0 where
+  no_items : {free : ℕ} → Derives free [] []
+  semicolon : {free : ℕ} {p : Place} {from : Tokens} {xs : List Item} → Derives free from xs → Derives free ((sign signs.Semicolon, p) ∷ from) xs
+  item : {free : ℕ} {from behind : Tokens} {x : Item} {xs : List Item} → IsItem free from x behind → Derives free behind xs → Derives free from (x ∷ xs)
+
+-- type [NAME]
+pub data IsUnnamed : Tokens → Named → Tokens → Type 0 where
+  unnamed : {from left : Tokens} {t : Named} → IsType from t left → IsUnnamed from t left
+  with_name : {p : Place} {text : List ℕ} {from left : Tokens} {t : Named} → IsType from t ((name text, p) ∷ left) → IsUnnamed from t left
+
+-- { "," type [NAME] }
+pub data AreMoreUnnamed : Tokens → List Named → Tokens → Type 0 where
+  no_more_unnamed : {left : Tokens} → AreMoreUnnamed left [] left
+  more_unnamed : {p : Place} {from behind left : Tokens} {x : Named} {xs : List Named} → IsUnnamed from x behind → AreMoreUnnamed behind xs left → AreMoreUnnamed ((sign signs.Comma, p) ∷ from) (x ∷ xs) left
+
+-- "(" [ type [NAME] { "," type [NAME] } ] ")"
+pub data AreUnnamed : Tokens → List Named → Tokens → Type 0 where
+  no_unnamed : {p q : Place} {left : Tokens} → AreUnnamed ((sign signs.OpenParenthesis, p) ∷ (sign signs.CloseParenthesis, q) ∷ left) [] left
+  some_unnamed : {p q : Place} {from behind left : Tokens} {x : Named} {xs : List Named} → IsUnnamed from x behind → AreMoreUnnamed behind xs ((sign signs.CloseParenthesis, q) ∷ left) → AreUnnamed ((sign signs.OpenParenthesis, p) ∷ from) (x ∷ xs) left
+
+-- declaration = rtype NAME "(" [ type [NAME] { "," type [NAME] } ] ")" | type NAME: all of the tokens
+pub data Declares : Tokens → Declaration → Type 0 where
+  signature : {p : Place} {text : List ℕ} {from behind : Tokens} {r : Option Named} {xs : List Named} → IsResultType from r ((name text, p) ∷ behind) → AreUnnamed behind xs [] → Declares from (ASignature (record { place = p; result = r; name = text; parameters = xs }))
+  property : {p : Place} {text : List ℕ} {from : Tokens} {t : Named} → IsType from t ((name text, p) ∷ []) → Declares from (AProperty (record { place = p; of = t; name = text }))

@@ -1,0 +1,19 @@
+-- The tokens of a script as the grammar sees them: what each means, and its place.
+use Rattle.std.specs.Prelude.{List, map}
+use Rattle.ash_lex.specs.Tokens.{Meaning, meaning_of}
+use Rattle.ash_lex.specs.declared.tokens.Token.{Token}
+use Rattle.ash_tree.specs.declared.tree.places.Place.{Place}
+
+-- tokens in order
+abbrev pub Tokens : Type 0
+Tokens = List (Meaning × Place)
+
+-- where a token stands: its first byte, and its line
+abbrev pub place_of_token : Token → Place
+place_of_token t = record { at = t.from; line = t.line }
+
+abbrev pub placed : Token → Meaning × Place
+placed t = (meaning_of t.kind, place_of_token t)
+
+abbrev pub tokens_of : List Token → Tokens
+tokens_of ts = map placed ts

@@ -1,0 +1,206 @@
+-- The trees of scripts, without where their parts lie in memory. Each node stands at a place.
+use Rattle.std.specs.Prelude.{ℕ, Bool, List, [], ◌∷◌, Option}
+use Rattle.ash_tree.specs.declared.tree.places.Place.{Place}
+use Rattle.ash_tree.specs.declared.tree.types.Primitive.{Primitive}
+use Rattle.ash_tree.specs.declared.tree.operators.UnaryOp.{UnaryOp}
+use Rattle.ash_tree.specs.declared.tree.operators.BinaryOp.{BinaryOp}
+use Rattle.ash_tree.specs.declared.tree.operators.AssignOp.{AssignOp}
+use Rattle.ash_tree.specs.declared.tree.statements.Label.{Label}
+
+-- a type as it is written: a primitive, an object type, or a handle of one
+pub data Named : Type 0 where
+  Prim : Place → Primitive → Named
+  Object : Place → List ℕ → Named
+  Handle : Place → List ℕ → Named
+
+-- an expression; the arguments of a call, the suffixes of an operand and the operators of one level stand as lists
+mutual
+  pub data Expr : Type 0 where
+    Number : Place → ℕ → Expr
+    Truth : Place → Bool → Expr
+    Null : Place → Expr
+    This : Place → Expr
+    Name : Place → List ℕ → Expr
+    Call : Place → List ℕ → Exprs → Expr
+    Brackets : Place → Expr → Expr
+    Convert : Place → Primitive → Expr → Expr
+    Postfix : Place → Expr → Suffixes → Expr
+    Unary : Place → UnaryOp → Expr → Expr
+    Binary : Place → Expr → Links → Expr
+    Conditional : Place → Expr → Expr → Expr → Expr
+    Assign : Place → Expr → AssignOp → Expr → Expr
+
+  pub data Exprs : Type 0 where
+    no_expr : Exprs
+    expr : Expr → Exprs → Exprs
+
+  -- what stands behind an operand
+  pub data Suffix : Type 0 where
+    Field : Place → List ℕ → Suffix
+    Method : Place → List ℕ → Exprs → Suffix
+    Increment : Suffix
+    Decrement : Suffix
+
+  pub data Suffixes : Type 0 where
+    no_suffix : Suffixes
+    suffix : Suffix → Suffixes → Suffixes
+
+  -- each operator of a level with its right operand
+  pub data Links : Type 0 where
+    no_link : Links
+    link : BinaryOp → Expr → Links → Links
+
+-- what a variable begins with
+pub data Initializer : Type 0 where
+  Default : Initializer
+  Value : Expr → Initializer
+  Arguments : List Expr → Initializer
+
+pub record Decl : Type 0 where
+  pub place : Place
+  pub name : List ℕ
+  pub initializer : Initializer
+
+-- variables of one type
+pub record Vars : Type 0 where
+  pub of : Named
+  pub decls : List Decl
+
+-- a statement, or the declaration of variables in a block
+mutual
+  pub data Stmt : Type 0 where
+    Empty : Place → Stmt
+    Declare : Place → Vars → Stmt
+    Evaluate : Place → Expr → Stmt
+    Block : Place → Stmts → Stmt
+    If : Place → Expr → Stmt → Stmt
+    IfElse : Place → Expr → Stmt → Stmt → Stmt
+    While : Place → Expr → Stmt → Stmt
+    DoWhile : Place → Stmt → Expr → Stmt
+    For : Place → Stmt → Option Expr → List Expr → Stmt → Stmt
+    Switch : Place → Expr → Cases → Stmt
+    Break : Place → Stmt
+    Continue : Place → Stmt
+    Return : Place → Option Expr → Stmt
+
+  pub data Stmts : Type 0 where
+    no_stmt : Stmts
+    stmt : Stmt → Stmts → Stmts
+
+  -- a label of a switch, with the statements behind it
+  pub data Case : Type 0 where
+    labelled : Place → Label → Stmts → Case
+
+  pub data Cases : Type 0 where
+    no_case : Cases
+    next_case : Case → Cases → Cases
+
+pub record Parameter : Type 0 where
+  pub of : Named
+  pub place : Place
+  pub name : List ℕ
+
+-- a function, which is void without a result
+pub record Function : Type 0 where
+  pub place : Place
+  pub result : Option Named
+  pub name : List ℕ
+  pub parameters : List Parameter
+  pub body : List Stmt
+
+pub record Constructor : Type 0 where
+  pub place : Place
+  pub name : List ℕ
+  pub parameters : List Parameter
+  pub body : List Stmt
+
+-- a member of a class
+pub data Member : Type 0 where
+  AMethod : Function → Member
+  AField : Vars → Member
+  AConstructor : Constructor → Member
+
+pub record Class : Type 0 where
+  pub place : Place
+  pub name : List ℕ
+  pub members : List Member
+
+-- an item of a module
+pub data Item : Type 0 where
+  AClass : Class → Item
+  AFunction : Function → Item
+  AGlobal : Vars → Item
+
+-- a function without a body
+pub record Signature : Type 0 where
+  pub place : Place
+  pub result : Option Named
+  pub name : List ℕ
+  pub parameters : List Named
+
+pub record Property : Type 0 where
+  pub place : Place
+  pub of : Named
+  pub name : List ℕ
+
+-- what a host registers
+pub data Declaration : Type 0 where
+  ASignature : Signature → Declaration
+  AProperty : Property → Declaration
+
+-- where an expression stands: its first token
+abbrev pub place_of : Expr → Place
+place_of (Number p n) = p
+place_of (Truth p b) = p
+place_of (Null p) = p
+place_of (This p) = p
+place_of (Name p t) = p
+place_of (Call p t es) = p
+place_of (Brackets p e) = p
+place_of (Convert p k e) = p
+place_of (Postfix p e ss) = p
+place_of (Unary p o e) = p
+place_of (Binary p e ls) = p
+place_of (Conditional p c a b) = p
+place_of (Assign p e o v) = p
+
+abbrev pub place_of_type : Named → Place
+place_of_type (Prim p k) = p
+place_of_type (Object p t) = p
+place_of_type (Handle p t) = p
+
+-- the lists in a tree, from lists
+abbrev pub exprs : List Expr → Exprs
+exprs [] = no_expr
+exprs (e ∷ es) = expr e (exprs es)
+
+abbrev pub suffixes : List Suffix → Suffixes
+suffixes [] = no_suffix
+suffixes (s ∷ ss) = suffix s (suffixes ss)
+
+-- an operator with its right operand
+pub record Operation : Type 0 where
+  pub operator : BinaryOp
+  pub operand : Expr
+
+abbrev pub links : List Operation → Links
+links [] = no_link
+links (l ∷ ls) = link l.operator l.operand (links ls)
+
+abbrev pub stmts : List Stmt → Stmts
+stmts [] = no_stmt
+stmts (s ∷ ss) = stmt s (stmts ss)
+
+abbrev pub cases : List Case → Cases
+cases [] = no_case
+cases (c ∷ cs) = next_case c (cases cs)
+
+-- an operand alone is itself, and with operators behind it one node with all of them
+abbrev pub chained : Expr → List Operation → Expr
+chained first [] = first
+chained first (l ∷ ls) = Binary (place_of first) first (links (l ∷ ls))
+
+-- an operand alone is itself, and with suffixes behind it one node with all of them
+abbrev pub suffixed : Expr → List Suffix → Expr
+suffixed operand [] = operand
+suffixed operand (s ∷ ss) = Postfix (place_of operand) operand (suffixes (s ∷ ss))

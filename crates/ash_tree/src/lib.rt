@@ -1,0 +1,23 @@
+//! Trees of scripts and the grammar that they are derived by.
+//!
+//! A tree is what the tokens of a script derive: `specs/Grammar.antt` says which tokens derive which tree, one
+//! case for each production. What reads tokens stands in `ash_parse`, and whatever goes over scripts goes over
+//! these trees. It stands on `ash_lex`, whose tokens the grammar is about.
+//!
+//! In reading order: `tree`, what a script is made of: `places`, `types`, `operators`, `expressions`,
+//! `statements`, `items`. A node tells the offset that a fault in it names and the line that a tick before it
+//! sets. Operators of one level and the suffixes of an operand stand as lists, so that a tree is as deep as its
+//! brackets and statements nest, and no deeper where a sum is long.
+#![tactic(auto)]
+
+pub mod nodes;
+mod tree;
+
+pub use tree::expressions::{Expr, ExprKind, Link, Suffix};
+pub use tree::items::{
+    Class, Constructor, Declaration, Function, Item, Member, Module, Parameter, Property, Signature,
+};
+pub use tree::operators::{AssignOp, BinaryOp, UnaryOp};
+pub use tree::places::Place;
+pub use tree::statements::{Case, Decl, Initializer, Label, Stmt, StmtKind, Vars};
+pub use tree::types::{Primitive, Type, TypeKind};

@@ -1,0 +1,259 @@
+//! Nodes that hold lists.
+
+ghost use Rattle.std.specs.Prelude.{◌≡◌, map, option_map, string_bytes, IfOk};
+ghost use Rattle.ash_tree.specs.Tree.{If, IfElse, While, DoWhile, For, Brackets, Convert, Unary, Conditional, Assign, Evaluate, Declare, place_of, place_of_type, Block, Switch, labelled, stmts, cases, Call, Method, exprs, chained, suffixed};
+ghost use Rattle.ash_tree.specs.Views.{expr_of, suffix_of, operation_of, stmt_of, case_of, type_of, vars_of};
+
+use crate::tree::expressions::{Expr, ExprKind, Link, Suffix};
+use crate::tree::operators::{AssignOp, UnaryOp};
+use crate::tree::places::Place;
+use crate::tree::statements::{Case, Label, Stmt, StmtKind, Vars};
+use crate::tree::types::Primitive;
+use std::alloc::{AllocError, Global};
+
+pub fn call(place: Place, name: String, arguments: Vec<Expr>) -> Expr
+    ensures { expr_of result ≡ Call place (string_bytes name) (exprs (map expr_of arguments.items)) }
+{
+    Expr {
+        place,
+        kind: ExprKind::Call { name, arguments },
+    }
+}
+
+pub fn method(place: Place, name: String, arguments: Vec<Expr>) -> Suffix
+    ensures { suffix_of result ≡ Method place (string_bytes name) (exprs (map expr_of arguments.items)) }
+{
+    Suffix::Method {
+        place,
+        name,
+        arguments,
+    }
+}
+
+/// The operand alone, or with the operators behind it.
+pub fn binary(alloc: Global, first: Expr, links: Vec<Link>) -> Result<Expr, AllocError>
+    ensures { IfOk result (λ e. expr_of e ≡ chained (expr_of first) (map operation_of links.items)) }
+{
+    if links.is_empty() {
+        return Ok(first);
+    }
+    Ok(Expr {
+        place: first.place,
+        kind: ExprKind::Binary {
+            first: Box::new(alloc, first)?,
+            links,
+        },
+    })
+}
+
+/// The operand alone, or with the suffixes behind it.
+pub fn postfix(alloc: Global, operand: Expr, suffixes: Vec<Suffix>) -> Result<Expr, AllocError>
+    ensures { IfOk result (λ e. expr_of e ≡ suffixed (expr_of operand) (map suffix_of suffixes.items)) }
+{
+    if suffixes.is_empty() {
+        return Ok(operand);
+    }
+    Ok(Expr {
+        place: operand.place,
+        kind: ExprKind::Postfix {
+            operand: Box::new(alloc, operand)?,
+            suffixes,
+        },
+    })
+}
+
+pub fn block(place: Place, body: Vec<Stmt>) -> Stmt
+    ensures { stmt_of result ≡ Block place (stmts (map stmt_of body.items)) }
+{
+    Stmt {
+        place,
+        kind: StmtKind::Block(body),
+    }
+}
+
+pub fn switch(place: Place, value: Expr, labels: Vec<Case>) -> Stmt
+    ensures { stmt_of result ≡ Switch place (expr_of value) (cases (map case_of labels.items)) }
+{
+    Stmt {
+        place,
+        kind: StmtKind::Switch {
+            value,
+            cases: labels,
+        },
+    }
+}
+
+pub fn case(place: Place, label: Label, body: Vec<Stmt>) -> Case
+    ensures { case_of result ≡ labelled place label (stmts (map stmt_of body.items)) }
+{
+    Case { place, label, body }
+}
+
+/// `(inner)`
+pub fn brackets(alloc: Global, place: Place, inner: Expr) -> Result<Expr, AllocError>
+    ensures { IfOk result (λ e. expr_of e ≡ Brackets place (expr_of inner)) }
+{
+    let kind = ExprKind::Brackets(Box::new(alloc, inner)?);
+    Ok(Expr { place, kind })
+}
+
+/// `to(value)`
+pub fn convert(alloc: Global, place: Place, to: Primitive, value: Expr) -> Result<Expr, AllocError>
+    ensures { IfOk result (λ e. expr_of e ≡ Convert place to (expr_of value)) }
+{
+    let value = Box::new(alloc, value)?;
+    let kind = ExprKind::Convert { to, value };
+    Ok(Expr { place, kind })
+}
+
+pub fn unary(
+    alloc: Global,
+    place: Place,
+    operator: UnaryOp,
+    operand: Expr,
+) -> Result<Expr, AllocError>
+    ensures { IfOk result (λ e. expr_of e ≡ Unary place operator (expr_of operand)) }
+{
+    let operand = Box::new(alloc, operand)?;
+    let kind = ExprKind::Unary { operator, operand };
+    Ok(Expr { place, kind })
+}
+
+/// `condition ? then : otherwise`
+#[tactic(auto, using(crate::proofs::Rows::place_is))]
+pub fn conditional(
+    alloc: Global,
+    condition: Expr,
+    then: Expr,
+    otherwise: Expr,
+) -> Result<Expr, AllocError>
+    ensures { IfOk result (λ e. expr_of e ≡ Conditional (place_of (expr_of condition)) (expr_of condition) (expr_of then) (expr_of otherwise)) }
+{
+    let place = condition.place;
+    let condition = Box::new(alloc, condition)?;
+    let then = Box::new(alloc, then)?;
+    let otherwise = Box::new(alloc, otherwise)?;
+    let kind = ExprKind::Conditional {
+        condition,
+        then,
+        otherwise,
+    };
+    Ok(Expr { place, kind })
+}
+
+/// `target operator value`
+#[tactic(auto, using(crate::proofs::Rows::place_is))]
+pub fn assign(
+    alloc: Global,
+    target: Expr,
+    operator: AssignOp,
+    value: Expr,
+) -> Result<Expr, AllocError>
+    ensures { IfOk result (λ e. expr_of e ≡ Assign (place_of (expr_of target)) (expr_of target) operator (expr_of value)) }
+{
+    let place = target.place;
+    let target = Box::new(alloc, target)?;
+    let value = Box::new(alloc, value)?;
+    let kind = ExprKind::Assign {
+        target,
+        operator,
+        value,
+    };
+    Ok(Expr { place, kind })
+}
+
+/// The statement that only evaluates an expression.
+#[tactic(auto, using(crate::proofs::Rows::place_is))]
+pub fn evaluate(value: Expr) -> Stmt
+    ensures { stmt_of result ≡ Evaluate (place_of (expr_of value)) (expr_of value) }
+{
+    Stmt {
+        place: value.place,
+        kind: StmtKind::Expr(value),
+    }
+}
+
+/// The declaration of variables in a block.
+#[tactic(auto, using(crate::proofs::Rows::type_place_is))]
+pub fn declare(vars: Vars) -> Stmt
+    ensures { stmt_of result ≡ Declare (place_of_type (type_of vars.of)) (vars_of vars) }
+{
+    Stmt {
+        place: vars.of.place,
+        kind: StmtKind::Vars(vars),
+    }
+}
+
+/// `if (condition) then`
+pub fn if_only(alloc: Global, place: Place, condition: Expr, then: Stmt) -> Result<Stmt, AllocError>
+    ensures { IfOk result (λ s. stmt_of s ≡ If place (expr_of condition) (stmt_of then)) }
+{
+    let then = Box::new(alloc, then)?;
+    let kind = StmtKind::If { condition, then };
+    Ok(Stmt { place, kind })
+}
+
+/// `if (condition) then else otherwise`
+pub fn if_else(
+    alloc: Global,
+    place: Place,
+    condition: Expr,
+    then: Stmt,
+    otherwise: Stmt,
+) -> Result<Stmt, AllocError>
+    ensures { IfOk result (λ s. stmt_of s ≡ IfElse place (expr_of condition) (stmt_of then) (stmt_of otherwise)) }
+{
+    let then = Box::new(alloc, then)?;
+    let otherwise = Box::new(alloc, otherwise)?;
+    let kind = StmtKind::IfElse {
+        condition,
+        then,
+        otherwise,
+    };
+    Ok(Stmt { place, kind })
+}
+
+/// `while (condition) body`
+pub fn while_loop(
+    alloc: Global,
+    place: Place,
+    condition: Expr,
+    body: Stmt,
+) -> Result<Stmt, AllocError>
+    ensures { IfOk result (λ s. stmt_of s ≡ While place (expr_of condition) (stmt_of body)) }
+{
+    let body = Box::new(alloc, body)?;
+    let kind = StmtKind::While { condition, body };
+    Ok(Stmt { place, kind })
+}
+
+/// `do body while (condition);`
+pub fn do_loop(alloc: Global, place: Place, body: Stmt, condition: Expr) -> Result<Stmt, AllocError>
+    ensures { IfOk result (λ s. stmt_of s ≡ DoWhile place (stmt_of body) (expr_of condition)) }
+{
+    let body = Box::new(alloc, body)?;
+    let kind = StmtKind::DoWhile { body, condition };
+    Ok(Stmt { place, kind })
+}
+
+/// `for (first; condition; steps) body`
+pub fn for_loop(
+    alloc: Global,
+    place: Place,
+    first: Stmt,
+    condition: Option<Expr>,
+    steps: Vec<Expr>,
+    body: Stmt,
+) -> Result<Stmt, AllocError>
+    ensures { IfOk result (λ s. stmt_of s ≡ For place (stmt_of first) (option_map expr_of condition) (map expr_of steps.items) (stmt_of body)) }
+{
+    let first = Box::new(alloc, first)?;
+    let body = Box::new(alloc, body)?;
+    let kind = StmtKind::For {
+        first,
+        condition,
+        steps,
+        body,
+    };
+    Ok(Stmt { place, kind })
+}

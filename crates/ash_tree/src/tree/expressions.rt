@@ -1,0 +1,91 @@
+//! Expressions (AngelScript manual, "Expressions").
+
+use crate::tree::operators::{AssignOp, BinaryOp, UnaryOp};
+use crate::tree::places::Place;
+use crate::tree::types::Primitive;
+
+/// An expression, at its first token.
+#[cycle(expressions)]
+#[derive(Debug, PartialEq, Eq, Drop)]
+pub struct Expr {
+    pub place: Place,
+    pub kind: ExprKind,
+}
+
+/// What an expression is.
+#[cycle(expressions)]
+#[derive(Debug, PartialEq, Eq, Drop)]
+pub enum ExprKind {
+    Number(u64),
+    Bool(bool),
+    Null,
+    This,
+    Name(String),
+    /// `name(arguments)`
+    Call {
+        name: String,
+        arguments: Vec<Expr>,
+    },
+    /// `(inner)`
+    Brackets(Box<Expr>),
+    /// `to(value)`
+    Convert {
+        to: Primitive,
+        value: Box<Expr>,
+    },
+    /// An operand with suffixes, one at the least, in the order in which they stand.
+    Postfix {
+        operand: Box<Expr>,
+        suffixes: Vec<Suffix>,
+    },
+    Unary {
+        operator: UnaryOp,
+        operand: Box<Expr>,
+    },
+    /// Operands of operators of one level, one operator at the least. They group to the left.
+    Binary {
+        first: Box<Expr>,
+        links: Vec<Link>,
+    },
+    /// `condition ? then : otherwise`
+    Conditional {
+        condition: Box<Expr>,
+        then: Box<Expr>,
+        otherwise: Box<Expr>,
+    },
+    /// `target operator value`
+    Assign {
+        target: Box<Expr>,
+        operator: AssignOp,
+        value: Box<Expr>,
+    },
+}
+
+/// What stands behind an operand.
+#[cycle(expressions)]
+#[derive(Debug, PartialEq, Eq, Drop)]
+pub enum Suffix {
+    /// `.name`, at the name
+    Field {
+        place: Place,
+        name: String,
+    },
+    /// `.name(arguments)`, at the name
+    Method {
+        place: Place,
+        name: String,
+        arguments: Vec<Expr>,
+    },
+    /// `++`
+    Increment,
+    /// `--`
+    Decrement,
+}
+
+/// An operator and its right operand.
+#[cycle(expressions)]
+#[derive(Debug, PartialEq, Eq, Drop)]
+pub struct Link {
+    pub operator: BinaryOp,
+    pub operand: Expr,
+}

@@ -1,0 +1,86 @@
+//! What a script declares, and what a host registers.
+
+use crate::tree::places::Place;
+use crate::tree::statements::{Stmt, Vars};
+use crate::tree::types::Type;
+
+/// A script: what it declares, in order.
+#[derive(Debug, PartialEq, Eq, Drop)]
+pub struct Module {
+    pub items: Vec<Item>,
+}
+
+/// A declaration of a module.
+#[derive(Debug, PartialEq, Eq, Drop)]
+pub enum Item {
+    Class(Class),
+    Function(Function),
+    Vars(Vars),
+}
+
+/// A class, at its name.
+#[derive(Debug, PartialEq, Eq, Drop)]
+pub struct Class {
+    pub place: Place,
+    pub name: String,
+    pub members: Vec<Member>,
+}
+
+/// What a class declares.
+#[derive(Debug, PartialEq, Eq, Drop)]
+pub enum Member {
+    Function(Function),
+    Vars(Vars),
+    Constructor(Constructor),
+}
+
+/// A function, at its name. Without a result type it is `void`.
+#[derive(Debug, PartialEq, Eq, Drop)]
+pub struct Function {
+    pub place: Place,
+    pub result: Option<Type>,
+    pub name: String,
+    pub parameters: Vec<Parameter>,
+    pub body: Vec<Stmt>,
+}
+
+/// `name(parameters) { body }` in a class, at the name.
+#[derive(Debug, PartialEq, Eq, Drop)]
+pub struct Constructor {
+    pub place: Place,
+    pub name: String,
+    pub parameters: Vec<Parameter>,
+    pub body: Vec<Stmt>,
+}
+
+/// A parameter of a function, at its name.
+#[derive(Debug, PartialEq, Eq, Drop)]
+pub struct Parameter {
+    pub of: Type,
+    pub place: Place,
+    pub name: String,
+}
+
+/// What a host registers.
+#[derive(Debug, PartialEq, Eq, Drop)]
+pub enum Declaration {
+    Function(Signature),
+    Property(Property),
+}
+
+/// A function without a body, at its name. Names of parameters are not kept.
+#[derive(Debug, PartialEq, Eq, Drop)]
+pub struct Signature {
+    pub place: Place,
+    pub result: Option<Type>,
+    pub name: String,
+    pub parameters: Vec<Type>,
+}
+
+/// A property, at its name.
+#[derive(Debug, PartialEq, Eq, Drop)]
+pub struct Property {
+    pub place: Place,
+    pub of: Type,
+    pub name: String,
+}

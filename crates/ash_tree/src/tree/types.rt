@@ -1,0 +1,35 @@
+//! Types as they are written (AngelScript manual, "Data types").
+
+use crate::tree::places::Place;
+
+/// A type that is no object type.
+#[derive(Clone, Copy, Debug, PartialEq, Eq)]
+pub enum Primitive {
+    /// `bool`
+    Bool,
+    /// `int` or `int32`
+    Int,
+    /// `int64`
+    Int64,
+    /// `uint` or `uint32`
+    Uint,
+    /// `uint64`
+    Uint64,
+}
+
+/// A type, at its first token.
+#[derive(Debug, PartialEq, Eq, Drop)]
+pub struct Type {
+    pub place: Place,
+    pub kind: TypeKind,
+}
+
+/// What a type is.
+#[derive(Debug, PartialEq, Eq, Drop)]
+pub enum TypeKind {
+    Primitive(Primitive),
+    /// A class or a registered type, by its name.
+    Object(String),
+    /// A handle of one: `name@`.
+    Handle(String),
+}
