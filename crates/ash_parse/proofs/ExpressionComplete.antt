@@ -1,0 +1,368 @@
+-- What is in the grammar of expressions is read.
+use Rattle.std.proofs.Common.{◌≡◌, ℕ, zero, suc, ◌+◌, ◌<◌, ◌==◌, List, [], ◌∷◌, length, Bool, true, false, Some, None, Ok, refl, ap, arith}
+use Rattle.std.proofs.lemmas.Bool.Decides.{nat_tests}
+use Rattle.ash_lex.specs.Tokens.{Meaning, name, sign, reserved}
+use Rattle.ash_lex.specs.declared.signs.Sign.TheVariants as signs
+use Rattle.ash_lex.specs.declared.words.ReservedWord.TheVariants as words
+use Rattle.ash_tree.specs.declared.tree.places.Place.{Place}
+use Rattle.ash_tree.specs.declared.tree.types.Primitive.{Primitive}
+use Rattle.ash_tree.specs.declared.tree.operators.UnaryOp.{UnaryOp}
+use Rattle.ash_tree.specs.declared.tree.operators.BinaryOp.{BinaryOp}
+use Rattle.ash_tree.specs.declared.tree.operators.AssignOp.{AssignOp}
+use Rattle.ash_tree.specs.Tree.{Expr, Name, Call, Brackets, Convert, Unary, Conditional, Assign, Suffix, Field, Method, Operation, place_of, exprs, chained, suffixed}
+use Rattle.ash_tree.specs.Tokens.{Tokens}
+use Rattle.ash_tree.specs.Operators.{primitive, unary_operator, binary_operator, level, LEVELS, assign_operator}
+use Rattle.ash_tree.specs.Expressions.{IsInner, inner, AreExprs, no_exprs, some_exprs, AreMoreExprs, no_more_exprs, more_exprs, IsArgs, args, IsAssign, no_assign, assign, IsCond, no_branch, branches, IsBinary, operand, joined, AreLinks, no_links, more_links, IsUnary, applied, postfix, AreSuffixes, no_suffixes, more_suffixes, IsSuffix, field, method, increment, decrement, IsPrimary, numeral, yes, no, null, this, named, call, brackets, convert}
+use Rattle.ash_parse.specs.Signs.{is_sign, same_sign}
+use Rattle.ash_parse.specs.Reading.{put, next_is, next_is_sign}
+use Rattle.ash_parse.specs.ExpressionReader.{Below, begins, next_expr_with, more_exprs_with, exprs_with, arguments_with, bracketed_with, named_with, primary_with, begins_suffix, is_suffix, member_with, suffix_with, suffixes_with, postfix_with, unary_with, operator_at, is_link, link_by, links_by, chain_by, binary_with, branches_with, assign_from, assign_with, below_at}
+use Rattle.ash_parse.proofs.Readings.{expect_again, next_is_sign-again, name_again}
+use Rattle.ash_parse.proofs.ExpressionShorter.{inner_shorter, assign_shorter, binary_shorter, unary_shorter, suffix_shorter}
+use Rattle.ash_parse.proofs.Rereading.{no_some, no_true, ReadsAll, none_again, one_again}
+
+-- an operand that operators up to a level join ends here: no arguments, no suffix and none of these operators follow
+abbrev pub Stops : ℕ → Tokens → Type 0
+Stops n left = (next_is_sign signs.OpenParenthesis left ≡ false) × (is_suffix left ≡ false) × ((k : ℕ) → k < n → is_link k left ≡ false)
+
+-- what stands behind a whole expression
+unfoldable pub ends_expr : Meaning → Bool
+ends_expr (sign signs.CloseParenthesis) = true
+ends_expr (sign signs.Comma) = true
+ends_expr (sign signs.Colon) = true
+ends_expr (sign signs.Semicolon) = true
+ends_expr _ = false
+
+abbrev pub Ends : Tokens → Type 0
+Ends left = next_is ends_expr left ≡ true
+
+abbrev pub Closes : Tokens → Type 0
+Closes left = next_is_sign signs.CloseParenthesis left ≡ true
+
+pub fewer_stop : (n : ℕ) (left : Tokens) → Stops (suc n) left → Stops n left
+fewer_stop n left s = (s.0, s.1, λ k l. s.2 k (omega arith))
+
+operator_plain : (m : Meaning) (o : BinaryOp) → binary_operator m ≡ Some o → (is_sign signs.OpenParenthesis m ≡ false) × (begins_suffix m ≡ false)
+unfolding is_sign same_sign begins_suffix binary_operator
+operator_plain (sign signs.OpenParenthesis) o h = absurd (no_some o h)
+operator_plain (sign signs.Dot) o h = absurd (no_some o h)
+operator_plain (sign signs.Increment) o h = absurd (no_some o h)
+operator_plain (sign signs.Decrement) o h = absurd (no_some o h)
+operator_plain m o h = (refl, refl)
+
+-- an operator of the next level stops an operand
+link_stops : (n : ℕ) (m : Meaning) (p : Place) (ts : Tokens) (o : BinaryOp) → binary_operator m ≡ Some o → level o ≡ suc n → Stops n ((m, p) ∷ ts)
+unfolding next_is_sign is_suffix is_link operator_at
+link_stops n m p ts o h l =
+    let q = operator_plain m o h in
+    (q.0, q.1, λ k lt. let e : (level o == suc k) ≡ false = grind (arith, nat_tests) in rw (h, e) refl)
+
+ends_plain : (m : Meaning) → ends_expr m ≡ true → (is_sign signs.OpenParenthesis m ≡ false) × (begins_suffix m ≡ false) × (binary_operator m ≡ None) × (is_sign signs.Question m ≡ false) × (assign_operator m ≡ None)
+unfolding is_sign same_sign begins_suffix binary_operator assign_operator ends_expr
+ends_plain (sign signs.CloseParenthesis) h = (refl, refl, refl, refl, refl)
+ends_plain (sign signs.Comma) h = (refl, refl, refl, refl, refl)
+ends_plain (sign signs.Colon) h = (refl, refl, refl, refl, refl)
+ends_plain (sign signs.Semicolon) h = (refl, refl, refl, refl, refl)
+ends_plain m h = absurd (no_true h)
+
+assign_plain : (m : Meaning) (o : AssignOp) → assign_operator m ≡ Some o → (is_sign signs.OpenParenthesis m ≡ false) × (begins_suffix m ≡ false) × (binary_operator m ≡ None) × (is_sign signs.Question m ≡ false)
+unfolding is_sign same_sign begins_suffix binary_operator assign_operator
+assign_plain (sign signs.Assign) o h = (refl, refl, refl, refl)
+assign_plain (sign signs.PlusAssign) o h = (refl, refl, refl, refl)
+assign_plain (sign signs.MinusAssign) o h = (refl, refl, refl, refl)
+assign_plain (sign signs.StarAssign) o h = (refl, refl, refl, refl)
+assign_plain (sign signs.SlashAssign) o h = (refl, refl, refl, refl)
+assign_plain (sign signs.PercentAssign) o h = (refl, refl, refl, refl)
+assign_plain (sign signs.BitAndAssign) o h = (refl, refl, refl, refl)
+assign_plain (sign signs.BitOrAssign) o h = (refl, refl, refl, refl)
+assign_plain (sign signs.BitXorAssign) o h = (refl, refl, refl, refl)
+assign_plain (sign signs.ShiftLeftAssign) o h = (refl, refl, refl, refl)
+assign_plain (sign signs.ShiftRightAssign) o h = (refl, refl, refl, refl)
+assign_plain (sign signs.ShiftRightArithmeticAssign) o h = (refl, refl, refl, refl)
+assign_plain m o h = absurd (no_some o h)
+
+-- a token that is no operator, and begins no suffix or arguments, stops each operand
+plain_stops : (n : ℕ) (m : Meaning) (p : Place) (ts : Tokens) → is_sign signs.OpenParenthesis m ≡ false → begins_suffix m ≡ false → binary_operator m ≡ None → Stops n ((m, p) ∷ ts)
+unfolding next_is_sign is_suffix is_link operator_at
+plain_stops n m p ts a b h = (a, b, λ k l. rw h refl)
+
+ends_stop : (n : ℕ) (left : Tokens) → Ends left → Stops n left
+ends_stop n [] h = absurd (no_true h)
+ends_stop n ((m, p) ∷ ts) h = let q = ends_plain m h in plain_stops n m p ts q.0 q.1 q.2
+
+ends_assign : (below : Below) (e : Expr) (left : Tokens) → Ends left → assign_from below e left ≡ Ok (e, left)
+unfolding assign_from
+ends_assign below e [] h = absurd (no_true h)
+ends_assign below e ((m, p) ∷ ts) h = let q = ends_plain m h in rw (q.3, q.4) refl
+
+close_ends_at : (m : Meaning) → is_sign signs.CloseParenthesis m ≡ true → (ends_expr m ≡ true) × (is_sign signs.Comma m ≡ false)
+unfolding is_sign same_sign ends_expr
+close_ends_at (sign signs.CloseParenthesis) h = (refl, refl)
+close_ends_at m h = absurd (no_true h)
+
+pub close_ends : (left : Tokens) → Closes left → Ends left × (next_is_sign signs.Comma left ≡ false)
+unfolding next_is_sign
+close_ends [] h = absurd (no_true h)
+close_ends ((m, p) ∷ ts) h = close_ends_at m h
+
+-- what stands behind one of several arguments
+pub more_end : {free depth : ℕ} {from left : Tokens} {es : List Expr} → AreMoreExprs free depth from es left → Closes left → Ends from
+unfolding ends_expr
+more_end (no_more_exprs {left = left}) s = (close_ends left s).0
+more_end (more_exprs a b) s = refl
+
+-- what stands behind an operand, in front of suffixes or operators
+suffixes_open : {free depth : ℕ} {from left : Tokens} {more : List Suffix} → AreSuffixes free depth from more left → next_is_sign signs.OpenParenthesis left ≡ false → next_is_sign signs.OpenParenthesis from ≡ false
+unfolding next_is_sign is_sign same_sign
+suffixes_open no_suffixes s = s
+suffixes_open (more_suffixes field b) s = refl
+suffixes_open (more_suffixes (method a) b) s = refl
+suffixes_open (more_suffixes increment b) s = refl
+suffixes_open (more_suffixes decrement b) s = refl
+
+links_stop : {free depth n : ℕ} {from left : Tokens} {more : List Operation} → AreLinks free depth n from more left → Stops (suc n) left → Stops n from
+links_stop (no_links {n = n} {left = left}) s = fewer_stop n left s
+links_stop (more_links {n = n} {m = m} {p = p} {from = from} {operator = operator} o l a b) s = link_stops n m p from operator o l
+
+suffix_begins : {free depth : ℕ} {from left : Tokens} {s : Suffix} → IsSuffix free depth from s left → is_suffix from ≡ true
+unfolding is_suffix begins_suffix
+suffix_begins field = refl
+suffix_begins (method a) = refl
+suffix_begins increment = refl
+suffix_begins decrement = refl
+
+unary_begins : (m : Meaning) (o : UnaryOp) → unary_operator m ≡ Some o → begins m ≡ true
+unfolding begins unary_operator primitive
+unary_begins (sign signs.Plus) o h = refl
+unary_begins (sign signs.Minus) o h = refl
+unary_begins (sign signs.LogicalNot) o h = refl
+unary_begins (reserved words.Not) o h = refl
+unary_begins (sign signs.BitNot) o h = refl
+unary_begins (sign signs.Increment) o h = refl
+unary_begins (sign signs.Decrement) o h = refl
+unary_begins (sign signs.Handle) o h = refl
+unary_begins m o h = absurd (no_some o h)
+
+pub primitive_begins : (m : Meaning) (k : Primitive) → primitive m ≡ Some k → (begins m ≡ true) × (unary_operator m ≡ None)
+unfolding begins unary_operator primitive
+primitive_begins (reserved words.Bool) k h = (refl, refl)
+primitive_begins (reserved words.Int) k h = (refl, refl)
+primitive_begins (reserved words.Int32) k h = (refl, refl)
+primitive_begins (reserved words.Int64) k h = (refl, refl)
+primitive_begins (reserved words.Uint) k h = (refl, refl)
+primitive_begins (reserved words.Uint32) k h = (refl, refl)
+primitive_begins (reserved words.Uint64) k h = (refl, refl)
+primitive_begins m k h = absurd (no_some k h)
+
+primary_begins : {free depth : ℕ} {from left : Tokens} {e : Expr} → IsPrimary free depth from e left → next_is begins from ≡ true
+unfolding begins
+primary_begins numeral = refl
+primary_begins yes = refl
+primary_begins no = refl
+primary_begins null = refl
+primary_begins this = refl
+primary_begins named = refl
+primary_begins (call a) = refl
+primary_begins (brackets a) = refl
+primary_begins (convert {m = m} {to = to} k a) = (primitive_begins m to k).0
+
+unary_phrase_begins : {free depth : ℕ} {from left : Tokens} {e : Expr} → IsUnary free depth from e left → next_is begins from ≡ true
+unary_phrase_begins (applied {m = m} {operator = operator} o w a) = unary_begins m operator o
+unary_phrase_begins (postfix a b) = primary_begins a
+
+binary_begins : {free depth n : ℕ} {from left : Tokens} {e : Expr} → IsBinary free depth n from e left → next_is begins from ≡ true
+binary_begins (operand a) = unary_phrase_begins a
+binary_begins (joined a b) = binary_begins a
+
+cond_begins : {free depth : ℕ} {from left : Tokens} {e : Expr} → IsCond free depth from e left → next_is begins from ≡ true
+cond_begins (no_branch a) = binary_begins a
+cond_begins (branches a b c) = binary_begins a
+
+-- each expression begins with a token that begins expressions
+pub assign_begins : {free depth : ℕ} {from left : Tokens} {e : Expr} → IsAssign free depth from e left → next_is begins from ≡ true
+assign_begins (no_assign a) = cond_begins a
+assign_begins (assign a o b) = binary_begins a
+
+pub inner_begins : {free depth : ℕ} {from left : Tokens} {e : Expr} → IsInner free depth from e left → next_is begins from ≡ true
+inner_begins (inner w a) = assign_begins a
+
+begins_no_close_at : (m : Meaning) → begins m ≡ true → is_sign signs.CloseParenthesis m ≡ false
+unfolding begins is_sign same_sign unary_operator primitive
+begins_no_close_at (sign signs.CloseParenthesis) h = absurd (no_true h)
+begins_no_close_at m h = refl
+
+pub begins_no_close : (ts : Tokens) → next_is begins ts ≡ true → next_is_sign signs.CloseParenthesis ts ≡ false
+unfolding next_is_sign
+begins_no_close [] h = refl
+begins_no_close ((m, p) ∷ ts) h = begins_no_close_at m h
+
+-- a primary stands alone, with no operator in front of it
+primary_alone : {free depth : ℕ} {from left : Tokens} {e : Expr} (below : Below) → IsPrimary free depth from e left → unary_with below from ≡ postfix_with below from
+unfolding unary_with unary_operator
+primary_alone below numeral = refl
+primary_alone below yes = refl
+primary_alone below no = refl
+primary_alone below null = refl
+primary_alone below this = refl
+primary_alone below named = refl
+primary_alone below (call a) = refl
+primary_alone below (brackets a) = refl
+primary_alone below (convert {m = m} {to = to} k a) = rw ((primitive_begins m to k).1) refl
+
+module _ (below : Below) where
+  exprs_none : (left : Tokens) → Closes left → exprs_with below left ≡ Ok ([], left)
+  unfolding exprs_with
+  exprs_none left s = rw s refl
+
+  exprs_some : (from behind left : Tokens) (e : Expr) (es : List Expr) → next_is begins from ≡ true → below true from ≡ Ok (e, behind) → ReadsAll (next_is_sign signs.Comma) (next_expr_with below) behind es left → exprs_with below from ≡ Ok (e ∷ es, left)
+  unfolding exprs_with more_exprs_with
+  exprs_some from behind left e es b h r = rw (begins_no_close from b, h) (ap (put e) (r (length behind) (omega arith)))
+
+  next_expr_again : (p : Place) (from behind : Tokens) (e : Expr) → below true from ≡ Ok (e, behind) → next_expr_with below ((sign signs.Comma, p) ∷ from) ≡ Ok (e, behind)
+  unfolding next_expr_with
+  next_expr_again p from behind e h = rw (expect_again signs.Comma p from) h
+
+  args_again : (p q : Place) (from left : Tokens) (es : List Expr) → exprs_with below from ≡ Ok (es, (sign signs.CloseParenthesis, q) ∷ left) → arguments_with below ((sign signs.OpenParenthesis, p) ∷ from) ≡ Ok (es, left)
+  unfolding arguments_with
+  args_again p q from left es h = rw (expect_again signs.OpenParenthesis p from, h, expect_again signs.CloseParenthesis q left) refl
+
+  pub bracketed_again : (p q : Place) (from left : Tokens) (e : Expr) → below true from ≡ Ok (e, (sign signs.CloseParenthesis, q) ∷ left) → bracketed_with below ((sign signs.OpenParenthesis, p) ∷ from) ≡ Ok (e, left)
+  unfolding bracketed_with
+  bracketed_again p q from left e h = rw (expect_again signs.OpenParenthesis p from, h, expect_again signs.CloseParenthesis q left) refl
+
+  assign_again : (m : Meaning) (p : Place) (from behind left : Tokens) (target value : Expr) (operator : AssignOp) → assign_operator m ≡ Some operator → binary_with below LEVELS from ≡ Ok (target, (m, p) ∷ behind) → below true behind ≡ Ok (value, left) → assign_with below from ≡ Ok (Assign (place_of target) target operator value, left)
+  unfolding assign_with assign_from
+  assign_again m p from behind left target value operator o h v = rw (h, (assign_plain m operator o).3, o, v) refl
+
+  alone_again : (from left : Tokens) (e : Expr) → Ends left → binary_with below LEVELS from ≡ Ok (e, left) → assign_with below from ≡ Ok (e, left)
+  unfolding assign_with
+  alone_again from left e s h = rw h (ends_assign below e left s)
+
+  branches_again : (p q : Place) (from first second left : Tokens) (c a b : Expr) → binary_with below LEVELS from ≡ Ok (c, (sign signs.Question, p) ∷ first) → below true first ≡ Ok (a, (sign signs.Colon, q) ∷ second) → below true second ≡ Ok (b, left) → assign_with below from ≡ Ok (Conditional (place_of c) c a b, left)
+  unfolding assign_with assign_from branches_with is_sign same_sign
+  branches_again p q from first second left c a b h f g = rw (h, f, expect_again signs.Colon q second, g) refl
+
+  joined_again : (n : ℕ) (from behind left : Tokens) (first : Expr) (more : List Operation) → binary_with below n from ≡ Ok (first, behind) → ReadsAll (is_link n) (link_by n (binary_with below n)) behind more left → binary_with below (suc n) from ≡ Ok (chained first more, left)
+  unfolding binary_with chain_by links_by
+  joined_again n from behind left first more h r = rw (h, r (length behind) (omega arith)) refl
+
+  operator_again : (n : ℕ) (m : Meaning) (p : Place) (ts : Tokens) (o : BinaryOp) → binary_operator m ≡ Some o → level o ≡ suc n → operator_at n ((m, p) ∷ ts) ≡ Some (o, ts)
+  unfolding operator_at
+  operator_again n m p ts o h l = let e : (level o == suc n) ≡ true = grind (arith, nat_tests) in rw (h, e) refl
+
+  link_begins : (n : ℕ) (m : Meaning) (p : Place) (ts : Tokens) (o : BinaryOp) → binary_operator m ≡ Some o → level o ≡ suc n → is_link n ((m, p) ∷ ts) ≡ true
+  unfolding is_link
+  link_begins n m p ts o h l = rw (operator_again n m p ts o h l) refl
+
+  link_again : (n : ℕ) (m : Meaning) (p : Place) (from behind : Tokens) (o : BinaryOp) (e : Expr) → binary_operator m ≡ Some o → level o ≡ suc n → binary_with below n from ≡ Ok (e, behind) → link_by n (binary_with below n) ((m, p) ∷ from) ≡ Ok (record { operator = o; operand = e }, behind)
+  unfolding link_by
+  link_again n m p from behind o e h l r = rw (operator_again n m p from o h l, r) refl
+
+  applied_again : (m : Meaning) (p : Place) (from left : Tokens) (o : UnaryOp) (e : Expr) → unary_operator m ≡ Some o → below false from ≡ Ok (e, left) → unary_with below ((m, p) ∷ from) ≡ Ok (Unary p o e, left)
+  unfolding unary_with
+  applied_again m p from left o e h r = rw (h, r) refl
+
+  postfix_again : (from behind left : Tokens) (e : Expr) (more : List Suffix) → primary_with below from ≡ Ok (e, behind) → ReadsAll is_suffix (suffix_with below) behind more left → postfix_with below from ≡ Ok (suffixed e more, left)
+  unfolding postfix_with suffixes_with
+  postfix_again from behind left e more h r = rw (h, r (length behind) (omega arith)) refl
+
+  field_again : (p q : Place) (text : List ℕ) (left : Tokens) → next_is_sign signs.OpenParenthesis left ≡ false → suffix_with below ((sign signs.Dot, p) ∷ (name text, q) ∷ left) ≡ Ok (Field q text, left)
+  unfolding suffix_with member_with
+  field_again p q text left s = rw (name_again text q left, s) refl
+
+  method_again : (p q o : Place) (text : List ℕ) (from left : Tokens) (es : List Expr) → arguments_with below ((sign signs.OpenParenthesis, o) ∷ from) ≡ Ok (es, left) → suffix_with below ((sign signs.Dot, p) ∷ (name text, q) ∷ (sign signs.OpenParenthesis, o) ∷ from) ≡ Ok (Method q text (exprs es), left)
+  unfolding suffix_with member_with
+  method_again p q o text from left es h = rw (name_again text q ((sign signs.OpenParenthesis, o) ∷ from), next_is_sign-again signs.OpenParenthesis o from, h) refl
+
+  named_again : (p : Place) (text : List ℕ) (left : Tokens) → next_is_sign signs.OpenParenthesis left ≡ false → primary_with below ((name text, p) ∷ left) ≡ Ok (Name p text, left)
+  unfolding primary_with named_with primitive
+  named_again p text left s = rw s refl
+
+  call_again : (p o : Place) (text : List ℕ) (from left : Tokens) (es : List Expr) → arguments_with below ((sign signs.OpenParenthesis, o) ∷ from) ≡ Ok (es, left) → primary_with below ((name text, p) ∷ (sign signs.OpenParenthesis, o) ∷ from) ≡ Ok (Call p text (exprs es), left)
+  unfolding primary_with named_with primitive
+  call_again p o text from left es h = rw (next_is_sign-again signs.OpenParenthesis o from, h) refl
+
+  brackets_again : (p q : Place) (from left : Tokens) (e : Expr) → below true from ≡ Ok (e, (sign signs.CloseParenthesis, q) ∷ left) → primary_with below ((sign signs.OpenParenthesis, p) ∷ from) ≡ Ok (Brackets p e, left)
+  unfolding primary_with primitive
+  brackets_again p q from left e h = rw (bracketed_again p q from left e h) refl
+
+  convert_again : (m : Meaning) (k : Primitive) (p q r : Place) (from left : Tokens) (e : Expr) → primitive m ≡ Some k → below true from ≡ Ok (e, (sign signs.CloseParenthesis, r) ∷ left) → primary_with below ((m, p) ∷ (sign signs.OpenParenthesis, q) ∷ from) ≡ Ok (Convert p k e, left)
+  unfolding primary_with
+  convert_again m k p q r from left e o h = rw (o, bracketed_again q r from left e h) refl
+
+question_stops : (p : Place) (ts : Tokens) → Stops LEVELS ((sign signs.Question, p) ∷ ts)
+unfolding is_sign same_sign begins_suffix binary_operator
+question_stops p ts = plain_stops LEVELS (sign signs.Question) p ts refl refl refl
+
+mutual
+  unfolding below_at binary_with primary_with suffix_with primitive ends_expr
+
+  pub inner_read : {free depth : ℕ} {from left : Tokens} {e : Expr} → IsInner free depth from e left → (room : ℕ) → free ≡ 0 → depth + room ≡ 64 → Ends left → below_at room true from ≡ Ok (e, left)
+  inner_read (inner w a) zero z d s = let l = assign_shorter a in let k = w (omega arith) in absurd (omega arith)
+  inner_read (inner w a) (suc room) z d s = assign_read a room z (omega arith) s
+
+  pub exprs_read : {free depth : ℕ} {from left : Tokens} {es : List Expr} → AreExprs free depth from es left → (room : ℕ) → free ≡ 0 → depth + room ≡ 64 → Closes left → exprs_with (below_at room) from ≡ Ok (es, left)
+  exprs_read (no_exprs {left = left}) room z d s = exprs_none (below_at room) left s
+  exprs_read (some_exprs {from = from} {behind = behind} {left = left} {e = e} {es = es} a b) room z d s =
+      exprs_some (below_at room) from behind left e es (inner_begins a) (inner_read a room z d (more_end b s)) (more_exprs_read b room z d s)
+
+  more_exprs_read : {free depth : ℕ} {from left : Tokens} {es : List Expr} → AreMoreExprs free depth from es left → (room : ℕ) → free ≡ 0 → depth + room ≡ 64 → Closes left → ReadsAll (next_is_sign signs.Comma) (next_expr_with (below_at room)) from es left
+  more_exprs_read (no_more_exprs {left = left}) room z d s = none_again (next_is_sign signs.Comma) (next_expr_with (below_at room)) left (close_ends left s).1
+  more_exprs_read (more_exprs {p = p} {from = from} {behind = behind} {left = left} {e = e} {es = es} a b) room z d s =
+      let l = inner_shorter a in
+      one_again (next_is_sign signs.Comma) (next_expr_with (below_at room)) ((sign signs.Comma, p) ∷ from) behind left e es (next_is_sign-again signs.Comma p from) (next_expr_again (below_at room) p from behind e (inner_read a room z d (more_end b s))) (omega arith) (more_exprs_read b room z d s)
+
+  pub args_read : {free depth : ℕ} {from left : Tokens} {es : List Expr} → IsArgs free depth from es left → (room : ℕ) → free ≡ 0 → depth + room ≡ 64 → arguments_with (below_at room) from ≡ Ok (es, left)
+  args_read (args {p = p} {q = q} {from = from} {left = left} {es = es} a) room z d = args_again (below_at room) p q from left es (exprs_read a room z d (next_is_sign-again signs.CloseParenthesis q left))
+
+  pub assign_read : {free depth : ℕ} {from left : Tokens} {e : Expr} → IsAssign free depth from e left → (room : ℕ) → free ≡ 0 → depth + room ≡ 64 → Ends left → assign_with (below_at room) from ≡ Ok (e, left)
+  assign_read (no_assign a) room z d s = cond_read a room z d s
+  assign_read (assign {m = m} {p = p} {from = from} {behind = behind} {left = left} {target = target} {value = value} {operator = operator} a o b) room z d s =
+      let q = assign_plain m operator o in
+      assign_again (below_at room) m p from behind left target value operator o (binary_read a room z d (plain_stops LEVELS m p behind q.0 q.1 q.2)) (inner_read b room z d s)
+
+  cond_read : {free depth : ℕ} {from left : Tokens} {e : Expr} → IsCond free depth from e left → (room : ℕ) → free ≡ 0 → depth + room ≡ 64 → Ends left → assign_with (below_at room) from ≡ Ok (e, left)
+  cond_read (no_branch {from = from} {left = left} {e = e} a) room z d s = alone_again (below_at room) from left e s (binary_read a room z d (ends_stop LEVELS left s))
+  cond_read (branches {p = p} {q = q} {from = from} {first = first} {second = second} {left = left} {c = c} {a = a} {b = b} i j k) room z d s =
+      branches_again (below_at room) p q from first second left c a b (binary_read i room z d (question_stops p first)) (inner_read j room z d refl) (inner_read k room z d s)
+
+  binary_read : {free depth n : ℕ} {from left : Tokens} {e : Expr} → IsBinary free depth n from e left → (room : ℕ) → free ≡ 0 → depth + room ≡ 64 → Stops n left → binary_with (below_at room) n from ≡ Ok (e, left)
+  binary_read (operand a) room z d s = unary_read a room z d s
+  binary_read (joined {n = n} {from = from} {behind = behind} {left = left} {first = first} {more = more} a b) room z d s =
+      joined_again (below_at room) n from behind left first more (binary_read a room z d (links_stop b s)) (links_read b room z d s)
+
+  links_read : {free depth n : ℕ} {from left : Tokens} {more : List Operation} → AreLinks free depth n from more left → (room : ℕ) → free ≡ 0 → depth + room ≡ 64 → Stops (suc n) left → ReadsAll (is_link n) (link_by n (binary_with (below_at room) n)) from more left
+  links_read (no_links {n = n} {left = left}) room z d s = none_again (is_link n) (link_by n (binary_with (below_at room) n)) left (s.2 n (omega arith))
+  links_read (more_links {n = n} {m = m} {p = p} {from = from} {behind = behind} {left = left} {operator = operator} {operand = right} {more = more} o l a b) room z d s =
+      let k = binary_shorter a in
+      one_again (is_link n) (link_by n (binary_with (below_at room) n)) ((m, p) ∷ from) behind left (record { operator = operator; operand = right }) more (link_begins (below_at room) n m p from operator o l) (link_again (below_at room) n m p from behind operator right o l (binary_read a room z d (links_stop b s))) (omega arith) (links_read b room z d s)
+
+  unary_read : {free depth : ℕ} {from left : Tokens} {e : Expr} → IsUnary free depth from e left → (room : ℕ) → free ≡ 0 → depth + room ≡ 64 → Stops 0 left → unary_with (below_at room) from ≡ Ok (e, left)
+  unary_read (applied {m = m} {p = p} {from = from} {left = left} {operator = operator} {e = e} o w a) zero z d s = let l = unary_shorter a in let k = w (omega arith) in absurd (omega arith)
+  unary_read (applied {m = m} {p = p} {from = from} {left = left} {operator = operator} {e = e} o w a) (suc room) z d s =
+      applied_again (below_at (suc room)) m p from left operator e o (unary_read a room z (omega arith) s)
+  unary_read (postfix {from = from} {behind = behind} {left = left} {e = e} {more = more} a b) room z d s =
+      rw (primary_alone (below_at room) a) (postfix_again (below_at room) from behind left e more (primary_read a room z d (suffixes_open b s.0)) (suffixes_read b room z d s))
+
+  suffixes_read : {free depth : ℕ} {from left : Tokens} {more : List Suffix} → AreSuffixes free depth from more left → (room : ℕ) → free ≡ 0 → depth + room ≡ 64 → Stops 0 left → ReadsAll is_suffix (suffix_with (below_at room)) from more left
+  suffixes_read (no_suffixes {left = left}) room z d s = none_again is_suffix (suffix_with (below_at room)) left s.1
+  suffixes_read (more_suffixes {from = from} {behind = behind} {left = left} {s = x} {more = more} a b) room z d s =
+      one_again is_suffix (suffix_with (below_at room)) from behind left x more (suffix_begins a) (suffix_read a room z d (suffixes_open b s.0)) (suffix_shorter a) (suffixes_read b room z d s)
+
+  suffix_read : {free depth : ℕ} {from left : Tokens} {x : Suffix} → IsSuffix free depth from x left → (room : ℕ) → free ≡ 0 → depth + room ≡ 64 → next_is_sign signs.OpenParenthesis left ≡ false → suffix_with (below_at room) from ≡ Ok (x, left)
+  suffix_read (field {p = p} {q = q} {text = text} {left = left}) room z d s = field_again (below_at room) p q text left s
+  suffix_read (method {p = p} {q = q} {text = text} {left = left} {es = es} (args {p = o} {q = c} {from = from} a)) room z d s =
+      method_again (below_at room) p q o text from left es (args_again (below_at room) o c from left es (exprs_read a room z d (next_is_sign-again signs.CloseParenthesis c left)))
+  suffix_read increment room z d s = refl
+  suffix_read decrement room z d s = refl
+
+  primary_read : {free depth : ℕ} {from left : Tokens} {e : Expr} → IsPrimary free depth from e left → (room : ℕ) → free ≡ 0 → depth + room ≡ 64 → next_is_sign signs.OpenParenthesis left ≡ false → primary_with (below_at room) from ≡ Ok (e, left)
+  primary_read numeral room z d s = refl
+  primary_read yes room z d s = refl
+  primary_read no room z d s = refl
+  primary_read null room z d s = refl
+  primary_read this room z d s = refl
+  primary_read (named {p = p} {text = text} {left = left}) room z d s = named_again (below_at room) p text left s
+  primary_read (call {p = p} {text = text} {left = left} {es = es} (args {p = o} {q = c} {from = from} a)) room z d s =
+      call_again (below_at room) p o text from left es (args_again (below_at room) o c from left es (exprs_read a room z d (next_is_sign-again signs.CloseParenthesis c left)))
+  primary_read (brackets {p = p} {q = q} {from = from} {left = left} {e = e} a) room z d s = brackets_again (below_at room) p q from left e (inner_read a room z d refl)
+  primary_read (convert {m = m} {p = p} {q = q} {r = r} {to = to} {from = from} {left = left} {e = e} k a) room z d s = convert_again (below_at room) m to p q r from left e k (inner_read a room z d refl)

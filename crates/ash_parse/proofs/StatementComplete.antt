@@ -1,0 +1,342 @@
+-- What is in the grammar of statements is read.
+use Rattle.std.proofs.Common.{◌≡◌, ℕ, zero, suc, ◌+◌, ◌<◌, List, [], ◌∷◌, length, Bool, true, false, not, Option, Some, None, Ok, refl, ap, arith}
+use Rattle.ash_lex.specs.Tokens.{Meaning, number, sign, reserved}
+use Rattle.ash_lex.specs.declared.signs.Sign.TheVariants as signs
+use Rattle.ash_lex.specs.declared.words.ReservedWord.TheVariants as words
+use Rattle.ash_tree.specs.declared.tree.places.Place.{Place}
+use Rattle.ash_tree.specs.declared.tree.statements.Label.{Label}
+use Rattle.ash_tree.specs.Tree.{Expr, Vars, Stmt, Empty, Declare, Evaluate, Block, If, IfElse, While, DoWhile, For, Switch, Break, Continue, Return, Case, labelled, place_of, place_of_type, stmts, cases}
+use Rattle.ash_tree.specs.Tokens.{Tokens}
+use Rattle.ash_tree.specs.Operators.{primitive, unary_operator}
+use Rattle.ash_tree.specs.Statements.{IsFirst, no_first, first_vars, first_expr, IsTest, no_test, test, IsResult, no_result, value, IsLabel, case, case_minus, default, IsNested, nested, AreLocals, no_locals, local_vars, local_stmt, IsBlock, block, IsStmt, inner_block, empty, evaluate, if_only, if_else, while, do_while, for, switch, break, continue, return, AreCases, no_cases, more_cases, AreStmts, no_stmts, more_stmts}
+use Rattle.ash_parse.specs.declared.statements.Leading.{Leading}
+use Rattle.ash_parse.specs.declared.statements.Leading.TheVariants as leads
+use Rattle.ash_parse.specs.Signs.{is_sign, same_sign}
+use Rattle.ash_parse.specs.Reading.{next_is, next_is_sign}
+use Rattle.ash_parse.specs.ExpressionReader.{Below, begins, exprs_with, assign_with, below_at}
+use Rattle.ash_parse.specs.StatementReader.{Nested, is_name, is_vars, declared_with, first_with, test_with, result_with, leading, begins_by, begins_stmt, is_end, ends_case, goes_on, case_goes_on, evaluate_with, is_else, else_with, if_with, while_with, while_at, do_with, for_with, number_at, case_value_at, label_at, stmts_with, case_with, cases_with, switch_with, local_with, locals_with, block_with, stmt_with, nested_at}
+use Rattle.ash_parse.proofs.Readings.{expect_again, next_is_sign-again}
+use Rattle.ash_parse.proofs.StatementSound.{Closes}
+use Rattle.ash_parse.proofs.StatementShorter.{vars_shorter, nested_shorter, stmt_shorter, stmts_shorter}
+use Rattle.ash_parse.proofs.Rereading.{no_true, ReadsAll, none_again, one_again}
+use Rattle.ash_parse.proofs.ExpressionComplete.{ends_expr, Ends, assign_begins, inner_begins, bracketed_again, inner_read, exprs_read, assign_read}
+use Rattle.ash_parse.proofs.VarsComplete.{ends_follow, assign_no_vars, inner_no_vars, vars_vars, vars_begin, declared_read}
+
+begins_leads : (m : Meaning) → begins m ≡ true → (leading m ≡ leads.Other) × (is_sign signs.Semicolon m ≡ false)
+unfolding begins leading is_sign same_sign primitive unary_operator
+begins_leads (sign signs.OpenBrace) h = absurd (no_true h)
+begins_leads (sign signs.CloseBrace) h = absurd (no_true h)
+begins_leads (sign signs.Semicolon) h = absurd (no_true h)
+begins_leads (reserved words.If) h = absurd (no_true h)
+begins_leads (reserved words.Else) h = absurd (no_true h)
+begins_leads (reserved words.While) h = absurd (no_true h)
+begins_leads (reserved words.Do) h = absurd (no_true h)
+begins_leads (reserved words.For) h = absurd (no_true h)
+begins_leads (reserved words.Switch) h = absurd (no_true h)
+begins_leads (reserved words.Case) h = absurd (no_true h)
+begins_leads (reserved words.Default) h = absurd (no_true h)
+begins_leads (reserved words.Break) h = absurd (no_true h)
+begins_leads (reserved words.Continue) h = absurd (no_true h)
+begins_leads (reserved words.Return) h = absurd (no_true h)
+begins_leads m h = (refl, refl)
+
+pub begins_no_semicolon : (ts : Tokens) → next_is begins ts ≡ true → next_is_sign signs.Semicolon ts ≡ false
+unfolding next_is_sign
+begins_no_semicolon [] h = refl
+begins_no_semicolon ((m, p) ∷ ts) h = (begins_leads m h).1
+
+-- what begins an expression begins a statement
+pub begins_both : (ts : Tokens) → next_is begins ts ≡ true → next_is begins_stmt ts ≡ true
+unfolding begins_stmt
+begins_both [] h = h
+begins_both ((m, p) ∷ ts) h = rw ((begins_leads m h).0, h) refl
+
+leads_on : (l : Leading) (b : Bool) → begins_by l b ≡ true → (is_end l ≡ false) × (ends_case l ≡ false) × (is_else l ≡ false)
+leads_on leads.Block b h = (refl, refl, refl)
+leads_on leads.End b h = absurd (no_true h)
+leads_on leads.Empty b h = (refl, refl, refl)
+leads_on leads.If b h = (refl, refl, refl)
+leads_on leads.Else b h = absurd (no_true h)
+leads_on leads.While b h = (refl, refl, refl)
+leads_on leads.Do b h = (refl, refl, refl)
+leads_on leads.For b h = (refl, refl, refl)
+leads_on leads.Switch b h = (refl, refl, refl)
+leads_on leads.Case b h = absurd (no_true h)
+leads_on leads.Default b h = absurd (no_true h)
+leads_on leads.Break b h = (refl, refl, refl)
+leads_on leads.Continue b h = (refl, refl, refl)
+leads_on leads.Return b h = (refl, refl, refl)
+leads_on leads.Other b h = (refl, refl, refl)
+
+-- no `else` stands here
+abbrev pub NoElse : Tokens → Type 0
+NoElse ts = next_is (λ m. is_else (leading m)) ts ≡ false
+
+pub goes_further : (ts : Tokens) → next_is begins_stmt ts ≡ true → (goes_on ts ≡ true) × (case_goes_on ts ≡ true) × NoElse ts
+unfolding goes_on case_goes_on begins_stmt
+goes_further [] h = absurd (no_true h)
+goes_further ((m, p) ∷ ts) h = let q = leads_on (leading m) (begins m) h in (ap not q.0, ap not q.1, q.2)
+
+stmt_begins : {free depth : ℕ} {from left : Tokens} {s : Stmt} → IsStmt free depth from s left → next_is begins_stmt from ≡ true
+unfolding begins_stmt leading
+stmt_begins (inner_block b) = refl
+stmt_begins empty = refl
+stmt_begins (evaluate {from = from} a) = begins_both from (assign_begins a)
+stmt_begins (if_only a b) = refl
+stmt_begins (if_else a b o c) = refl
+stmt_begins (while a b) = refl
+stmt_begins (do_while a b) = refl
+stmt_begins (for f t u s) = refl
+stmt_begins (switch a b) = refl
+stmt_begins break = refl
+stmt_begins continue = refl
+stmt_begins (return a) = refl
+
+pub nested_begins : {free depth : ℕ} {from left : Tokens} {s : Stmt} → IsNested free depth from s left → next_is begins_stmt from ≡ true
+nested_begins (nested w a) = stmt_begins a
+
+stmt_no_vars : {free depth : ℕ} {from left : Tokens} {s : Stmt} → IsStmt free depth from s left → is_vars from ≡ false
+unfolding is_vars is_name primitive ends_expr
+stmt_no_vars (inner_block b) = refl
+stmt_no_vars empty = refl
+stmt_no_vars (evaluate {p = p} {left = left} a) = assign_no_vars a (ends_follow ((sign signs.Semicolon, p) ∷ left) refl)
+stmt_no_vars (if_only a b) = refl
+stmt_no_vars (if_else a b o c) = refl
+stmt_no_vars (while a b) = refl
+stmt_no_vars (do_while a b) = refl
+stmt_no_vars (for f t u s) = refl
+stmt_no_vars (switch a b) = refl
+stmt_no_vars break = refl
+stmt_no_vars continue = refl
+stmt_no_vars (return a) = refl
+
+nested_no_vars : {free depth : ℕ} {from left : Tokens} {s : Stmt} → IsNested free depth from s left → is_vars from ≡ false
+nested_no_vars (nested w a) = stmt_no_vars a
+
+never : (b : Bool) → b ≡ false → b ≡ true → ⊥
+never b h e = cc
+
+pub closes_where : (s : Stmt) (ts : Tokens) → NoElse ts → Closes s ts
+closes_where s ts h e = absurd (never (next_is (λ m. is_else (leading m)) ts) h e)
+
+locals_no_else : {free depth : ℕ} {from left : Tokens} {ss : List Stmt} → AreLocals free depth from ss left → NoElse left → NoElse from
+locals_no_else no_locals s = s
+locals_no_else (local_vars {from = from} a b) s = (goes_further from (begins_both from (vars_begin a))).2
+locals_no_else (local_stmt {from = from} a b) s = (goes_further from (nested_begins a)).2
+
+stmts_no_else : {free depth : ℕ} {from left : Tokens} {ss : List Stmt} → AreStmts free depth from ss left → NoElse left → NoElse from
+stmts_no_else no_stmts s = s
+stmts_no_else (more_stmts {from = from} a b) s = (goes_further from (nested_begins a)).2
+
+label_begins : {from left : Tokens} {p : Place} {l : Label} → IsLabel from p l left → (goes_on from ≡ true) × (case_goes_on from ≡ false) × NoElse from
+unfolding goes_on case_goes_on leading
+label_begins case = (refl, refl, refl)
+label_begins case_minus = (refl, refl, refl)
+label_begins default = (refl, refl, refl)
+
+-- the statements of a label end here
+abbrev Rests : Tokens → Type 0
+Rests left = (case_goes_on left ≡ false) × NoElse left
+
+cases_rest : {free depth : ℕ} {from left : Tokens} {cs : List Case} → AreCases free depth from cs left → Rests left → Rests from
+cases_rest no_cases s = s
+cases_rest (more_cases l a b) s = let q = label_begins l in (q.1, q.2)
+
+label_read : {from left : Tokens} {p : Place} {l : Label} → IsLabel from p l left → label_at from ≡ Ok ((l, p), left)
+unfolding label_at leading case_value_at number_at next_is_sign is_sign same_sign
+label_read (case {r = r} {left = left}) = rw (expect_again signs.Colon r left) refl
+label_read (case_minus {o = o} {q = q} {r = r} {n = n} {left = left}) = rw (expect_again signs.Minus o ((number n, q) ∷ (sign signs.Colon, r) ∷ left), expect_again signs.Colon r left) refl
+label_read (default {r = r} {left = left}) = rw (expect_again signs.Colon r left) refl
+
+label_shorter : {from left : Tokens} {p : Place} {l : Label} → IsLabel from p l left → length left < length from
+label_shorter case = omega arith
+label_shorter case_minus = omega arith
+label_shorter default = omega arith
+
+semicolon_ends : (p : Place) (left : Tokens) → Ends ((sign signs.Semicolon, p) ∷ left)
+unfolding ends_expr
+semicolon_ends p left = refl
+
+close_ends : (p : Place) (left : Tokens) → Ends ((sign signs.CloseParenthesis, p) ∷ left)
+unfolding ends_expr
+close_ends p left = refl
+
+module _ (below : Below) where
+  no_first_again : (p : Place) (left : Tokens) → first_with below ((sign signs.Semicolon, p) ∷ left) ≡ Ok (Empty p, left)
+  unfolding first_with
+  no_first_again p left = rw (next_is_sign-again signs.Semicolon p left, expect_again signs.Semicolon p left) refl
+
+  first_vars_again : (from left : Tokens) (v : Vars) → next_is begins from ≡ true → is_vars from ≡ true → declared_with below from ≡ Ok (v, left) → first_with below from ≡ Ok (Declare (place_of_type v.of) v, left)
+  unfolding first_with
+  first_vars_again from left v b i h = rw (begins_no_semicolon from b, i, h) refl
+
+  first_expr_again : (p : Place) (from left : Tokens) (e : Expr) → next_is begins from ≡ true → is_vars from ≡ false → below true from ≡ Ok (e, (sign signs.Semicolon, p) ∷ left) → first_with below from ≡ Ok (Evaluate (place_of e) e, left)
+  unfolding first_with
+  first_expr_again p from left e b i h = rw (begins_no_semicolon from b, i, h, expect_again signs.Semicolon p left) refl
+
+  no_test_again : (p : Place) (left : Tokens) → test_with below ((sign signs.Semicolon, p) ∷ left) ≡ Ok (None, left)
+  unfolding test_with
+  no_test_again p left = rw (next_is_sign-again signs.Semicolon p left, expect_again signs.Semicolon p left) refl
+
+  test_again : (p : Place) (from left : Tokens) (e : Expr) → next_is begins from ≡ true → below true from ≡ Ok (e, (sign signs.Semicolon, p) ∷ left) → test_with below from ≡ Ok (Some e, left)
+  unfolding test_with
+  test_again p from left e b h = rw (begins_no_semicolon from b, h, expect_again signs.Semicolon p left) refl
+
+  no_result_again : (p : Place) (left : Tokens) → result_with below ((sign signs.Semicolon, p) ∷ left) ≡ Ok (None, left)
+  unfolding result_with
+  no_result_again p left = rw (next_is_sign-again signs.Semicolon p left, expect_again signs.Semicolon p left) refl
+
+  result_again : (p : Place) (from left : Tokens) (e : Expr) → next_is begins from ≡ true → assign_with below from ≡ Ok (e, (sign signs.Semicolon, p) ∷ left) → result_with below from ≡ Ok (Some e, left)
+  unfolding result_with
+  result_again p from left e b h = rw (begins_no_semicolon from b, h, expect_again signs.Semicolon p left) refl
+
+  evaluate_again : (p : Place) (from left : Tokens) (e : Expr) → assign_with below from ≡ Ok (e, (sign signs.Semicolon, p) ∷ left) → evaluate_with below from ≡ Ok (Evaluate (place_of e) e, left)
+  unfolding evaluate_with
+  evaluate_again p from left e h = rw (h, expect_again signs.Semicolon p left) refl
+
+first_read : {free depth : ℕ} {from left : Tokens} {s : Stmt} → IsFirst free depth from s left → (room : ℕ) → free ≡ 0 → depth + room ≡ 64 → first_with (below_at room) from ≡ Ok (s, left)
+first_read (no_first {p = p} {left = left}) room z d = no_first_again (below_at room) p left
+first_read (first_vars {p = p} {from = from} {left = left} {v = v} a) room z d = first_vars_again (below_at room) from left v (vars_begin a) (vars_vars a) (declared_read p left a room z d)
+first_read (first_expr {p = p} {from = from} {left = left} {e = e} a) room z d =
+    let s = semicolon_ends p left in
+    first_expr_again (below_at room) p from left e (inner_begins a) (inner_no_vars a (ends_follow ((sign signs.Semicolon, p) ∷ left) s)) (inner_read a room z d s)
+
+test_read : {free depth : ℕ} {from left : Tokens} {c : Option Expr} → IsTest free depth from c left → (room : ℕ) → free ≡ 0 → depth + room ≡ 64 → test_with (below_at room) from ≡ Ok (c, left)
+test_read (no_test {p = p} {left = left}) room z d = no_test_again (below_at room) p left
+test_read (test {p = p} {from = from} {left = left} {e = e} a) room z d = test_again (below_at room) p from left e (inner_begins a) (inner_read a room z d (semicolon_ends p left))
+
+result_read : {free depth : ℕ} {from left : Tokens} {c : Option Expr} → IsResult free depth from c left → (room : ℕ) → free ≡ 0 → depth + room ≡ 64 → result_with (below_at room) from ≡ Ok (c, left)
+result_read (no_result {p = p} {left = left}) room z d = no_result_again (below_at room) p left
+result_read (value {p = p} {from = from} {left = left} {e = e} a) room z d = result_again (below_at room) p from left e (assign_begins a) (assign_read a room z d (semicolon_ends p left))
+
+only_true : (b : Bool) → (b ≡ true → true ≡ false) → b ≡ false
+only_true true h = h refl
+only_true false h = refl
+
+module _ (below : Below) (deeper : Nested) where
+  local_vars_again : (from left : Tokens) (v : Vars) → is_vars from ≡ true → declared_with below from ≡ Ok (v, left) → local_with below deeper from ≡ Ok (Declare (place_of_type v.of) v, left)
+  unfolding local_with
+  local_vars_again from left v i h = rw (i, h) refl
+
+  local_stmt_again : (from left : Tokens) (s : Stmt) → is_vars from ≡ false → deeper from ≡ Ok (s, left) → local_with below deeper from ≡ Ok (s, left)
+  unfolding local_with
+  local_stmt_again from left s i h = rw i h
+
+  block_again : (p q : Place) (from left : Tokens) (ss : List Stmt) → ReadsAll goes_on (local_with below deeper) from ss ((sign signs.CloseBrace, q) ∷ left) → block_with below deeper ((sign signs.OpenBrace, p) ∷ from) ≡ Ok (ss, left)
+  unfolding block_with locals_with
+  block_again p q from left ss r = rw (expect_again signs.OpenBrace p from, r (length from) (omega arith), expect_again signs.CloseBrace q left) refl
+
+  inner_block_again : (p : Place) (from left : Tokens) (ss : List Stmt) → block_with below deeper ((sign signs.OpenBrace, p) ∷ from) ≡ Ok (ss, left) → stmt_with below deeper ((sign signs.OpenBrace, p) ∷ from) ≡ Ok (Block p (stmts ss), left)
+  unfolding stmt_with leading
+  inner_block_again p from left ss h = rw h refl
+
+  alone_again : (from : Tokens) → next_is begins from ≡ true → stmt_with below deeper from ≡ evaluate_with below from
+  unfolding stmt_with
+  alone_again [] h = absurd (no_true h)
+  alone_again ((m, p) ∷ ts) h = rw ((begins_leads m h).0) refl
+
+  no_else_again : (p : Place) (c : Expr) (s : Stmt) (left : Tokens) → NoElse left → else_with deeper p c s left ≡ Ok (If p c s, left)
+  unfolding else_with
+  no_else_again p c s [] h = refl
+  no_else_again p c s ((m, o) ∷ ts) h = rw h refl
+
+  if_again : (p q r : Place) (from behind left : Tokens) (c : Expr) (s : Stmt) → below true from ≡ Ok (c, (sign signs.CloseParenthesis, r) ∷ behind) → deeper behind ≡ Ok (s, left) → NoElse left → stmt_with below deeper ((reserved words.If, p) ∷ (sign signs.OpenParenthesis, q) ∷ from) ≡ Ok (If p c s, left)
+  unfolding stmt_with leading if_with
+  if_again p q r from behind left c s h i n = rw (bracketed_again below q r from behind c h, i) (no_else_again p c s left n)
+
+  if_else_again : (p q r o : Place) (from behind other left : Tokens) (c : Expr) (s t : Stmt) → below true from ≡ Ok (c, (sign signs.CloseParenthesis, r) ∷ behind) → deeper behind ≡ Ok (s, (reserved words.Else, o) ∷ other) → deeper other ≡ Ok (t, left) → stmt_with below deeper ((reserved words.If, p) ∷ (sign signs.OpenParenthesis, q) ∷ from) ≡ Ok (IfElse p c s t, left)
+  unfolding stmt_with leading if_with else_with
+  if_else_again p q r o from behind other left c s t h i j = rw (bracketed_again below q r from behind c h, i, j) refl
+
+  while_again : (p q r : Place) (from behind left : Tokens) (c : Expr) (s : Stmt) → below true from ≡ Ok (c, (sign signs.CloseParenthesis, r) ∷ behind) → deeper behind ≡ Ok (s, left) → stmt_with below deeper ((reserved words.While, p) ∷ (sign signs.OpenParenthesis, q) ∷ from) ≡ Ok (While p c s, left)
+  unfolding stmt_with leading while_with
+  while_again p q r from behind left c s h i = rw (bracketed_again below q r from behind c h, i) refl
+
+  do_again : (p q r o w : Place) (from behind left : Tokens) (c : Expr) (s : Stmt) → deeper from ≡ Ok (s, (reserved words.While, w) ∷ (sign signs.OpenParenthesis, q) ∷ behind) → below true behind ≡ Ok (c, (sign signs.CloseParenthesis, r) ∷ (sign signs.Semicolon, o) ∷ left) → stmt_with below deeper ((reserved words.Do, p) ∷ from) ≡ Ok (DoWhile p s c, left)
+  unfolding stmt_with leading do_with while_at
+  do_again p q r o w from behind left c s i h = rw (i, bracketed_again below q r behind ((sign signs.Semicolon, o) ∷ left) c h, expect_again signs.Semicolon o left) refl
+
+  for_again : (p q r : Place) (from second third behind left : Tokens) (f s : Stmt) (c : Option Expr) (es : List Expr) → first_with below from ≡ Ok (f, second) → test_with below second ≡ Ok (c, third) → exprs_with below third ≡ Ok (es, (sign signs.CloseParenthesis, r) ∷ behind) → deeper behind ≡ Ok (s, left) → stmt_with below deeper ((reserved words.For, p) ∷ (sign signs.OpenParenthesis, q) ∷ from) ≡ Ok (For p f c es s, left)
+  unfolding stmt_with leading for_with
+  for_again p q r from second third behind left f s c es h i j k = rw (expect_again signs.OpenParenthesis q from, h, i, j, expect_again signs.CloseParenthesis r behind, k) refl
+
+  case_again : (from first behind : Tokens) (p : Place) (l : Label) (ss : List Stmt) → label_at from ≡ Ok ((l, p), first) → ReadsAll case_goes_on deeper first ss behind → case_with deeper from ≡ Ok (labelled p l (stmts ss), behind)
+  unfolding case_with stmts_with
+  case_again from first behind p l ss h r = rw (h, r (length first) (omega arith)) refl
+
+  switch_again : (p q r o w : Place) (from behind left : Tokens) (e : Expr) (cs : List Case) → below true from ≡ Ok (e, (sign signs.CloseParenthesis, r) ∷ (sign signs.OpenBrace, o) ∷ behind) → ReadsAll goes_on (case_with deeper) behind cs ((sign signs.CloseBrace, w) ∷ left) → stmt_with below deeper ((reserved words.Switch, p) ∷ (sign signs.OpenParenthesis, q) ∷ from) ≡ Ok (Switch p e (cases cs), left)
+  unfolding stmt_with leading switch_with cases_with
+  switch_again p q r o w from behind left e cs h c = rw (bracketed_again below q r from ((sign signs.OpenBrace, o) ∷ behind) e h, expect_again signs.OpenBrace o behind, c (length behind) (omega arith), expect_again signs.CloseBrace w left) refl
+
+  break_again : (p q : Place) (left : Tokens) → stmt_with below deeper ((reserved words.Break, p) ∷ (sign signs.Semicolon, q) ∷ left) ≡ Ok (Break p, left)
+  unfolding stmt_with leading
+  break_again p q left = rw (expect_again signs.Semicolon q left) refl
+
+  continue_again : (p q : Place) (left : Tokens) → stmt_with below deeper ((reserved words.Continue, p) ∷ (sign signs.Semicolon, q) ∷ left) ≡ Ok (Continue p, left)
+  unfolding stmt_with leading
+  continue_again p q left = rw (expect_again signs.Semicolon q left) refl
+
+  return_again : (p : Place) (from left : Tokens) (c : Option Expr) → result_with below from ≡ Ok (c, left) → stmt_with below deeper ((reserved words.Return, p) ∷ from) ≡ Ok (Return p c, left)
+  unfolding stmt_with leading
+  return_again p from left c h = rw h refl
+
+pub brace_rests : (p : Place) (left : Tokens) → (goes_on ((sign signs.CloseBrace, p) ∷ left) ≡ false) × (case_goes_on ((sign signs.CloseBrace, p) ∷ left) ≡ false) × NoElse ((sign signs.CloseBrace, p) ∷ left)
+unfolding goes_on case_goes_on leading
+brace_rests p left = (refl, refl, refl)
+
+while_no_else : (p : Place) (left : Tokens) → NoElse ((reserved words.While, p) ∷ left)
+unfolding leading
+while_no_else p left = refl
+
+mutual
+  unfolding nested_at stmt_with leading
+
+  pub nested_read : {free depth : ℕ} {from left : Tokens} {s : Stmt} → IsNested free depth from s left → (room : ℕ) → free ≡ 0 → depth + room ≡ 64 → Closes s left → nested_at room from ≡ Ok (s, left)
+  nested_read (nested w a) zero z d c = let l = stmt_shorter a in let k = w (omega arith) in absurd (omega arith)
+  nested_read (nested w a) (suc room) z d c = stmt_read a room z (omega arith) c
+
+  locals_read : {free depth : ℕ} {from left : Tokens} {ss : List Stmt} → AreLocals free depth from ss left → (room : ℕ) → free ≡ 0 → depth + room ≡ 64 → goes_on left ≡ false → NoElse left → ReadsAll goes_on (local_with (below_at room) (nested_at room)) from ss left
+  locals_read (no_locals {left = left}) room z d g n = none_again goes_on (local_with (below_at room) (nested_at room)) left g
+  locals_read (local_vars {p = p} {from = from} {behind = behind} {left = left} {v = v} {ss = ss} a b) room z d g n =
+      let l = vars_shorter a in
+      one_again goes_on (local_with (below_at room) (nested_at room)) from behind left (Declare (place_of_type v.of) v) ss (goes_further from (begins_both from (vars_begin a))).0 (local_vars_again (below_at room) (nested_at room) from behind v (vars_vars a) (declared_read p behind a room z d)) (omega arith) (locals_read b room z d g n)
+  locals_read (local_stmt {from = from} {behind = behind} {left = left} {s = s} {ss = ss} a b) room z d g n =
+      one_again goes_on (local_with (below_at room) (nested_at room)) from behind left s ss (goes_further from (nested_begins a)).0 (local_stmt_again (below_at room) (nested_at room) from behind s (nested_no_vars a) (nested_read a room z d (closes_where s behind (locals_no_else b n)))) (nested_shorter a) (locals_read b room z d g n)
+
+  pub block_read : {free depth : ℕ} {from left : Tokens} {ss : List Stmt} → IsBlock free depth from ss left → (room : ℕ) → free ≡ 0 → depth + room ≡ 64 → block_with (below_at room) (nested_at room) from ≡ Ok (ss, left)
+  block_read (block {p = p} {q = q} {from = from} {left = left} {ss = ss} a) room z d =
+      let e = brace_rests q left in
+      block_again (below_at room) (nested_at room) p q from left ss (locals_read a room z d e.0 e.2)
+
+  stmt_read : {free depth : ℕ} {from left : Tokens} {s : Stmt} → IsStmt free depth from s left → (room : ℕ) → free ≡ 0 → depth + room ≡ 64 → Closes s left → stmt_with (below_at room) (nested_at room) from ≡ Ok (s, left)
+  stmt_read (inner_block {p = p} {from = from} {left = left} {ss = ss} b) room z d k = inner_block_again (below_at room) (nested_at room) p from left ss (block_read b room z d)
+  stmt_read empty room z d k = refl
+  stmt_read (evaluate {p = p} {from = from} {left = left} {e = e} a) room z d k = rw (alone_again (below_at room) (nested_at room) from (assign_begins a)) (evaluate_again (below_at room) p from left e (assign_read a room z d (semicolon_ends p left)))
+  stmt_read (if_only {p = p} {q = q} {r = r} {from = from} {behind = behind} {left = left} {c = c} {s = s} a b) room z d k =
+      let n = only_true (next_is (λ m. is_else (leading m)) left) k in
+      if_again (below_at room) (nested_at room) p q r from behind left c s (inner_read a room z d (close_ends r behind)) (nested_read b room z d (closes_where s left n)) n
+  stmt_read (if_else {p = p} {q = q} {r = r} {o = o} {from = from} {behind = behind} {other = other} {left = left} {c = c} {s = s} {t = t} a b n f) room z d k =
+      if_else_again (below_at room) (nested_at room) p q r o from behind other left c s t (inner_read a room z d (close_ends r behind)) (nested_read b room z d (λ e. n)) (nested_read f room z d k)
+  stmt_read (while {p = p} {q = q} {r = r} {from = from} {behind = behind} {left = left} {c = c} {s = s} a b) room z d k =
+      while_again (below_at room) (nested_at room) p q r from behind left c s (inner_read a room z d (close_ends r behind)) (nested_read b room z d k)
+  stmt_read (do_while {p = p} {q = q} {r = r} {o = o} {w = w} {from = from} {behind = behind} {left = left} {c = c} {s = s} a b) room z d k =
+      do_again (below_at room) (nested_at room) p q r o w from behind left c s (nested_read a room z d (closes_where s ((reserved words.While, w) ∷ (sign signs.OpenParenthesis, q) ∷ behind) (while_no_else w ((sign signs.OpenParenthesis, q) ∷ behind)))) (inner_read b room z d (close_ends r ((sign signs.Semicolon, o) ∷ left)))
+  stmt_read (for {p = p} {q = q} {r = r} {from = from} {second = second} {third = third} {behind = behind} {left = left} {f = f} {s = s} {c = c} {es = es} i j l b) room z d k =
+      for_again (below_at room) (nested_at room) p q r from second third behind left f s c es (first_read i room z d) (test_read j room z d) (exprs_read l room z d (next_is_sign-again signs.CloseParenthesis r behind)) (nested_read b room z d k)
+  stmt_read (switch {p = p} {q = q} {r = r} {o = o} {z = w} {from = from} {behind = behind} {left = left} {e = e} {cs = cs} a b) room z d k =
+      let v = brace_rests w left in
+      switch_again (below_at room) (nested_at room) p q r o w from behind left e cs (inner_read a room z d (close_ends r ((sign signs.OpenBrace, o) ∷ behind))) (cases_read b room z d v.0 (v.1, v.2))
+  stmt_read (break {p = p} {q = q} {left = left}) room z d k = break_again (below_at room) (nested_at room) p q left
+  stmt_read (continue {p = p} {q = q} {left = left}) room z d k = continue_again (below_at room) (nested_at room) p q left
+  stmt_read (return {p = p} {from = from} {left = left} {c = c} a) room z d k = return_again (below_at room) (nested_at room) p from left c (result_read a room z d)
+
+  cases_read : {free depth : ℕ} {from left : Tokens} {cs : List Case} → AreCases free depth from cs left → (room : ℕ) → free ≡ 0 → depth + room ≡ 64 → goes_on left ≡ false → Rests left → ReadsAll goes_on (case_with (nested_at room)) from cs left
+  cases_read (no_cases {left = left}) room z d g n = none_again goes_on (case_with (nested_at room)) left g
+  cases_read (more_cases {p = p} {from = from} {first = first} {behind = behind} {left = left} {l = l} {ss = ss} {cs = cs} i a b) room z d g n =
+      let x = label_shorter i in let y = stmts_shorter a in
+      one_again goes_on (case_with (nested_at room)) from behind left (labelled p l (stmts ss)) cs (label_begins i).0 (case_again (below_at room) (nested_at room) from first behind p l ss (label_read i) (stmts_read a room z d (cases_rest b n))) (omega arith) (cases_read b room z d g n)
+
+  stmts_read : {free depth : ℕ} {from left : Tokens} {ss : List Stmt} → AreStmts free depth from ss left → (room : ℕ) → free ≡ 0 → depth + room ≡ 64 → Rests left → ReadsAll case_goes_on (nested_at room) from ss left
+  stmts_read (no_stmts {left = left}) room z d n = none_again case_goes_on (nested_at room) left n.0
+  stmts_read (more_stmts {from = from} {behind = behind} {left = left} {s = s} {ss = ss} a b) room z d n =
+      one_again case_goes_on (nested_at room) from behind left s ss (goes_further from (nested_begins a)).1 (nested_read a room z d (closes_where s behind (stmts_no_else b n.1))) (nested_shorter a) (stmts_read b room z d n)

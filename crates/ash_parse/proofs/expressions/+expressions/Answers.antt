@@ -1,0 +1,98 @@
+use Rattle.std.proofs.Common.{◌≡◌, ◌∙◌, sym, map, arith, true, false}
+use Rattle.std.proofs.lemmas.List.{length-map}
+use Rattle.std.proofs.lemmas.Result.{err_from_is_err_and}
+use Rattle.ash_lex.specs.declared.signs.Sign.TheVariants as signs
+use Rattle.ash_tree.specs.Tokens.{tokens_of, placed}
+use Rattle.ash_tree.specs.Views.{expr_of, suffix_of, operation_of}
+use Rattle.ash_parse.specs.Reading.{put, next_is_sign}
+use Rattle.ash_parse.specs.ExpressionReader.{below_at, binary_with, is_link, link_by, links_by, is_suffix, suffix_with, suffixes_with, next_expr_with, more_exprs_with}
+use Rattle.ash_parse.proofs.Loop.{goes_on, ends, is_done}
+use Rattle.ash_parse.proofs.ExpressionLoops.{no_sign_left, no_suffix_left, no_link_left, next_expr_shrinks, suffix_shrinks, link_shrinks, below-whole, below-part, below-none, binary-none, binary-some}
+use Rattle.ash_parse.proofs.expressions.+expressions.Goals as goal
+
+pub below-returns-then-room-eq0 : goal.below-returns-then-room-eq0
+below-returns-then-room-eq0 t c = rw (below-none c.args.room c.args.whole (tokens_of c.args.tokens.now) c.if-room-eq0.true) c.limit.ensures
+
+pub below-returns-then-whole : goal.below-returns-then-whole
+below-returns-then-whole t c = rw (c.if-whole.true, below-whole c.args.room (tokens_of c.args.tokens.now) (omega arith)) c.assign.ensures
+
+pub below-returns-else-whole : goal.below-returns-else-whole
+below-returns-else-whole t c = rw (c.if-whole.false, below-part c.args.room (tokens_of c.args.tokens.now) (omega arith)) c.unary.ensures
+
+pub binary-returns-then-level-eq0 : goal.binary-returns-then-level-eq0
+binary-returns-then-level-eq0 t c = rw (binary-none (below_at c.args.room) c.args.level (tokens_of c.args.tokens.now) c.if-level-eq0.true) c.unary.ensures
+
+pub binary-returns : goal.binary-returns
+binary-returns t c = rw (binary-some (below_at c.args.room) c.args.level (tokens_of c.args.tokens.now) (omega arith)) c.chain.ensures
+
+pub links-returns-in_err-next : goal.links-returns-in_err-next
+unfolding links_by
+links-returns-in_err-next t c =
+    let p = err_from_is_err_and c.from_residual.result c.from_residual.ensures.1 in
+    let more : is_link c.args.level (tokens_of c.more.rest.now) ≡ true = sym c.begins_link.ensures ∙ c.more-test.true in
+    rw (p.1, p.2) (ends (is_link c.args.level) (link_by c.args.level (binary_with (below_at c.args.room) c.args.level)) (link_shrinks c.args.room c.requires.room c.args.level) (no_link_left c.args.level) c.in_err-next.field-0.0 (map operation_of c.more.links.items) (tokens_of c.more.rest.now) (links_by c.args.level (binary_with (below_at c.args.room) c.args.level) (tokens_of c.args.tokens.now)) more c.in_err-next.ensures c.more.invariant)
+
+pub links-more-smaller : goal.links-more-smaller
+links-more-smaller t c =
+    let shorter = link_shrinks c.args.room c.requires.room c.args.level (tokens_of c.more.rest.now) (operation_of c.in_ok-next.next) (tokens_of c.in_ok-next.behind.now) c.in_ok-next.ensures in
+    omega (arith, shorter, length-map c.more.rest.now placed, length-map c.in_ok-next.behind.now placed)
+
+pub links-more-preserved : goal.links-more-preserved
+unfolding links_by
+links-more-preserved t c =
+    let more : is_link c.args.level (tokens_of c.more.rest.now) ≡ true = sym c.begins_link.ensures ∙ c.more-test.true in
+    rw c.in_ok-push.ensures.items (goes_on (is_link c.args.level) (link_by c.args.level (binary_with (below_at c.args.room) c.args.level)) (link_shrinks c.args.room c.requires.room c.args.level) (no_link_left c.args.level) operation_of c.more.links.items c.in_ok-next.next (tokens_of c.more.rest.now) (tokens_of c.in_ok-next.behind.now) (links_by c.args.level (binary_with (below_at c.args.room) c.args.level) (tokens_of c.args.tokens.now)) more c.in_ok-next.ensures c.more.invariant)
+
+pub links-returns : goal.links-returns
+unfolding links_by
+links-returns t c =
+    let more : is_link c.args.level (tokens_of c.more.rest.now) ≡ false = sym c.begins_link.ensures ∙ c.more-test.false in
+    is_done (is_link c.args.level) (link_by c.args.level (binary_with (below_at c.args.room) c.args.level)) (link_shrinks c.args.room c.requires.room c.args.level) (no_link_left c.args.level) (map operation_of c.more.links.items) (tokens_of c.more.rest.now) (links_by c.args.level (binary_with (below_at c.args.room) c.args.level) (tokens_of c.args.tokens.now)) more c.more.invariant
+
+pub suffixes-returns-in_err-next : goal.suffixes-returns-in_err-next
+unfolding suffixes_with
+suffixes-returns-in_err-next t c =
+    let p = err_from_is_err_and c.from_residual.result c.from_residual.ensures.1 in
+    let more : is_suffix (tokens_of c.more.rest.now) ≡ true = sym c.begins_suffix.ensures ∙ c.more-test.true in
+    rw (p.1, p.2) (ends (is_suffix) (suffix_with (below_at c.args.room)) (suffix_shrinks c.args.room c.requires) (no_suffix_left) c.in_err-next.field-0.0 (map suffix_of c.more.suffixes.items) (tokens_of c.more.rest.now) (suffixes_with (below_at c.args.room) (tokens_of c.args.tokens.now)) more c.in_err-next.ensures c.more.invariant)
+
+pub suffixes-more-smaller : goal.suffixes-more-smaller
+suffixes-more-smaller t c =
+    let shorter = suffix_shrinks c.args.room c.requires (tokens_of c.more.rest.now) (suffix_of c.in_ok-next.next) (tokens_of c.in_ok-next.behind.now) c.in_ok-next.ensures in
+    omega (arith, shorter, length-map c.more.rest.now placed, length-map c.in_ok-next.behind.now placed)
+
+pub suffixes-more-preserved : goal.suffixes-more-preserved
+unfolding suffixes_with
+suffixes-more-preserved t c =
+    let more : is_suffix (tokens_of c.more.rest.now) ≡ true = sym c.begins_suffix.ensures ∙ c.more-test.true in
+    rw c.in_ok-push.ensures.items (goes_on (is_suffix) (suffix_with (below_at c.args.room)) (suffix_shrinks c.args.room c.requires) (no_suffix_left) suffix_of c.more.suffixes.items c.in_ok-next.next (tokens_of c.more.rest.now) (tokens_of c.in_ok-next.behind.now) (suffixes_with (below_at c.args.room) (tokens_of c.args.tokens.now)) more c.in_ok-next.ensures c.more.invariant)
+
+pub suffixes-returns : goal.suffixes-returns
+unfolding suffixes_with
+suffixes-returns t c =
+    let more : is_suffix (tokens_of c.more.rest.now) ≡ false = sym c.begins_suffix.ensures ∙ c.more-test.false in
+    is_done (is_suffix) (suffix_with (below_at c.args.room)) (suffix_shrinks c.args.room c.requires) (no_suffix_left) (map suffix_of c.more.suffixes.items) (tokens_of c.more.rest.now) (suffixes_with (below_at c.args.room) (tokens_of c.args.tokens.now)) more c.more.invariant
+
+pub more_expressions-returns-in_err-next : goal.more_expressions-returns-in_err-next
+unfolding more_exprs_with
+more_expressions-returns-in_err-next t c =
+    let p = err_from_is_err_and c.from_residual-in_err-next.result c.from_residual-in_err-next.ensures.1 in
+    let more : next_is_sign signs.Comma (tokens_of c.more.rest.now) ≡ true = sym c.next_is_sign.ensures ∙ c.more-test.true in
+    rw (p.1, p.2) (ends (next_is_sign signs.Comma) (next_expr_with (below_at c.args.room)) (next_expr_shrinks c.args.room c.requires) (no_sign_left signs.Comma) c.in_err-next.field-0.0 (map expr_of c.more.all.items) (tokens_of c.more.rest.now) (put (expr_of c.args.first) (more_exprs_with (below_at c.args.room) (tokens_of c.args.tokens.now))) more c.in_err-next.ensures c.more.invariant)
+
+pub more_expressions-more-smaller : goal.more_expressions-more-smaller
+more_expressions-more-smaller t c =
+    let shorter = next_expr_shrinks c.args.room c.requires (tokens_of c.more.rest.now) (expr_of c.in_ok-next.next) (tokens_of c.in_ok-next.behind.now) c.in_ok-next.ensures in
+    omega (arith, shorter, length-map c.more.rest.now placed, length-map c.in_ok-next.behind.now placed)
+
+pub more_expressions-more-preserved : goal.more_expressions-more-preserved
+unfolding more_exprs_with
+more_expressions-more-preserved t c =
+    let more : next_is_sign signs.Comma (tokens_of c.more.rest.now) ≡ true = sym c.next_is_sign.ensures ∙ c.more-test.true in
+    rw c.in_ok-push-2.ensures.items (goes_on (next_is_sign signs.Comma) (next_expr_with (below_at c.args.room)) (next_expr_shrinks c.args.room c.requires) (no_sign_left signs.Comma) expr_of c.more.all.items c.in_ok-next.next (tokens_of c.more.rest.now) (tokens_of c.in_ok-next.behind.now) (put (expr_of c.args.first) (more_exprs_with (below_at c.args.room) (tokens_of c.args.tokens.now))) more c.in_ok-next.ensures c.more.invariant)
+
+pub more_expressions-returns : goal.more_expressions-returns
+unfolding more_exprs_with
+more_expressions-returns t c =
+    let more : next_is_sign signs.Comma (tokens_of c.more.rest.now) ≡ false = sym c.next_is_sign.ensures ∙ c.more-test.false in
+    is_done (next_is_sign signs.Comma) (next_expr_with (below_at c.args.room)) (next_expr_shrinks c.args.room c.requires) (no_sign_left signs.Comma) (map expr_of c.more.all.items) (tokens_of c.more.rest.now) (put (expr_of c.args.first) (more_exprs_with (below_at c.args.room) (tokens_of c.args.tokens.now))) more c.more.invariant

@@ -1,0 +1,181 @@
+-- Reading an expression, one function for each phrase. `below` reads what stands one deeper: a whole expression where it
+-- is told `true`, and the operand of a unary operator where it is told `false`.
+use Rattle.std.specs.Prelude.{ℕ, zero, suc, List, [], ◌∷◌, ◌==◌, Bool, true, false, Option, Some, None, is_some, Ok, Err, if◌then◌else◌}
+use Rattle.ash_lex.specs.Tokens.{Meaning, name, number, sign, reserved}
+use Rattle.ash_lex.specs.declared.signs.Sign.TheVariants as signs
+use Rattle.ash_lex.specs.declared.words.ReservedWord.TheVariants as words
+use Rattle.ash_tree.specs.declared.tree.places.Place.{Place}
+use Rattle.ash_tree.specs.declared.tree.types.Primitive.{Primitive}
+use Rattle.ash_tree.specs.declared.tree.operators.UnaryOp.{UnaryOp}
+use Rattle.ash_tree.specs.declared.tree.operators.BinaryOp.{BinaryOp}
+use Rattle.ash_tree.specs.declared.tree.operators.AssignOp.{AssignOp}
+use Rattle.ash_tree.specs.Tree.{Expr, Number, Truth, Null, This, Name, Call, Brackets, Convert, Unary, Conditional, Assign, Suffix, Field, Method, Increment, Decrement, Operation, place_of, exprs, chained, suffixed}
+use Rattle.ash_tree.specs.Tokens.{Tokens}
+use Rattle.ash_tree.specs.Operators.{primitive, unary_operator, binary_operator, level, LEVELS, assign_operator}
+use Rattle.ash_parse.specs.Signs.{is_sign}
+use Rattle.ash_parse.specs.Reading.{Reading, Unexpected, TooDeep, ◌>>=◌, put, loop, next_is, next_is_sign, expect_at, name_at}
+
+abbrev pub Below : Type 0
+Below = Bool → Tokens → Reading Expr
+
+-- the token begins an expression
+unfoldable pub begins : Meaning → Bool
+begins (name text) = true
+begins (number n) = true
+begins (sign signs.OpenParenthesis) = true
+begins (reserved words.True) = true
+begins (reserved words.False) = true
+begins (reserved words.Null) = true
+begins (reserved words.This) = true
+begins m = if is_some (primitive m) then true else is_some (unary_operator m)
+
+-- where no deeper phrase may begin
+unfoldable pub limit_at : Tokens → Reading Expr
+limit_at ts = if next_is begins ts then Err (TooDeep ts) else Err (Unexpected ts)
+
+-- "," assign
+unfoldable pub next_expr_with : Below → Tokens → Reading Expr
+next_expr_with below ts = do
+  comma ← expect_at signs.Comma ts
+  below true comma.1
+
+unfoldable pub more_exprs_with : Below → Tokens → Reading (List Expr)
+more_exprs_with below ts = loop (next_is_sign signs.Comma) (next_expr_with below) ts
+
+-- [ assign { "," assign } ] in front of a ")"
+unfoldable pub exprs_with : Below → Tokens → Reading (List Expr)
+exprs_with below ts =
+    if next_is_sign signs.CloseParenthesis ts then Ok ([], ts) else (below true ts >>= λ first. put first.0 (more_exprs_with below first.1))
+
+unfoldable pub arguments_with : Below → Tokens → Reading (List Expr)
+arguments_with below ts = do
+  opened ← expect_at signs.OpenParenthesis ts
+  es ← exprs_with below opened.1
+  closed ← expect_at signs.CloseParenthesis es.1
+  Ok (es.0, closed.1)
+
+-- "(" assign ")"
+unfoldable pub bracketed_with : Below → Tokens → Reading Expr
+bracketed_with below ts = do
+  opened ← expect_at signs.OpenParenthesis ts
+  e ← below true opened.1
+  closed ← expect_at signs.CloseParenthesis e.1
+  Ok (e.0, closed.1)
+
+-- NAME [args], behind the name
+unfoldable pub named_with : Below → Place → List ℕ → Tokens → Reading Expr
+named_with below p text ts =
+    if next_is_sign signs.OpenParenthesis ts then (arguments_with below ts >>= λ es. Ok (Call p text (exprs es.0), es.1)) else Ok (Name p text, ts)
+
+abbrev pub primary_by : Below → Option Primitive → Meaning → Place → Tokens → Reading Expr
+primary_by below (Some k) m p ts = bracketed_with below ts >>= λ e. Ok (Convert p k e.0, e.1)
+primary_by below None (name text) p ts = named_with below p text ts
+primary_by below None (number n) p ts = Ok (Number p n, ts)
+primary_by below None (sign signs.OpenParenthesis) p ts = bracketed_with below ((sign signs.OpenParenthesis, p) ∷ ts) >>= λ e. Ok (Brackets p e.0, e.1)
+primary_by below None (reserved words.True) p ts = Ok (Truth p true, ts)
+primary_by below None (reserved words.False) p ts = Ok (Truth p false, ts)
+primary_by below None (reserved words.Null) p ts = Ok (Null p, ts)
+primary_by below None (reserved words.This) p ts = Ok (This p, ts)
+primary_by below None m p ts = Err (Unexpected ((m, p) ∷ ts))
+
+unfoldable pub primary_with : Below → Tokens → Reading Expr
+primary_with below [] = Err (Unexpected [])
+primary_with below ((m, p) ∷ ts) = primary_by below (primitive m) m p ts
+
+unfoldable pub begins_suffix : Meaning → Bool
+begins_suffix (sign signs.Dot) = true
+begins_suffix (sign signs.Increment) = true
+begins_suffix (sign signs.Decrement) = true
+begins_suffix _ = false
+
+unfoldable pub is_suffix : Tokens → Bool
+is_suffix ts = next_is begins_suffix ts
+
+-- NAME [args], behind the "."
+unfoldable pub member_with : Below → Tokens → Reading Suffix
+member_with below ts =
+    name_at ts >>= λ n. if next_is_sign signs.OpenParenthesis n.1 then (arguments_with below n.1 >>= λ es. Ok (Method (n.0).1 (n.0).0 (exprs es.0), es.1)) else Ok (Field (n.0).1 (n.0).0, n.1)
+
+unfoldable pub suffix_with : Below → Tokens → Reading Suffix
+suffix_with below [] = Err (Unexpected [])
+suffix_with below ((sign signs.Dot, p) ∷ ts) = member_with below ts
+suffix_with below ((sign signs.Increment, p) ∷ ts) = Ok (Increment, ts)
+suffix_with below ((sign signs.Decrement, p) ∷ ts) = Ok (Decrement, ts)
+suffix_with below ((m, p) ∷ ts) = Err (Unexpected ((m, p) ∷ ts))
+
+unfoldable pub suffixes_with : Below → Tokens → Reading (List Suffix)
+suffixes_with below ts = loop is_suffix (suffix_with below) ts
+
+unfoldable pub postfix_with : Below → Tokens → Reading Expr
+postfix_with below ts = do
+  e ← primary_with below ts
+  more ← suffixes_with below e.1
+  Ok (suffixed e.0 more.0, more.1)
+
+abbrev pub unary_by : Below → Option UnaryOp → Meaning → Place → Tokens → Reading Expr
+unary_by below None m p ts = postfix_with below ((m, p) ∷ ts)
+unary_by below (Some operator) m p ts = below false ts >>= λ e. Ok (Unary p operator e.0, e.1)
+
+unfoldable pub unary_with : Below → Tokens → Reading Expr
+unary_with below [] = Err (Unexpected [])
+unary_with below ((m, p) ∷ ts) = unary_by below (unary_operator m) m p ts
+
+abbrev pub operator_by : ℕ → Option BinaryOp → Tokens → Option (BinaryOp × Tokens)
+operator_by n None ts = None
+operator_by n (Some operator) ts = if level operator == suc n then Some (operator, ts) else None
+
+-- an operator that joins operands of this level
+unfoldable pub operator_at : ℕ → Tokens → Option (BinaryOp × Tokens)
+operator_at n [] = None
+operator_at n ((m, p) ∷ ts) = operator_by n (binary_operator m) ts
+
+unfoldable pub is_link : ℕ → Tokens → Bool
+is_link n ts = is_some (operator_at n ts)
+
+abbrev pub link_from : (Tokens → Reading Expr) → Option (BinaryOp × Tokens) → Tokens → Reading Operation
+link_from operand None ts = Err (Unexpected ts)
+link_from operand (Some o) ts = operand o.1 >>= λ e. Ok (record { operator = o.0; operand = e.0 }, e.1)
+
+-- an operator of this level with its right operand
+unfoldable pub link_by : ℕ → (Tokens → Reading Expr) → Tokens → Reading Operation
+link_by n operand ts = link_from operand (operator_at n ts) ts
+
+unfoldable pub links_by : ℕ → (Tokens → Reading Expr) → Tokens → Reading (List Operation)
+links_by n operand ts = loop (is_link n) (link_by n operand) ts
+
+unfoldable pub chain_by : ℕ → (Tokens → Reading Expr) → Tokens → Reading Expr
+chain_by n operand ts = do
+  first ← operand ts
+  more ← links_by n operand first.1
+  Ok (chained first.0 more.0, more.1)
+
+-- what operators up to this level join
+unfoldable pub binary_with : Below → ℕ → Tokens → Reading Expr
+binary_with below zero ts = unary_with below ts
+binary_with below (suc n) ts = chain_by n (binary_with below n) ts
+
+-- "?" assign ":" assign, behind the "?"
+unfoldable pub branches_with : Below → Expr → Tokens → Reading Expr
+branches_with below c ts = do
+  a ← below true ts
+  colon ← expect_at signs.Colon a.1
+  b ← below true colon.1
+  Ok (Conditional (place_of c) c a.0 b.0, b.1)
+
+abbrev pub assign_by : Below → Expr → Option AssignOp → Meaning → Place → Tokens → Reading Expr
+assign_by below e None m p ts = Ok (e, (m, p) ∷ ts)
+assign_by below e (Some operator) m p ts = below true ts >>= λ v. Ok (Assign (place_of e) e operator v.0, v.1)
+
+-- what stands behind the first operand of an `assign`
+unfoldable pub assign_from : Below → Expr → Tokens → Reading Expr
+assign_from below e [] = Ok (e, [])
+assign_from below e ((m, p) ∷ ts) = if is_sign signs.Question m then branches_with below e ts else assign_by below e (assign_operator m) m p ts
+
+unfoldable pub assign_with : Below → Tokens → Reading Expr
+assign_with below ts = binary_with below LEVELS ts >>= λ e. assign_from below e.0 e.1
+
+-- with room for so many deeper phrases, one in the other
+unfoldable pub below_at : ℕ → Below
+below_at zero whole ts = limit_at ts
+below_at (suc room) true ts = assign_with (below_at room) ts
+below_at (suc room) false ts = unary_with (below_at room) ts

@@ -1,0 +1,180 @@
+-- Reading modules and registered declarations, one function for each phrase.
+use Rattle.std.specs.Prelude.{ℕ, List, [], ◌∷◌, Bool, true, false, Option, Some, None, Ok, Err, if◌then◌else◌}
+use Rattle.ash_lex.specs.Tokens.{Meaning, reserved}
+use Rattle.ash_lex.specs.declared.signs.Sign.TheVariants as signs
+use Rattle.ash_lex.specs.declared.words.ReservedWord.TheVariants as words
+use Rattle.ash_tree.specs.declared.tree.places.Place.{Place}
+use Rattle.ash_tree.specs.Tree.{Named, Vars, Stmt, Parameter, Function, Constructor, Member, AMethod, AField, AConstructor, Class, Item, AClass, AFunction, AGlobal, Declaration, ASignature, AProperty}
+use Rattle.ash_tree.specs.Tokens.{Tokens}
+use Rattle.ash_tree.specs.Expressions.{DEPTH}
+use Rattle.ash_parse.specs.Signs.{is_sign}
+use Rattle.ash_parse.specs.Reading.{Reading, Unexpected, ◌>>=◌, put, loop, next_is_sign, expect_at, name_at}
+use Rattle.ash_parse.specs.ExpressionReader.{below_at}
+use Rattle.ash_parse.specs.StatementReader.{next_is_name, type_at, is_vars, declared_with, goes_on, block_with, nested_at}
+
+unfoldable pub is_void : Meaning → Bool
+is_void (reserved words.Void) = true
+is_void _ = false
+
+unfoldable pub is_class : Meaning → Bool
+is_class (reserved words.Class) = true
+is_class _ = false
+
+-- rtype
+unfoldable pub result_type_at : Tokens → Reading (Option Named)
+result_type_at [] = Err (Unexpected [])
+result_type_at ((m, p) ∷ ts) = if is_void m then Ok (None, ts) else (type_at ((m, p) ∷ ts) >>= λ t. Ok (Some t.0, t.1))
+
+-- type NAME
+unfoldable pub parameter_at : Tokens → Reading Parameter
+parameter_at ts = do
+  t ← type_at ts
+  n ← name_at t.1
+  Ok (record { of = t.0; place = (n.0).1; name = (n.0).0 }, n.1)
+
+unfoldable pub next_parameter_at : Tokens → Reading Parameter
+next_parameter_at ts = do
+  comma ← expect_at signs.Comma ts
+  parameter_at comma.1
+
+unfoldable pub more_parameters_at : Tokens → Reading (List Parameter)
+more_parameters_at ts = loop (next_is_sign signs.Comma) next_parameter_at ts
+
+-- [ type NAME { "," type NAME } ] in front of a ")"
+unfoldable pub parameter_list_at : Tokens → Reading (List Parameter)
+parameter_list_at ts = if next_is_sign signs.CloseParenthesis ts then Ok ([], ts) else (parameter_at ts >>= λ x. put x.0 (more_parameters_at x.1))
+
+unfoldable pub parameters_at : Tokens → Reading (List Parameter)
+parameters_at ts = do
+  o ← expect_at signs.OpenParenthesis ts
+  xs ← parameter_list_at o.1
+  z ← expect_at signs.CloseParenthesis xs.1
+  Ok (xs.0, z.1)
+
+-- the body of a function
+unfoldable pub body_at : Tokens → Reading (List Stmt)
+body_at ts = block_with (below_at DEPTH) (nested_at DEPTH) ts
+
+unfoldable pub function_at : Tokens → Reading Function
+function_at ts = do
+  r ← result_type_at ts
+  n ← name_at r.1
+  xs ← parameters_at n.1
+  b ← body_at xs.1
+  Ok (record { place = (n.0).1; result = r.0; name = (n.0).0; parameters = xs.0; body = b.0 }, b.1)
+
+-- vars ";" outside functions
+unfoldable pub globals_at : Tokens → Reading Vars
+globals_at ts = declared_with (below_at DEPTH) ts
+
+-- all but the first token
+unfoldable pub behind : Tokens → Tokens
+behind [] = []
+behind (t ∷ ts) = ts
+
+-- behind the "(" of a function's parameters, and not of arguments
+unfoldable pub opens_body : Tokens → Bool
+opens_body [] = false
+opens_body ((m, p) ∷ ts) = if is_sign signs.CloseParenthesis m then next_is_sign signs.OpenBrace ts else false
+
+-- NAME "(" and what begins parameters
+unfoldable pub names_function : Tokens → Bool
+names_function ts =
+    if next_is_name ts then (if next_is_sign signs.OpenParenthesis (behind ts) then (if is_vars (behind (behind ts)) then true else opens_body (behind (behind ts))) else false) else false
+
+-- the tokens begin a function, and no declaration of variables
+unfoldable pub is_function : Tokens → Bool
+is_function [] = false
+is_function ((m, p) ∷ ts) = if is_void m then true else (if next_is_sign signs.Handle ts then names_function (behind ts) else names_function ts)
+
+unfoldable pub is_constructor : Tokens → Bool
+is_constructor ts = if next_is_name ts then next_is_sign signs.OpenParenthesis (behind ts) else false
+
+unfoldable pub constructor_at : Tokens → Reading Constructor
+constructor_at ts = do
+  n ← name_at ts
+  xs ← parameters_at n.1
+  b ← body_at xs.1
+  Ok (record { place = (n.0).1; name = (n.0).0; parameters = xs.0; body = b.0 }, b.1)
+
+unfoldable pub member_at : Tokens → Reading Member
+member_at ts =
+    if is_constructor ts then (constructor_at ts >>= λ f. Ok (AConstructor f.0, f.1))
+    else (if is_function ts then (function_at ts >>= λ f. Ok (AMethod f.0, f.1)) else (globals_at ts >>= λ v. Ok (AField v.0, v.1)))
+
+unfoldable pub members_at : Tokens → Reading (List Member)
+members_at ts = loop goes_on member_at ts
+
+-- a class behind the word `class`
+unfoldable pub class_at : Tokens → Reading Class
+class_at ts = do
+  n ← name_at ts
+  o ← expect_at signs.OpenBrace n.1
+  xs ← members_at o.1
+  z ← expect_at signs.CloseBrace xs.1
+  Ok (record { place = (n.0).1; name = (n.0).0; members = xs.0 }, z.1)
+
+unfoldable pub item_at : Tokens → Reading Item
+item_at [] = Err (Unexpected [])
+item_at ((m, p) ∷ ts) =
+    if is_class m then (class_at ts >>= λ c. Ok (AClass c.0, c.1))
+    else (if is_function ((m, p) ∷ ts) then (function_at ((m, p) ∷ ts) >>= λ f. Ok (AFunction f.0, f.1)) else (globals_at ((m, p) ∷ ts) >>= λ v. Ok (AGlobal v.0, v.1)))
+
+-- behind each ";" in front
+unfoldable pub strip : Tokens → Tokens
+strip [] = []
+strip ((m, p) ∷ ts) = if is_sign signs.Semicolon m then strip ts else (m, p) ∷ ts
+
+-- an item, and each ";" behind it
+unfoldable pub entry_at : Tokens → Reading Item
+entry_at ts = item_at ts >>= λ x. Ok (x.0, strip x.1)
+
+unfoldable pub is_left : Tokens → Bool
+is_left [] = false
+is_left (t ∷ ts) = true
+
+unfoldable pub entries_at : Tokens → Reading (List Item)
+entries_at ts = loop is_left entry_at ts
+
+-- a module
+unfoldable pub module_at : Tokens → Reading (List Item)
+module_at ts = entries_at (strip ts)
+
+-- type [NAME]
+unfoldable pub unnamed_at : Tokens → Reading Named
+unnamed_at ts = type_at ts >>= λ t. Ok (t.0, if next_is_name t.1 then behind t.1 else t.1)
+
+unfoldable pub next_unnamed_at : Tokens → Reading Named
+next_unnamed_at ts = do
+  comma ← expect_at signs.Comma ts
+  unnamed_at comma.1
+
+unfoldable pub more_unnamed_at : Tokens → Reading (List Named)
+more_unnamed_at ts = loop (next_is_sign signs.Comma) next_unnamed_at ts
+
+unfoldable pub unnamed_list_at : Tokens → Reading (List Named)
+unnamed_list_at ts = if next_is_sign signs.CloseParenthesis ts then Ok ([], ts) else (unnamed_at ts >>= λ x. put x.0 (more_unnamed_at x.1))
+
+-- "(" [ type [NAME] { "," type [NAME] } ] ")"
+unfoldable pub unnamed_parameters_at : Tokens → Reading (List Named)
+unnamed_parameters_at ts = do
+  o ← expect_at signs.OpenParenthesis ts
+  xs ← unnamed_list_at o.1
+  z ← expect_at signs.CloseParenthesis xs.1
+  Ok (xs.0, z.1)
+
+-- what is registered is a property, if it has a type
+abbrev pub property_by : Option Named → Place → List ℕ → Tokens → Reading Declaration
+property_by (Some t) p text ts = Ok (AProperty (record { place = p; of = t; name = text }), ts)
+property_by None p text ts = Err (Unexpected ts)
+
+-- what stands behind the name of a declaration
+unfoldable pub declaration_behind : Option Named → Place → List ℕ → Tokens → Reading Declaration
+declaration_behind r p text ts =
+    if next_is_sign signs.OpenParenthesis ts then (unnamed_parameters_at ts >>= λ xs. Ok (ASignature (record { place = p; result = r; name = text; parameters = xs.0 }), xs.1)) else property_by r p text ts
+
+unfoldable pub declaration_at : Tokens → Reading Declaration
+declaration_at ts = do
+  r ← result_type_at ts
+  n ← name_at r.1
+  declaration_behind r.0 (n.0).1 (n.0).0 n.1

@@ -1,0 +1,7 @@
+pub mod Signs
+pub mod Reading
+pub mod ExpressionReader
+pub mod StatementReader
+pub mod ItemReader
+pub mod Faults
+pub mod Unique

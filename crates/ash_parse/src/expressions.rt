@@ -1,0 +1,387 @@
+//! Reading an expression.
+//!
+//! Each function reads the phrase that stands above it. `room` is how many phrases that count for the depth may still
+//! begin, one in the other.
+
+ghost use Rattle.std.specs.Prelude.{◌≡◌, ◌<◌, ◌≤◌, map, string_bytes, option_map, true, false, Ok, Err};
+ghost use Rattle.ash_tree.specs.Tokens.{tokens_of, place_of_token};
+ghost use Rattle.ash_tree.specs.Views.{expr_of, suffix_of, operation_of};
+ghost use Rattle.ash_parse.specs.Reading.{Gives, Fails, put};
+ghost use Rattle.ash_parse.specs.ExpressionReader as reader;
+
+use crate::cursor::{expect, is_sign, name, next_is_sign, place};
+use crate::operators::{
+    assign_operator, begins_expression, binary_operator, level, primitive, unary_operator,
+};
+use crate::stop::{Reading, Stop};
+use ash_lex::{ReservedWord, Sign, Token, TokenKind};
+use ash_tree::{BinaryOp, Expr, ExprKind, Link, Place, Suffix, nodes};
+use std::alloc::Global;
+
+/// How deep a token stands at most.
+pub const DEPTH: u32 = 64;
+
+/// The loosest level of operators.
+const LEVELS: u32 = 10;
+
+/// Why a phrase can't begin where no deeper one may.
+#[tactic(auto, unfolding(crate::specs::ExpressionReader::limit_at))]
+fn limit(tokens: &[Token]) -> Stop<'_>
+    ensures { Fails result (reader.limit_at (tokens_of tokens.now)) }
+{
+    let Some((next, _)) = tokens.split_first() else {
+        return Stop::Unexpected(tokens);
+    };
+    if begins_expression(&next.kind) {
+        Stop::TooDeep(tokens)
+    } else {
+        Stop::Unexpected(tokens)
+    }
+}
+
+/// What stands one deeper: an `assign`, or else a `unary`.
+#[cycle(expressions)]
+pub fn below<'a>(alloc: Global, whole: bool, room: u32, tokens: &'a [Token]) -> Reading<'a, Expr>
+    requires { room ≤ DEPTH }
+    ensures { Gives (λ x. (expr_of x.0, tokens_of x.1.now)) result (reader.below_at room whole (tokens_of tokens.now)) }
+{
+    if room == 0 {
+        return Err(limit(tokens));
+    }
+    if whole {
+        assign(alloc, room - 1, tokens)
+    } else {
+        unary(alloc, room - 1, tokens)
+    }
+}
+
+/// `cond [ aop assign ]`, where `cond` is `binary [ "?" assign ":" assign ]`
+#[cycle(expressions)]
+#[tactic(auto, unfolding(crate::specs::ExpressionReader::assign_with, crate::specs::ExpressionReader::assign_from))]
+pub fn assign(alloc: Global, room: u32, tokens: &[Token]) -> Reading<'_, Expr>
+    requires { room ≤ DEPTH }
+    ensures { Gives (λ x. (expr_of x.0, tokens_of x.1.now)) result (reader.assign_with (reader.below_at room) (tokens_of tokens.now)) }
+{
+    let (target, rest) = binary(alloc, LEVELS, room, tokens)?;
+    let Some((next, behind)) = rest.split_first() else {
+        return Ok((target, rest));
+    };
+    if is_sign(Sign::Question, next) {
+        return branches(alloc, room, target, behind);
+    }
+    let Some(operator) = assign_operator(&next.kind) else {
+        return Ok((target, rest));
+    };
+    let (value, rest) = below(alloc, true, room, behind)?;
+    Ok((nodes::assign(alloc, target, operator, value)?, rest))
+}
+
+/// `assign ":" assign`, behind the `?`
+#[cycle(expressions)]
+#[tactic(auto, unfolding(crate::specs::ExpressionReader::branches_with))]
+fn branches<'a>(alloc: Global, room: u32, condition: Expr, tokens: &'a [Token]) -> Reading<'a, Expr>
+    requires { room ≤ DEPTH }
+    ensures { Gives (λ x. (expr_of x.0, tokens_of x.1.now)) result (reader.branches_with (reader.below_at room) (expr_of condition) (tokens_of tokens.now)) }
+{
+    let (then, rest) = below(alloc, true, room, tokens)?;
+    let (_, rest) = expect(Sign::Colon, rest)?;
+    let (otherwise, rest) = below(alloc, true, room, rest)?;
+    Ok((nodes::conditional(alloc, condition, then, otherwise)?, rest))
+}
+
+/// What operators up to this level join; without a level a `unary`.
+#[cycle(expressions)]
+fn binary(alloc: Global, level: u32, room: u32, tokens: &[Token]) -> Reading<'_, Expr>
+    requires loosest { level ≤ LEVELS }
+    requires room { room ≤ DEPTH }
+    ensures { Gives (λ x. (expr_of x.0, tokens_of x.1.now)) result (reader.binary_with (reader.below_at room) level (tokens_of tokens.now)) }
+{
+    if level == 0 {
+        return unary(alloc, room, tokens);
+    }
+    chain(alloc, level - 1, room, tokens)
+}
+
+/// What the operators that join operands of this level join.
+#[cycle(expressions)]
+#[tactic(auto, unfolding(crate::specs::ExpressionReader::chain_by))]
+fn chain(alloc: Global, level: u32, room: u32, tokens: &[Token]) -> Reading<'_, Expr>
+    requires loosest { level < LEVELS }
+    requires room { room ≤ DEPTH }
+    ensures { Gives (λ x. (expr_of x.0, tokens_of x.1.now)) result (reader.chain_by level (reader.binary_with (reader.below_at room) level) (tokens_of tokens.now)) }
+{
+    let (first, rest) = binary(alloc, level, room, tokens)?;
+    let (links, rest) = links(alloc, level, room, rest)?;
+    Ok((nodes::binary(alloc, first, links)?, rest))
+}
+
+/// The operators that join operands of this level, each with its right operand.
+#[cycle(expressions)]
+fn links(alloc: Global, level: u32, room: u32, tokens: &[Token]) -> Reading<'_, Vec<Link>>
+    requires loosest { level < LEVELS }
+    requires room { room ≤ DEPTH }
+    ensures { Gives (λ x. (map operation_of x.0.items, tokens_of x.1.now)) result (reader.links_by level (reader.binary_with (reader.below_at room) level) (tokens_of tokens.now)) }
+{
+    let mut links = Vec::new(alloc);
+    let mut rest = tokens;
+    'more: while begins_link(level, rest) {
+        let (next, behind) = link(alloc, level, room, rest)?;
+        links.push(next)?;
+        rest = behind;
+    }
+    Ok((links, rest))
+}
+
+#[cycle(expressions)]
+#[tactic(auto, unfolding(crate::specs::ExpressionReader::link_by))]
+fn link(alloc: Global, level: u32, room: u32, tokens: &[Token]) -> Reading<'_, Link>
+    requires loosest { level < LEVELS }
+    requires room { room ≤ DEPTH }
+    ensures { Gives (λ x. (operation_of x.0, tokens_of x.1.now)) result (reader.link_by level (reader.binary_with (reader.below_at room) level) (tokens_of tokens.now)) }
+{
+    let Some((operator, rest)) = operator(level, tokens) else {
+        return Err(Stop::Unexpected(tokens));
+    };
+    let (operand, rest) = binary(alloc, level, room, rest)?;
+    Ok((Link { operator, operand }, rest))
+}
+
+/// An operator that joins operands of this level.
+#[tactic(auto, unfolding(crate::specs::ExpressionReader::operator_at))]
+fn operator(operands: u32, tokens: &[Token]) -> Option<(BinaryOp, &[Token])>
+    requires { operands < LEVELS }
+    ensures { option_map (λ x. (x.0, tokens_of x.1.now)) result ≡ reader.operator_at operands (tokens_of tokens.now) }
+{
+    let (next, rest) = tokens.split_first()?;
+    let operator = binary_operator(&next.kind)?;
+    if level(operator) == operands + 1 {
+        Some((operator, rest))
+    } else {
+        None
+    }
+}
+
+#[tactic(auto, unfolding(crate::specs::ExpressionReader::is_link))]
+fn begins_link(level: u32, tokens: &[Token]) -> bool
+    requires { level < LEVELS }
+    ensures { result ≡ reader.is_link level (tokens_of tokens.now) }
+{
+    operator(level, tokens).is_some()
+}
+
+/// `( + - ! ~ ++ -- @ ) unary | postfix`
+#[cycle(expressions)]
+#[tactic(auto, unfolding(crate::specs::ExpressionReader::unary_with))]
+fn unary(alloc: Global, room: u32, tokens: &[Token]) -> Reading<'_, Expr>
+    requires { room ≤ DEPTH }
+    ensures { Gives (λ x. (expr_of x.0, tokens_of x.1.now)) result (reader.unary_with (reader.below_at room) (tokens_of tokens.now)) }
+{
+    let Some((next, rest)) = tokens.split_first() else {
+        return Err(Stop::Unexpected(tokens));
+    };
+    let Some(operator) = unary_operator(&next.kind) else {
+        return postfix(alloc, room, tokens);
+    };
+    let place = place(next);
+    let (operand, rest) = below(alloc, false, room, rest)?;
+    Ok((nodes::unary(alloc, place, operator, operand)?, rest))
+}
+
+/// `primary { suffix }`
+#[cycle(expressions)]
+#[tactic(auto, unfolding(crate::specs::ExpressionReader::postfix_with))]
+fn postfix(alloc: Global, room: u32, tokens: &[Token]) -> Reading<'_, Expr>
+    requires { room ≤ DEPTH }
+    ensures { Gives (λ x. (expr_of x.0, tokens_of x.1.now)) result (reader.postfix_with (reader.below_at room) (tokens_of tokens.now)) }
+{
+    let (operand, rest) = primary(alloc, room, tokens)?;
+    let (suffixes, rest) = suffixes(alloc, room, rest)?;
+    Ok((nodes::postfix(alloc, operand, suffixes)?, rest))
+}
+
+#[tactic(auto, unfolding(crate::specs::ExpressionReader::is_suffix, crate::specs::ExpressionReader::begins_suffix))]
+fn begins_suffix(tokens: &[Token]) -> bool
+    ensures { result ≡ reader.is_suffix (tokens_of tokens.now) }
+{
+    let Some((next, _)) = tokens.split_first() else {
+        return false;
+    };
+    matches!(
+        &next.kind,
+        TokenKind::Sign(Sign::Dot | Sign::Increment | Sign::Decrement)
+    )
+}
+
+#[cycle(expressions)]
+fn suffixes(alloc: Global, room: u32, tokens: &[Token]) -> Reading<'_, Vec<Suffix>>
+    requires { room ≤ DEPTH }
+    ensures { Gives (λ x. (map suffix_of x.0.items, tokens_of x.1.now)) result (reader.suffixes_with (reader.below_at room) (tokens_of tokens.now)) }
+{
+    let mut suffixes = Vec::new(alloc);
+    let mut rest = tokens;
+    'more: while begins_suffix(rest) {
+        let (next, behind) = suffix(alloc, room, rest)?;
+        suffixes.push(next)?;
+        rest = behind;
+    }
+    Ok((suffixes, rest))
+}
+
+/// `"." NAME [args] | "++" | "--"`
+#[cycle(expressions)]
+#[tactic(auto, unfolding(crate::specs::ExpressionReader::suffix_with))]
+fn suffix(alloc: Global, room: u32, tokens: &[Token]) -> Reading<'_, Suffix>
+    requires { room ≤ DEPTH }
+    ensures { Gives (λ x. (suffix_of x.0, tokens_of x.1.now)) result (reader.suffix_with (reader.below_at room) (tokens_of tokens.now)) }
+{
+    let Some((next, rest)) = tokens.split_first() else {
+        return Err(Stop::Unexpected(tokens));
+    };
+    match &next.kind {
+        TokenKind::Sign(Sign::Dot) => member(alloc, room, rest),
+        TokenKind::Sign(Sign::Increment) => Ok((Suffix::Increment, rest)),
+        TokenKind::Sign(Sign::Decrement) => Ok((Suffix::Decrement, rest)),
+        _ => Err(Stop::Unexpected(tokens)),
+    }
+}
+
+/// `NAME [args]`, behind the `.`
+#[cycle(expressions)]
+#[tactic(auto, unfolding(crate::specs::ExpressionReader::member_with))]
+fn member(alloc: Global, room: u32, tokens: &[Token]) -> Reading<'_, Suffix>
+    requires { room ≤ DEPTH }
+    ensures { Gives (λ x. (suffix_of x.0, tokens_of x.1.now)) result (reader.member_with (reader.below_at room) (tokens_of tokens.now)) }
+{
+    let ((name, place), rest) = name(alloc, tokens)?;
+    if !next_is_sign(Sign::OpenParenthesis, rest) {
+        return Ok((Suffix::Field { place, name }, rest));
+    }
+    let (arguments, rest) = arguments(alloc, room, rest)?;
+    Ok((nodes::method(place, name, arguments), rest))
+}
+
+/// `NUMBER | "true" | "false" | "null" | "this" | NAME [args] | "(" assign ")" | prim "(" assign ")"`
+#[cycle(expressions)]
+#[tactic(auto, unfolding(crate::specs::ExpressionReader::primary_with))]
+fn primary(alloc: Global, room: u32, tokens: &[Token]) -> Reading<'_, Expr>
+    requires { room ≤ DEPTH }
+    ensures { Gives (λ x. (expr_of x.0, tokens_of x.1.now)) result (reader.primary_with (reader.below_at room) (tokens_of tokens.now)) }
+{
+    let Some((next, rest)) = tokens.split_first() else {
+        return Err(Stop::Unexpected(tokens));
+    };
+    let place = place(next);
+    if let Some(to) = primitive(&next.kind) {
+        let (value, rest) = bracketed(alloc, room, rest)?;
+        return Ok((nodes::convert(alloc, place, to, value)?, rest));
+    }
+    let kind = match &next.kind {
+        TokenKind::Name(text) => return named(alloc, room, place, text.as_str(), rest),
+        TokenKind::Sign(Sign::OpenParenthesis) => {
+            let (inner, rest) = bracketed(alloc, room, tokens)?;
+            return Ok((nodes::brackets(alloc, place, inner)?, rest));
+        }
+        TokenKind::Number(value) => ExprKind::Number(*value),
+        TokenKind::Reserved(ReservedWord::True) => ExprKind::Bool(true),
+        TokenKind::Reserved(ReservedWord::False) => ExprKind::Bool(false),
+        TokenKind::Reserved(ReservedWord::Null) => ExprKind::Null,
+        TokenKind::Reserved(ReservedWord::This) => ExprKind::This,
+        _ => return Err(Stop::Unexpected(tokens)),
+    };
+    Ok((Expr { place, kind }, rest))
+}
+
+/// `NAME [args]`, behind the name
+#[cycle(expressions)]
+#[tactic(auto, unfolding(crate::specs::ExpressionReader::named_with))]
+fn named<'a>(
+    alloc: Global,
+    room: u32,
+    place: Place,
+    text: &str,
+    tokens: &'a [Token],
+) -> Reading<'a, Expr>
+    requires { room ≤ DEPTH }
+    ensures { Gives (λ x. (expr_of x.0, tokens_of x.1.now)) result (reader.named_with (reader.below_at room) place text.now (tokens_of tokens.now)) }
+{
+    let name = String::from_str(alloc, text)?;
+    if !next_is_sign(Sign::OpenParenthesis, tokens) {
+        let kind = ExprKind::Name(name);
+        return Ok((Expr { place, kind }, tokens));
+    }
+    let (arguments, rest) = arguments(alloc, room, tokens)?;
+    Ok((nodes::call(place, name, arguments), rest))
+}
+
+/// `"(" assign ")"`
+#[cycle(expressions)]
+#[tactic(auto, unfolding(crate::specs::ExpressionReader::bracketed_with))]
+pub fn bracketed(alloc: Global, room: u32, tokens: &[Token]) -> Reading<'_, Expr>
+    requires { room ≤ DEPTH }
+    ensures { Gives (λ x. (expr_of x.0, tokens_of x.1.now)) result (reader.bracketed_with (reader.below_at room) (tokens_of tokens.now)) }
+{
+    let (_, rest) = expect(Sign::OpenParenthesis, tokens)?;
+    let (inner, rest) = below(alloc, true, room, rest)?;
+    let (_, rest) = expect(Sign::CloseParenthesis, rest)?;
+    Ok((inner, rest))
+}
+
+/// `"(" [ assign { "," assign } ] ")"`
+#[cycle(expressions)]
+#[tactic(auto, unfolding(crate::specs::ExpressionReader::arguments_with))]
+pub fn arguments(alloc: Global, room: u32, tokens: &[Token]) -> Reading<'_, Vec<Expr>>
+    requires { room ≤ DEPTH }
+    ensures { Gives (λ x. (map expr_of x.0.items, tokens_of x.1.now)) result (reader.arguments_with (reader.below_at room) (tokens_of tokens.now)) }
+{
+    let (_, rest) = expect(Sign::OpenParenthesis, tokens)?;
+    let (arguments, rest) = expressions(alloc, room, rest)?;
+    let (_, rest) = expect(Sign::CloseParenthesis, rest)?;
+    Ok((arguments, rest))
+}
+
+/// `[ assign { "," assign } ]`, in front of a `)`
+#[cycle(expressions)]
+#[tactic(auto, unfolding(crate::specs::ExpressionReader::exprs_with))]
+pub fn expressions(alloc: Global, room: u32, tokens: &[Token]) -> Reading<'_, Vec<Expr>>
+    requires { room ≤ DEPTH }
+    ensures { Gives (λ x. (map expr_of x.0.items, tokens_of x.1.now)) result (reader.exprs_with (reader.below_at room) (tokens_of tokens.now)) }
+{
+    if next_is_sign(Sign::CloseParenthesis, tokens) {
+        return Ok((Vec::new(alloc), tokens));
+    }
+    let (first, rest) = below(alloc, true, room, tokens)?;
+    more_expressions(alloc, room, first, rest)
+}
+
+/// `{ "," assign }`, behind the first
+#[cycle(expressions)]
+fn more_expressions<'a>(
+    alloc: Global,
+    room: u32,
+    first: Expr,
+    tokens: &'a [Token],
+) -> Reading<'a, Vec<Expr>>
+    requires { room ≤ DEPTH }
+    ensures { Gives (λ x. (map expr_of x.0.items, tokens_of x.1.now)) result (put (expr_of first) (reader.more_exprs_with (reader.below_at room) (tokens_of tokens.now))) }
+{
+    let mut all = Vec::new(alloc);
+    all.push(first)?;
+    let mut rest = tokens;
+    'more: while next_is_sign(Sign::Comma, rest) {
+        let (next, behind) = next_expression(alloc, room, rest)?;
+        all.push(next)?;
+        rest = behind;
+    }
+    Ok((all, rest))
+}
+
+/// `"," assign`
+#[cycle(expressions)]
+#[tactic(auto, unfolding(crate::specs::ExpressionReader::next_expr_with))]
+fn next_expression(alloc: Global, room: u32, tokens: &[Token]) -> Reading<'_, Expr>
+    requires { room ≤ DEPTH }
+    ensures { Gives (λ x. (expr_of x.0, tokens_of x.1.now)) result (reader.next_expr_with (reader.below_at room) (tokens_of tokens.now)) }
+{
+    let (_, rest) = expect(Sign::Comma, tokens)?;
+    below(alloc, true, room, rest)
+}

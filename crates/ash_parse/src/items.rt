@@ -1,0 +1,440 @@
+//! Reading modules and registered declarations.
+//!
+//! Each function reads the phrase that stands above it.
+
+ghost use Rattle.std.specs.Prelude.{◌≡◌, [], map, string_bytes, option_map, IfOk};
+ghost use Rattle.ash_lex.specs.Tokens.{meaning_of};
+ghost use Rattle.ash_tree.specs.Tokens.{tokens_of};
+ghost use Rattle.ash_tree.specs.Views.{type_of, vars_of, stmt_of, parameter_of, function_of, constructor_of, member_of, class_of, item_of, declaration_of};
+ghost use Rattle.ash_parse.specs.Reading.{Gives, put};
+ghost use Rattle.ash_parse.specs.ItemReader as reader;
+
+use crate::cursor::{expect, is_sign, name, next_is_sign};
+use crate::expressions::DEPTH;
+use crate::statements::{block, declared, goes_on, is_vars, next_is_name, type_name};
+use crate::stop::{Reading, Stop};
+use ash_lex::{ReservedWord, Sign, Token, TokenKind};
+use ash_tree::{
+    Class, Constructor, Declaration, Function, Item, Member, Parameter, Place, Property, Signature,
+    Stmt, Type, Vars,
+};
+use std::alloc::Global;
+
+#[tactic(auto, unfolding(crate::specs::ItemReader::is_void))]
+fn is_void(kind: &TokenKind) -> bool
+    ensures { result ≡ reader.is_void (meaning_of kind.now) }
+{
+    matches!(kind, TokenKind::Reserved(ReservedWord::Void))
+}
+
+#[tactic(auto, unfolding(crate::specs::ItemReader::is_class))]
+fn is_class(kind: &TokenKind) -> bool
+    ensures { result ≡ reader.is_class (meaning_of kind.now) }
+{
+    matches!(kind, TokenKind::Reserved(ReservedWord::Class))
+}
+
+/// `"void" | type`
+#[tactic(auto, unfolding(crate::specs::ItemReader::result_type_at))]
+fn result_type(alloc: Global, tokens: &[Token]) -> Reading<'_, Option<Type>>
+    ensures { Gives (λ x. (option_map type_of x.0, tokens_of x.1.now)) result (reader.result_type_at (tokens_of tokens.now)) }
+{
+    let Some((next, rest)) = tokens.split_first() else {
+        return Err(Stop::Unexpected(tokens));
+    };
+    if is_void(&next.kind) {
+        return Ok((None, rest));
+    }
+    let (of, rest) = type_name(alloc, tokens)?;
+    Ok((Some(of), rest))
+}
+
+/// `type NAME`
+#[tactic(auto, unfolding(crate::specs::ItemReader::parameter_at))]
+fn parameter(alloc: Global, tokens: &[Token]) -> Reading<'_, Parameter>
+    ensures { Gives (λ x. (parameter_of x.0, tokens_of x.1.now)) result (reader.parameter_at (tokens_of tokens.now)) }
+{
+    let (of, rest) = type_name(alloc, tokens)?;
+    let ((name, place), rest) = name(alloc, rest)?;
+    Ok((Parameter { of, place, name }, rest))
+}
+
+/// `"," type NAME`
+#[tactic(auto, unfolding(crate::specs::ItemReader::next_parameter_at))]
+fn next_parameter(alloc: Global, tokens: &[Token]) -> Reading<'_, Parameter>
+    ensures { Gives (λ x. (parameter_of x.0, tokens_of x.1.now)) result (reader.next_parameter_at (tokens_of tokens.now)) }
+{
+    let (_, rest) = expect(Sign::Comma, tokens)?;
+    parameter(alloc, rest)
+}
+
+/// `{ "," type NAME }`, behind the first
+fn more_parameters<'a>(
+    alloc: Global,
+    first: Parameter,
+    tokens: &'a [Token],
+) -> Reading<'a, Vec<Parameter>>
+    ensures { Gives (λ x. (map parameter_of x.0.items, tokens_of x.1.now)) result (put (parameter_of first) (reader.more_parameters_at (tokens_of tokens.now))) }
+{
+    let mut all = Vec::new(alloc);
+    all.push(first)?;
+    let mut rest = tokens;
+    'more: while next_is_sign(Sign::Comma, rest) {
+        let (next, behind) = next_parameter(alloc, rest)?;
+        all.push(next)?;
+        rest = behind;
+    }
+    Ok((all, rest))
+}
+
+/// `[ type NAME { "," type NAME } ]`, in front of a `)`
+#[tactic(auto, unfolding(crate::specs::ItemReader::parameter_list_at))]
+fn parameter_list(alloc: Global, tokens: &[Token]) -> Reading<'_, Vec<Parameter>>
+    ensures { Gives (λ x. (map parameter_of x.0.items, tokens_of x.1.now)) result (reader.parameter_list_at (tokens_of tokens.now)) }
+{
+    if next_is_sign(Sign::CloseParenthesis, tokens) {
+        return Ok((Vec::new(alloc), tokens));
+    }
+    let (first, rest) = parameter(alloc, tokens)?;
+    more_parameters(alloc, first, rest)
+}
+
+/// `"(" [ type NAME { "," type NAME } ] ")"`
+#[tactic(auto, unfolding(crate::specs::ItemReader::parameters_at))]
+fn parameters(alloc: Global, tokens: &[Token]) -> Reading<'_, Vec<Parameter>>
+    ensures { Gives (λ x. (map parameter_of x.0.items, tokens_of x.1.now)) result (reader.parameters_at (tokens_of tokens.now)) }
+{
+    let (_, rest) = expect(Sign::OpenParenthesis, tokens)?;
+    let (parameters, rest) = parameter_list(alloc, rest)?;
+    let (_, rest) = expect(Sign::CloseParenthesis, rest)?;
+    Ok((parameters, rest))
+}
+
+/// The body of a function.
+#[tactic(auto, unfolding(crate::specs::ItemReader::body_at))]
+fn body(alloc: Global, tokens: &[Token]) -> Reading<'_, Vec<Stmt>>
+    ensures { Gives (λ x. (map stmt_of x.0.items, tokens_of x.1.now)) result (reader.body_at (tokens_of tokens.now)) }
+{
+    block(alloc, DEPTH, tokens)
+}
+
+/// `rtype NAME params block`
+#[tactic(auto, unfolding(crate::specs::ItemReader::function_at))]
+fn function(alloc: Global, tokens: &[Token]) -> Reading<'_, Function>
+    ensures { Gives (λ x. (function_of x.0, tokens_of x.1.now)) result (reader.function_at (tokens_of tokens.now)) }
+{
+    let (of, rest) = result_type(alloc, tokens)?;
+    let ((name, place), rest) = name(alloc, rest)?;
+    let (parameters, rest) = parameters(alloc, rest)?;
+    let (body, rest) = body(alloc, rest)?;
+    let function = Function {
+        place,
+        result: of,
+        name,
+        parameters,
+        body,
+    };
+    Ok((function, rest))
+}
+
+/// `vars ";"`, outside functions
+#[tactic(auto, unfolding(crate::specs::ItemReader::globals_at))]
+fn globals(alloc: Global, tokens: &[Token]) -> Reading<'_, Vars>
+    ensures { Gives (λ x. (vars_of x.0, tokens_of x.1.now)) result (reader.globals_at (tokens_of tokens.now)) }
+{
+    declared(alloc, DEPTH, tokens)
+}
+
+/// All but the first token.
+#[tactic(auto, unfolding(crate::specs::ItemReader::behind))]
+fn behind(tokens: &[Token]) -> &[Token]
+    ensures { tokens_of result.now ≡ reader.behind (tokens_of tokens.now) }
+{
+    match tokens.split_first() {
+        Some((_, rest)) => rest,
+        None => tokens,
+    }
+}
+
+/// Whether a function without parameters goes on behind its `(`.
+#[tactic(auto, unfolding(crate::specs::ItemReader::opens_body))]
+fn opens_body(tokens: &[Token]) -> bool
+    ensures { result ≡ reader.opens_body (tokens_of tokens.now) }
+{
+    let Some((next, rest)) = tokens.split_first() else {
+        return false;
+    };
+    is_sign(Sign::CloseParenthesis, next) && next_is_sign(Sign::OpenBrace, rest)
+}
+
+/// Whether `NAME "("` stands here, and parameters behind it and no arguments.
+#[tactic(auto, unfolding(crate::specs::ItemReader::names_function))]
+fn names_function(tokens: &[Token]) -> bool
+    ensures { result ≡ reader.names_function (tokens_of tokens.now) }
+{
+    if !next_is_name(tokens) {
+        return false;
+    }
+    let opened = behind(tokens);
+    if !next_is_sign(Sign::OpenParenthesis, opened) {
+        return false;
+    }
+    let inner = behind(opened);
+    is_vars(inner) || opens_body(inner)
+}
+
+/// Whether the tokens begin a function, and no declaration of variables. The first six of them decide.
+#[tactic(auto, unfolding(crate::specs::ItemReader::is_function))]
+fn is_function(tokens: &[Token]) -> bool
+    ensures { result ≡ reader.is_function (tokens_of tokens.now) }
+{
+    let Some((next, rest)) = tokens.split_first() else {
+        return false;
+    };
+    if is_void(&next.kind) {
+        return true;
+    }
+    if next_is_sign(Sign::Handle, rest) {
+        return names_function(behind(rest));
+    }
+    names_function(rest)
+}
+
+#[tactic(auto, unfolding(crate::specs::ItemReader::is_constructor))]
+fn is_constructor(tokens: &[Token]) -> bool
+    ensures { result ≡ reader.is_constructor (tokens_of tokens.now) }
+{
+    next_is_name(tokens) && next_is_sign(Sign::OpenParenthesis, behind(tokens))
+}
+
+/// `NAME params block`
+#[tactic(auto, unfolding(crate::specs::ItemReader::constructor_at))]
+fn constructor(alloc: Global, tokens: &[Token]) -> Reading<'_, Constructor>
+    ensures { Gives (λ x. (constructor_of x.0, tokens_of x.1.now)) result (reader.constructor_at (tokens_of tokens.now)) }
+{
+    let ((name, place), rest) = name(alloc, tokens)?;
+    let (parameters, rest) = parameters(alloc, rest)?;
+    let (body, rest) = body(alloc, rest)?;
+    let constructor = Constructor {
+        place,
+        name,
+        parameters,
+        body,
+    };
+    Ok((constructor, rest))
+}
+
+/// `function | vars ";" | NAME params block`
+#[tactic(auto, unfolding(crate::specs::ItemReader::member_at))]
+fn member(alloc: Global, tokens: &[Token]) -> Reading<'_, Member>
+    ensures { Gives (λ x. (member_of x.0, tokens_of x.1.now)) result (reader.member_at (tokens_of tokens.now)) }
+{
+    if is_constructor(tokens) {
+        let (constructor, rest) = constructor(alloc, tokens)?;
+        return Ok((Member::Constructor(constructor), rest));
+    }
+    if is_function(tokens) {
+        let (function, rest) = function(alloc, tokens)?;
+        return Ok((Member::Function(function), rest));
+    }
+    let (vars, rest) = globals(alloc, tokens)?;
+    Ok((Member::Vars(vars), rest))
+}
+
+/// `{ member }`
+fn members(alloc: Global, tokens: &[Token]) -> Reading<'_, Vec<Member>>
+    ensures { Gives (λ x. (map member_of x.0.items, tokens_of x.1.now)) result (reader.members_at (tokens_of tokens.now)) }
+{
+    let mut all = Vec::new(alloc);
+    let mut rest = tokens;
+    'more: while goes_on(rest) {
+        let (next, behind) = member(alloc, rest)?;
+        all.push(next)?;
+        rest = behind;
+    }
+    Ok((all, rest))
+}
+
+/// `NAME "{" { member } "}"`, behind the word `class`
+#[tactic(auto, unfolding(crate::specs::ItemReader::class_at))]
+fn class(alloc: Global, tokens: &[Token]) -> Reading<'_, Class>
+    ensures { Gives (λ x. (class_of x.0, tokens_of x.1.now)) result (reader.class_at (tokens_of tokens.now)) }
+{
+    let ((name, place), rest) = name(alloc, tokens)?;
+    let (_, rest) = expect(Sign::OpenBrace, rest)?;
+    let (members, rest) = members(alloc, rest)?;
+    let (_, rest) = expect(Sign::CloseBrace, rest)?;
+    let class = Class {
+        place,
+        name,
+        members,
+    };
+    Ok((class, rest))
+}
+
+/// `class | function | vars ";"`
+#[tactic(auto, unfolding(crate::specs::ItemReader::item_at))]
+fn item(alloc: Global, tokens: &[Token]) -> Reading<'_, Item>
+    ensures { Gives (λ x. (item_of x.0, tokens_of x.1.now)) result (reader.item_at (tokens_of tokens.now)) }
+{
+    let Some((next, rest)) = tokens.split_first() else {
+        return Err(Stop::Unexpected(tokens));
+    };
+    if is_class(&next.kind) {
+        let (class, rest) = class(alloc, rest)?;
+        return Ok((Item::Class(class), rest));
+    }
+    if is_function(tokens) {
+        let (function, rest) = function(alloc, tokens)?;
+        return Ok((Item::Function(function), rest));
+    }
+    let (vars, rest) = globals(alloc, tokens)?;
+    Ok((Item::Vars(vars), rest))
+}
+
+/// Behind each `;` in front.
+fn strip(tokens: &[Token]) -> &[Token]
+    ensures { tokens_of result.now ≡ reader.strip (tokens_of tokens.now) }
+{
+    let mut rest = tokens;
+    'more: while next_is_sign(Sign::Semicolon, rest) {
+        rest = behind(rest);
+    }
+    rest
+}
+
+/// An item, and each `;` behind it.
+#[tactic(auto, unfolding(crate::specs::ItemReader::entry_at))]
+fn entry(alloc: Global, tokens: &[Token]) -> Reading<'_, Item>
+    ensures { Gives (λ x. (item_of x.0, tokens_of x.1.now)) result (reader.entry_at (tokens_of tokens.now)) }
+{
+    let (item, rest) = item(alloc, tokens)?;
+    Ok((item, strip(rest)))
+}
+
+#[tactic(auto, unfolding(crate::specs::ItemReader::is_left))]
+pub fn is_left(tokens: &[Token]) -> bool
+    ensures { result ≡ reader.is_left (tokens_of tokens.now) }
+{
+    tokens.split_first().is_some()
+}
+
+fn entries(alloc: Global, tokens: &[Token]) -> Reading<'_, Vec<Item>>
+    ensures read { Gives (λ x. (map item_of x.0.items, tokens_of x.1.now)) result (reader.entries_at (tokens_of tokens.now)) }
+    ensures all { IfOk result (λ x. tokens_of x.1.now ≡ []) }
+{
+    let mut all = Vec::new(alloc);
+    let mut rest = tokens;
+    'more: while is_left(rest) {
+        let (next, behind) = entry(alloc, rest)?;
+        all.push(next)?;
+        rest = behind;
+    }
+    Ok((all, rest))
+}
+
+/// `{ ";" | class | function | vars ";" }`
+#[tactic(auto, unfolding(crate::specs::ItemReader::module_at))]
+pub fn items(alloc: Global, tokens: &[Token]) -> Reading<'_, Vec<Item>>
+    ensures read { Gives (λ x. (map item_of x.0.items, tokens_of x.1.now)) result (reader.module_at (tokens_of tokens.now)) }
+    ensures all { IfOk result (λ x. tokens_of x.1.now ≡ []) }
+{
+    entries(alloc, strip(tokens))
+}
+
+/// `type [NAME]`
+#[tactic(auto, unfolding(crate::specs::ItemReader::unnamed_at))]
+fn unnamed(alloc: Global, tokens: &[Token]) -> Reading<'_, Type>
+    ensures { Gives (λ x. (type_of x.0, tokens_of x.1.now)) result (reader.unnamed_at (tokens_of tokens.now)) }
+{
+    let (of, rest) = type_name(alloc, tokens)?;
+    if next_is_name(rest) {
+        return Ok((of, behind(rest)));
+    }
+    Ok((of, rest))
+}
+
+/// `"," type [NAME]`
+#[tactic(auto, unfolding(crate::specs::ItemReader::next_unnamed_at))]
+fn next_unnamed(alloc: Global, tokens: &[Token]) -> Reading<'_, Type>
+    ensures { Gives (λ x. (type_of x.0, tokens_of x.1.now)) result (reader.next_unnamed_at (tokens_of tokens.now)) }
+{
+    let (_, rest) = expect(Sign::Comma, tokens)?;
+    unnamed(alloc, rest)
+}
+
+/// `{ "," type [NAME] }`, behind the first
+fn more_unnamed<'a>(alloc: Global, first: Type, tokens: &'a [Token]) -> Reading<'a, Vec<Type>>
+    ensures { Gives (λ x. (map type_of x.0.items, tokens_of x.1.now)) result (put (type_of first) (reader.more_unnamed_at (tokens_of tokens.now))) }
+{
+    let mut all = Vec::new(alloc);
+    all.push(first)?;
+    let mut rest = tokens;
+    'more: while next_is_sign(Sign::Comma, rest) {
+        let (next, behind) = next_unnamed(alloc, rest)?;
+        all.push(next)?;
+        rest = behind;
+    }
+    Ok((all, rest))
+}
+
+/// `[ type [NAME] { "," type [NAME] } ]`, in front of a `)`
+#[tactic(auto, unfolding(crate::specs::ItemReader::unnamed_list_at))]
+fn unnamed_list(alloc: Global, tokens: &[Token]) -> Reading<'_, Vec<Type>>
+    ensures { Gives (λ x. (map type_of x.0.items, tokens_of x.1.now)) result (reader.unnamed_list_at (tokens_of tokens.now)) }
+{
+    if next_is_sign(Sign::CloseParenthesis, tokens) {
+        return Ok((Vec::new(alloc), tokens));
+    }
+    let (first, rest) = unnamed(alloc, tokens)?;
+    more_unnamed(alloc, first, rest)
+}
+
+/// `"(" [ type [NAME] { "," type [NAME] } ] ")"`
+#[tactic(auto, unfolding(crate::specs::ItemReader::unnamed_parameters_at))]
+fn unnamed_parameters(alloc: Global, tokens: &[Token]) -> Reading<'_, Vec<Type>>
+    ensures { Gives (λ x. (map type_of x.0.items, tokens_of x.1.now)) result (reader.unnamed_parameters_at (tokens_of tokens.now)) }
+{
+    let (_, rest) = expect(Sign::OpenParenthesis, tokens)?;
+    let (parameters, rest) = unnamed_list(alloc, rest)?;
+    let (_, rest) = expect(Sign::CloseParenthesis, rest)?;
+    Ok((parameters, rest))
+}
+
+/// What stands behind the name of a declaration.
+#[tactic(auto, unfolding(crate::specs::ItemReader::declaration_behind))]
+fn declaration_behind<'a>(
+    alloc: Global,
+    of: Option<Type>,
+    place: Place,
+    name: String,
+    tokens: &'a [Token],
+) -> Reading<'a, Declaration>
+    ensures { Gives (λ x. (declaration_of x.0, tokens_of x.1.now)) result (reader.declaration_behind (option_map type_of of) place (string_bytes name) (tokens_of tokens.now)) }
+{
+    if next_is_sign(Sign::OpenParenthesis, tokens) {
+        let (parameters, rest) = unnamed_parameters(alloc, tokens)?;
+        let signature = Signature {
+            place,
+            result: of,
+            name,
+            parameters,
+        };
+        return Ok((Declaration::Function(signature), rest));
+    }
+    let Some(of) = of else {
+        return Err(Stop::Unexpected(tokens));
+    };
+    let property = Property { place, of, name };
+    Ok((Declaration::Property(property), tokens))
+}
+
+/// `rtype NAME "(" [ type [NAME] { "," type [NAME] } ] ")" | type NAME`
+#[tactic(auto, unfolding(crate::specs::ItemReader::declaration_at))]
+pub fn declaration(alloc: Global, tokens: &[Token]) -> Reading<'_, Declaration>
+    ensures { Gives (λ x. (declaration_of x.0, tokens_of x.1.now)) result (reader.declaration_at (tokens_of tokens.now)) }
+{
+    let (of, rest) = result_type(alloc, tokens)?;
+    let ((name, place), rest) = name(alloc, rest)?;
+    declaration_behind(alloc, of, place, name, rest)
+}

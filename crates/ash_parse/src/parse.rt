@@ -1,0 +1,172 @@
+//! The calls of the crate.
+
+ghost use Rattle.std.specs.Prelude.{◌≡◌, List, [], Ok, IfOk, MatchResult, option_map};
+ghost use Rattle.ash_lex.specs.Tokens.{meaning_of};
+ghost use Rattle.ash_tree.specs.Tokens.{tokens_of};
+ghost use Rattle.ash_tree.specs.Tree.{Item, Declaration as DeclarationTree};
+ghost use Rattle.ash_tree.specs.Views.{module_of, declaration_of};
+ghost use Rattle.ash_tree.specs.Grammar.{Derives, Declares};
+ghost use Rattle.ash_parse.specs.Reading.{Unexpected, Gives};
+ghost use Rattle.ash_parse.specs.ItemReader.{module_at};
+ghost use Rattle.ash_parse.specs.declared.faults.ParseFault.TheVariants.{NoMemory};
+ghost use Rattle.ash_parse.specs.Unique.{HasOneModule, HasOneDeclaration};
+ghost use Rattle.ash_parse.specs.Faults.{Tells, word_of, end_of, start, IsTold, IsFault, whole_declaration_at};
+
+use crate::faults::ParseFault;
+use crate::items::{declaration, is_left, items};
+use crate::stop::{Reading, Stop};
+use ash_lex::{ReservedWord, Sign, Token, TokenKind};
+use ash_tree::{Declaration, Module};
+use std::alloc::Global;
+
+/// The word to tell for a token that the profile does not have.
+#[tactic(auto, unfolding(crate::specs::Faults::word_of))]
+fn unsupported(kind: &TokenKind) -> Option<&'static str>
+    ensures { option_map (λ w. w.now) result ≡ word_of (meaning_of kind.now) }
+{
+    match kind {
+        TokenKind::Unsupported(word) => Some(word.as_str()),
+        TokenKind::Sign(Sign::Power) => Some("**"),
+        TokenKind::Sign(Sign::Scope) => Some("::"),
+        TokenKind::Sign(Sign::OpenBracket) => Some("array"),
+        TokenKind::Reserved(ReservedWord::Array) => Some("array"),
+        TokenKind::Reserved(ReservedWord::Cast) => Some("cast"),
+        TokenKind::Reserved(ReservedWord::Interface) => Some("interface"),
+        _ => None,
+    }
+}
+
+/// Whether the tokens end in the head of a class, `class NAME`.
+fn ends_in_class_name(tokens: &[Token]) -> bool {
+    let Some((last, front)) = tokens.split_last() else {
+        return false;
+    };
+    let Some((first, _)) = front.split_last() else {
+        return false;
+    };
+    matches!(&last.kind, TokenKind::Name(_))
+        && matches!(&first.kind, TokenKind::Reserved(ReservedWord::Class))
+}
+
+/// Where the first of the tokens from the fault on stands, or where all of the tokens end.
+fn offset(tokens: &[Token], rest: &[Token]) -> usize
+    ensures { result ≡ start tokens.now (tokens_of rest.now) }
+{
+    match rest.first() {
+        Some(next) => next.from,
+        None => end(tokens),
+    }
+}
+
+/// Where the last of the tokens ends.
+fn end(tokens: &[Token]) -> usize
+    ensures { result ≡ end_of tokens.now }
+{
+    match tokens.last() {
+        Some(last) => last.to,
+        None => 0,
+    }
+}
+
+/// What is told of why reading stopped.
+fn fault(tokens: &[Token], stop: Stop) -> ParseFault
+    ensures { IsTold tokens.now result stop.entry }
+{
+    match stop {
+        Stop::Unexpected(rest) => unexpected(tokens, rest),
+        Stop::TooDeep(rest) => ParseFault::TooDeep {
+            at: offset(tokens, rest),
+        },
+        Stop::NoMemory => ParseFault::NoMemory,
+    }
+}
+
+/// What is told of the first of these tokens, which no phrase goes on with.
+fn unexpected(tokens: &[Token], rest: &[Token]) -> ParseFault
+    ensures { Tells tokens.now result (Unexpected (tokens_of rest.now)) }
+{
+    let at = offset(tokens, rest);
+    let Some((next, _)) = rest.split_first() else {
+        return ParseFault::Unexpected { at };
+    };
+    if let Some(word) = unsupported(&next.kind) {
+        return ParseFault::Unsupported { word, at };
+    }
+    let front = tokens.len().saturating_sub(rest.len());
+    if matches!(&next.kind, TokenKind::Sign(Sign::Colon)) && ends_in_class_name(&tokens[..front]) {
+        let word = "interface";
+        return ParseFault::Unsupported { word, at };
+    }
+    ParseFault::Unexpected { at }
+}
+
+/// The tree of a script.
+///
+/// # Errors
+///
+/// Tokens that have no tree within depth 64 are refused with a fault: [`ParseFault::Unexpected`] or
+/// [`ParseFault::Unsupported`] at the first token that fits nowhere, [`ParseFault::TooDeep`] at the first that stands too
+/// deep, whichever comes first. Where memory runs out the answer is [`ParseFault::NoMemory`].
+#[tactic(auto, using(crate::proofs::ItemSound::module_sound, crate::proofs::Told::told_is_fault, crate::proofs::ItemComplete::items_are_one, crate::proofs::ItemComplete::module_memory))]
+pub fn parse_module(alloc: Global, tokens: &[Token]) -> Result<Module, ParseFault>
+    // What is answered is a tree that the tokens derive, all of them, within depth 64.
+    ensures derived { IfOk result (λ tree. Derives 0 (tokens_of tokens.now) (module_of tree)) }
+    // Whatever the tokens derive within depth 64 is what is answered, unless memory runs out.
+    ensures only { (derived : List Item) → Derives 0 (tokens_of tokens.now) derived → MatchResult result (λ tree. module_of tree ≡ derived) (λ fault. fault ≡ NoMemory) }
+    // The answer is what reading the tokens once gives, and the fault stands where it stops.
+    ensures read { MatchResult result (λ tree. module_at (tokens_of tokens.now) ≡ Ok (module_of tree, [])) (λ fault. IsFault tokens.now fault (module_at (tokens_of tokens.now))) }
+{
+    match items(alloc, tokens) {
+        Ok((items, _)) => Ok(Module { items }),
+        Err(stop) => Err(fault(tokens, stop)),
+    }
+}
+
+/// The tree of a function or a property that a host registers.
+///
+/// # Errors
+///
+/// As for [`parse_module`].
+#[tactic(auto, using(crate::proofs::ItemShorter::declaration_sound, crate::proofs::Told::told_is_fault, crate::proofs::ItemComplete::declarations_are_one, crate::proofs::ItemComplete::declaration_memory), unfolding(crate::specs::Faults::whole_declaration_at))]
+pub fn parse_declaration(alloc: Global, tokens: &[Token]) -> Result<Declaration, ParseFault>
+    // What is answered is a tree that the tokens derive, all of them.
+    ensures derived { IfOk result (λ tree. Declares (tokens_of tokens.now) (declaration_of tree)) }
+    // Whatever the tokens derive is what is answered, unless memory runs out.
+    ensures only { (derived : DeclarationTree) → Declares (tokens_of tokens.now) derived → MatchResult result (λ tree. declaration_of tree ≡ derived) (λ fault. fault ≡ NoMemory) }
+    // The answer is what reading the tokens once gives, and the fault stands where it stops.
+    ensures read { MatchResult result (λ tree. whole_declaration_at (tokens_of tokens.now) ≡ Ok (declaration_of tree, [])) (λ fault. IsFault tokens.now fault (whole_declaration_at (tokens_of tokens.now))) }
+{
+    match whole_declaration(alloc, tokens) {
+        Ok((declaration, _)) => Ok(declaration),
+        Err(stop) => Err(fault(tokens, stop)),
+    }
+}
+
+/// A declaration with nothing behind it.
+#[tactic(auto, using(crate::proofs::ItemShorter::left_is_none), unfolding(crate::specs::Faults::whole_declaration_at))]
+fn whole_declaration(alloc: Global, tokens: &[Token]) -> Reading<'_, Declaration>
+    ensures read { Gives (λ x. (declaration_of x.0, tokens_of x.1.now)) result (whole_declaration_at (tokens_of tokens.now)) }
+    ensures all { IfOk result (λ x. tokens_of x.1.now ≡ []) }
+{
+    let (declaration, rest) = declaration(alloc, tokens)?;
+    if is_left(rest) {
+        return Err(Stop::Unexpected(rest));
+    }
+    Ok((declaration, rest))
+}
+
+/// That the tokens of a script have one tree at most: the grammar is unambiguous. It does nothing when it runs.
+#[tactic(auto, using(crate::proofs::ItemComplete::one_module))]
+pub fn has_one_module(tokens: &[Token])
+    ensures { HasOneModule (tokens_of tokens.now) }
+{
+    let _tokens = tokens;
+}
+
+/// That the tokens of a registered declaration have one tree at most. It does nothing when it runs.
+#[tactic(auto, using(crate::proofs::ItemComplete::one_declaration))]
+pub fn has_one_declaration(tokens: &[Token])
+    ensures { HasOneDeclaration (tokens_of tokens.now) }
+{
+    let _tokens = tokens;
+}

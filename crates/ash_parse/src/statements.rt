@@ -1,0 +1,668 @@
+//! Reading types, declarations of variables, and statements.
+//!
+//! Each function reads the phrase that stands above it. `room` is how many phrases that count for the depth may still
+//! begin, one in the other.
+
+ghost use Rattle.std.specs.Prelude.{◌≡◌, ◌<◌, ◌≤◌, map, string_bytes, option_map, true, false};
+ghost use Rattle.ash_lex.specs.Tokens.{meaning_of};
+ghost use Rattle.ash_tree.specs.Tokens.{tokens_of, place_of_token};
+ghost use Rattle.ash_tree.specs.Views.{expr_of, type_of, decl_of, initializer_of, vars_of, stmt_at, stmt_of, case_of};
+ghost use Rattle.ash_parse.specs.Reading.{Gives, Fails, put};
+ghost use Rattle.ash_parse.specs.ExpressionReader as exprs;
+ghost use Rattle.ash_parse.specs.StatementReader as reader;
+
+use crate::cursor::{expect, name, next_is_sign, place};
+use crate::expressions::{DEPTH, arguments, assign, below, bracketed, expressions};
+use crate::operators::{begins_expression, primitive};
+use crate::stop::{Reading, Stop};
+use ash_lex::{ReservedWord, Sign, Token, TokenKind};
+use ash_tree::{
+    Case, Decl, Expr, Initializer, Label, Place, Stmt, StmtKind, Type, TypeKind, Vars, nodes,
+};
+use std::alloc::Global;
+
+/// What a token is to a statement.
+#[derive(Clone, Copy, Debug)]
+pub enum Leading {
+    /// `{`
+    Block,
+    /// `}`
+    End,
+    /// `;`
+    Empty,
+    If,
+    Else,
+    While,
+    Do,
+    For,
+    Switch,
+    Case,
+    Default,
+    Break,
+    Continue,
+    Return,
+    /// Any other token.
+    Other,
+}
+
+#[tactic(auto, unfolding(crate::specs::StatementReader::leading))]
+fn leads_to(kind: &TokenKind) -> Leading
+    ensures { result ≡ reader.leading (meaning_of kind.now) }
+{
+    match kind {
+        TokenKind::Sign(Sign::OpenBrace) => Leading::Block,
+        TokenKind::Sign(Sign::CloseBrace) => Leading::End,
+        TokenKind::Sign(Sign::Semicolon) => Leading::Empty,
+        TokenKind::Reserved(ReservedWord::If) => Leading::If,
+        TokenKind::Reserved(ReservedWord::Else) => Leading::Else,
+        TokenKind::Reserved(ReservedWord::While) => Leading::While,
+        TokenKind::Reserved(ReservedWord::Do) => Leading::Do,
+        TokenKind::Reserved(ReservedWord::For) => Leading::For,
+        TokenKind::Reserved(ReservedWord::Switch) => Leading::Switch,
+        TokenKind::Reserved(ReservedWord::Case) => Leading::Case,
+        TokenKind::Reserved(ReservedWord::Default) => Leading::Default,
+        TokenKind::Reserved(ReservedWord::Break) => Leading::Break,
+        TokenKind::Reserved(ReservedWord::Continue) => Leading::Continue,
+        TokenKind::Reserved(ReservedWord::Return) => Leading::Return,
+        _ => Leading::Other,
+    }
+}
+
+#[tactic(auto, unfolding(crate::specs::StatementReader::begins_stmt))]
+fn begins_statement(kind: &TokenKind) -> bool
+    ensures { result ≡ reader.begins_stmt (meaning_of kind.now) }
+{
+    match leads_to(kind) {
+        Leading::Other => begins_expression(kind),
+        Leading::End | Leading::Else | Leading::Case | Leading::Default => false,
+        _ => true,
+    }
+}
+
+#[tactic(auto, unfolding(crate::specs::StatementReader::goes_on))]
+pub fn goes_on(tokens: &[Token]) -> bool
+    ensures { result ≡ reader.goes_on (tokens_of tokens.now) }
+{
+    let Some((next, _)) = tokens.split_first() else {
+        return false;
+    };
+    !matches!(leads_to(&next.kind), Leading::End)
+}
+
+/// Whether the statements behind a label go on.
+#[tactic(auto, unfolding(crate::specs::StatementReader::case_goes_on))]
+fn case_goes_on(tokens: &[Token]) -> bool
+    ensures { result ≡ reader.case_goes_on (tokens_of tokens.now) }
+{
+    let Some((next, _)) = tokens.split_first() else {
+        return false;
+    };
+    !matches!(
+        leads_to(&next.kind),
+        Leading::End | Leading::Case | Leading::Default
+    )
+}
+
+#[tactic(auto, unfolding(crate::specs::StatementReader::is_name))]
+fn is_name(kind: &TokenKind) -> bool
+    ensures { result ≡ reader.is_name (meaning_of kind.now) }
+{
+    matches!(kind, TokenKind::Name(_))
+}
+
+#[tactic(auto, unfolding(crate::specs::StatementReader::next_is_name))]
+pub fn next_is_name(tokens: &[Token]) -> bool
+    ensures { result ≡ reader.next_is_name (tokens_of tokens.now) }
+{
+    let Some((next, _)) = tokens.split_first() else {
+        return false;
+    };
+    is_name(&next.kind)
+}
+
+/// Whether the tokens begin a declaration of variables, or a parameter. The first two of them decide.
+#[tactic(auto, unfolding(crate::specs::StatementReader::is_vars))]
+pub fn is_vars(tokens: &[Token]) -> bool
+    ensures { result ≡ reader.is_vars (tokens_of tokens.now) }
+{
+    let Some((next, rest)) = tokens.split_first() else {
+        return false;
+    };
+    if primitive(&next.kind).is_some() {
+        return next_is_name(rest);
+    }
+    if !is_name(&next.kind) {
+        return false;
+    }
+    next_is_name(rest) || next_is_sign(Sign::Handle, rest)
+}
+
+/// `prim | NAME ["@"]`
+#[tactic(auto, unfolding(crate::specs::StatementReader::type_at))]
+pub fn type_name(alloc: Global, tokens: &[Token]) -> Reading<'_, Type>
+    ensures { Gives (λ x. (type_of x.0, tokens_of x.1.now)) result (reader.type_at (tokens_of tokens.now)) }
+{
+    let Some((next, rest)) = tokens.split_first() else {
+        return Err(Stop::Unexpected(tokens));
+    };
+    let place = place(next);
+    if let Some(primitive) = primitive(&next.kind) {
+        let kind = TypeKind::Primitive(primitive);
+        return Ok((Type { place, kind }, rest));
+    }
+    let TokenKind::Name(text) = &next.kind else {
+        return Err(Stop::Unexpected(tokens));
+    };
+    let text = String::from_str(alloc, text.as_str())?;
+    if !next_is_sign(Sign::Handle, rest) {
+        let kind = TypeKind::Object(text);
+        return Ok((Type { place, kind }, rest));
+    }
+    let (_, rest) = expect(Sign::Handle, rest)?;
+    let kind = TypeKind::Handle(text);
+    Ok((Type { place, kind }, rest))
+}
+
+/// `[ "=" assign | args ]`
+#[tactic(auto, unfolding(crate::specs::StatementReader::initializer_with))]
+fn initializer(alloc: Global, room: u32, tokens: &[Token]) -> Reading<'_, Initializer>
+    requires { room ≤ DEPTH }
+    ensures { Gives (λ x. (initializer_of x.0, tokens_of x.1.now)) result (reader.initializer_with (exprs.below_at room) (tokens_of tokens.now)) }
+{
+    if next_is_sign(Sign::Assign, tokens) {
+        let (_, rest) = expect(Sign::Assign, tokens)?;
+        let (value, rest) = assign(alloc, room, rest)?;
+        return Ok((Initializer::Value(value), rest));
+    }
+    if next_is_sign(Sign::OpenParenthesis, tokens) {
+        let (arguments, rest) = arguments(alloc, room, tokens)?;
+        return Ok((Initializer::Arguments(arguments), rest));
+    }
+    Ok((Initializer::Default, tokens))
+}
+
+/// `NAME [ "=" assign | args ]`
+#[tactic(auto, unfolding(crate::specs::StatementReader::decl_with))]
+fn decl(alloc: Global, room: u32, tokens: &[Token]) -> Reading<'_, Decl>
+    requires { room ≤ DEPTH }
+    ensures { Gives (λ x. (decl_of x.0, tokens_of x.1.now)) result (reader.decl_with (exprs.below_at room) (tokens_of tokens.now)) }
+{
+    let ((name, place), rest) = name(alloc, tokens)?;
+    let (initializer, rest) = initializer(alloc, room, rest)?;
+    let decl = Decl {
+        place,
+        name,
+        initializer,
+    };
+    Ok((decl, rest))
+}
+
+/// `"," decl`
+#[tactic(auto, unfolding(crate::specs::StatementReader::next_decl_with))]
+fn next_decl(alloc: Global, room: u32, tokens: &[Token]) -> Reading<'_, Decl>
+    requires { room ≤ DEPTH }
+    ensures { Gives (λ x. (decl_of x.0, tokens_of x.1.now)) result (reader.next_decl_with (exprs.below_at room) (tokens_of tokens.now)) }
+{
+    let (_, rest) = expect(Sign::Comma, tokens)?;
+    decl(alloc, room, rest)
+}
+
+/// `{ "," decl }`, behind the first
+fn more_decls<'a>(
+    alloc: Global,
+    room: u32,
+    first: Decl,
+    tokens: &'a [Token],
+) -> Reading<'a, Vec<Decl>>
+    requires { room ≤ DEPTH }
+    ensures { Gives (λ x. (map decl_of x.0.items, tokens_of x.1.now)) result (put (decl_of first) (reader.more_decls_with (exprs.below_at room) (tokens_of tokens.now))) }
+{
+    let mut all = Vec::new(alloc);
+    all.push(first)?;
+    let mut rest = tokens;
+    'more: while next_is_sign(Sign::Comma, rest) {
+        let (next, behind) = next_decl(alloc, room, rest)?;
+        all.push(next)?;
+        rest = behind;
+    }
+    Ok((all, rest))
+}
+
+/// `decl { "," decl }`
+#[tactic(auto, unfolding(crate::specs::StatementReader::decls_with))]
+fn decls(alloc: Global, room: u32, tokens: &[Token]) -> Reading<'_, Vec<Decl>>
+    requires { room ≤ DEPTH }
+    ensures { Gives (λ x. (map decl_of x.0.items, tokens_of x.1.now)) result (reader.decls_with (exprs.below_at room) (tokens_of tokens.now)) }
+{
+    let (first, rest) = decl(alloc, room, tokens)?;
+    more_decls(alloc, room, first, rest)
+}
+
+/// `type decl { "," decl }`
+#[tactic(auto, unfolding(crate::specs::StatementReader::vars_with))]
+fn vars(alloc: Global, room: u32, tokens: &[Token]) -> Reading<'_, Vars>
+    requires { room ≤ DEPTH }
+    ensures { Gives (λ x. (vars_of x.0, tokens_of x.1.now)) result (reader.vars_with (exprs.below_at room) (tokens_of tokens.now)) }
+{
+    let (of, rest) = type_name(alloc, tokens)?;
+    let (decls, rest) = decls(alloc, room, rest)?;
+    Ok((Vars { of, decls }, rest))
+}
+
+/// `vars ";"`
+#[tactic(auto, unfolding(crate::specs::StatementReader::declared_with))]
+pub fn declared(alloc: Global, room: u32, tokens: &[Token]) -> Reading<'_, Vars>
+    requires { room ≤ DEPTH }
+    ensures { Gives (λ x. (vars_of x.0, tokens_of x.1.now)) result (reader.declared_with (exprs.below_at room) (tokens_of tokens.now)) }
+{
+    let (vars, rest) = vars(alloc, room, tokens)?;
+    let (_, rest) = expect(Sign::Semicolon, rest)?;
+    Ok((vars, rest))
+}
+
+/// `[ vars | assign ] ";"`, in the head of a `for`
+#[tactic(auto, unfolding(crate::specs::StatementReader::first_with))]
+fn first(alloc: Global, room: u32, tokens: &[Token]) -> Reading<'_, Stmt>
+    requires { room ≤ DEPTH }
+    ensures { Gives (λ x. (stmt_of x.0, tokens_of x.1.now)) result (reader.first_with (exprs.below_at room) (tokens_of tokens.now)) }
+{
+    if next_is_sign(Sign::Semicolon, tokens) {
+        let (place, rest) = expect(Sign::Semicolon, tokens)?;
+        let kind = StmtKind::Empty;
+        return Ok((Stmt { place, kind }, rest));
+    }
+    if is_vars(tokens) {
+        let (vars, rest) = declared(alloc, room, tokens)?;
+        return Ok((nodes::declare(vars), rest));
+    }
+    let (value, rest) = below(alloc, true, room, tokens)?;
+    let (_, rest) = expect(Sign::Semicolon, rest)?;
+    Ok((nodes::evaluate(value), rest))
+}
+
+/// `[assign] ";"`, in the head of a `for`
+#[tactic(auto, unfolding(crate::specs::StatementReader::test_with))]
+fn test(alloc: Global, room: u32, tokens: &[Token]) -> Reading<'_, Option<Expr>>
+    requires { room ≤ DEPTH }
+    ensures { Gives (λ x. (option_map expr_of x.0, tokens_of x.1.now)) result (reader.test_with (exprs.below_at room) (tokens_of tokens.now)) }
+{
+    if next_is_sign(Sign::Semicolon, tokens) {
+        let (_, rest) = expect(Sign::Semicolon, tokens)?;
+        return Ok((None, rest));
+    }
+    let (value, rest) = below(alloc, true, room, tokens)?;
+    let (_, rest) = expect(Sign::Semicolon, rest)?;
+    Ok((Some(value), rest))
+}
+
+/// `[assign] ";"`, behind `return`
+#[tactic(auto, unfolding(crate::specs::StatementReader::result_with))]
+fn returned(alloc: Global, room: u32, tokens: &[Token]) -> Reading<'_, Option<Expr>>
+    requires { room ≤ DEPTH }
+    ensures { Gives (λ x. (option_map expr_of x.0, tokens_of x.1.now)) result (reader.result_with (exprs.below_at room) (tokens_of tokens.now)) }
+{
+    if next_is_sign(Sign::Semicolon, tokens) {
+        let (_, rest) = expect(Sign::Semicolon, tokens)?;
+        return Ok((None, rest));
+    }
+    let (value, rest) = assign(alloc, room, tokens)?;
+    let (_, rest) = expect(Sign::Semicolon, rest)?;
+    Ok((Some(value), rest))
+}
+
+/// `assign ";"`
+#[tactic(auto, unfolding(crate::specs::StatementReader::evaluate_with))]
+fn evaluate(alloc: Global, room: u32, tokens: &[Token]) -> Reading<'_, Stmt>
+    requires { room ≤ DEPTH }
+    ensures { Gives (λ x. (stmt_of x.0, tokens_of x.1.now)) result (reader.evaluate_with (exprs.below_at room) (tokens_of tokens.now)) }
+{
+    let (value, rest) = assign(alloc, room, tokens)?;
+    let (_, rest) = expect(Sign::Semicolon, rest)?;
+    Ok((nodes::evaluate(value), rest))
+}
+
+/// Why a statement can't begin where no deeper one may.
+#[tactic(auto, unfolding(crate::specs::StatementReader::stmt_limit_at))]
+fn limit(tokens: &[Token]) -> Stop<'_>
+    ensures { Fails result (reader.stmt_limit_at (tokens_of tokens.now)) }
+{
+    let Some((next, _)) = tokens.split_first() else {
+        return Stop::Unexpected(tokens);
+    };
+    if begins_statement(&next.kind) {
+        Stop::TooDeep(tokens)
+    } else {
+        Stop::Unexpected(tokens)
+    }
+}
+
+/// The word `while`.
+#[tactic(auto, unfolding(crate::specs::StatementReader::while_at))]
+fn expect_while(tokens: &[Token]) -> Reading<'_, Place>
+    ensures { Gives (λ x. (x.0, tokens_of x.1.now)) result (reader.while_at (tokens_of tokens.now)) }
+{
+    let Some((next, rest)) = tokens.split_first() else {
+        return Err(Stop::Unexpected(tokens));
+    };
+    if matches!(leads_to(&next.kind), Leading::While) {
+        Ok((place(next), rest))
+    } else {
+        Err(Stop::Unexpected(tokens))
+    }
+}
+
+/// A number with its place.
+#[tactic(auto, unfolding(crate::specs::StatementReader::number_at))]
+fn number(tokens: &[Token]) -> Reading<'_, (u64, Place)>
+    ensures { Gives (λ x. (((x.0).0, (x.0).1), tokens_of x.1.now)) result (reader.number_at (tokens_of tokens.now)) }
+{
+    let Some((next, rest)) = tokens.split_first() else {
+        return Err(Stop::Unexpected(tokens));
+    };
+    match &next.kind {
+        TokenKind::Number(value) => Ok(((*value, place(next)), rest)),
+        _ => Err(Stop::Unexpected(tokens)),
+    }
+}
+
+/// `["-"] NUMBER ":"`, at its first token
+#[tactic(auto, unfolding(crate::specs::StatementReader::case_value_at))]
+fn case_value(tokens: &[Token]) -> Reading<'_, (Label, Place)>
+    ensures { Gives (λ x. (((x.0).0, (x.0).1), tokens_of x.1.now)) result (reader.case_value_at (tokens_of tokens.now)) }
+{
+    if next_is_sign(Sign::Minus, tokens) {
+        let (place, rest) = expect(Sign::Minus, tokens)?;
+        let ((value, _), rest) = number(rest)?;
+        let (_, rest) = expect(Sign::Colon, rest)?;
+        return Ok(((Label::CaseMinus(value), place), rest));
+    }
+    let ((value, place), rest) = number(tokens)?;
+    let (_, rest) = expect(Sign::Colon, rest)?;
+    Ok(((Label::Case(value), place), rest))
+}
+
+/// `("case" ["-"] NUMBER | "default") ":"`, at the constant or at the word `default`
+#[tactic(auto, unfolding(crate::specs::StatementReader::label_at))]
+fn label(tokens: &[Token]) -> Reading<'_, (Label, Place)>
+    ensures { Gives (λ x. (((x.0).0, (x.0).1), tokens_of x.1.now)) result (reader.label_at (tokens_of tokens.now)) }
+{
+    let Some((next, rest)) = tokens.split_first() else {
+        return Err(Stop::Unexpected(tokens));
+    };
+    match leads_to(&next.kind) {
+        Leading::Case => case_value(rest),
+        Leading::Default => {
+            let place = place(next);
+            let (_, rest) = expect(Sign::Colon, rest)?;
+            Ok(((Label::Default, place), rest))
+        }
+        _ => Err(Stop::Unexpected(tokens)),
+    }
+}
+
+/// A statement that stands one deeper.
+#[cycle(statements)]
+fn nested(alloc: Global, room: u32, tokens: &[Token]) -> Reading<'_, Stmt>
+    requires { room ≤ DEPTH }
+    ensures { Gives (λ x. (stmt_of x.0, tokens_of x.1.now)) result (reader.nested_at room (tokens_of tokens.now)) }
+{
+    if room == 0 {
+        return Err(limit(tokens));
+    }
+    statement(alloc, room - 1, tokens)
+}
+
+#[cycle(statements)]
+#[tactic(auto, unfolding(crate::specs::StatementReader::stmt_with))]
+fn statement(alloc: Global, room: u32, tokens: &[Token]) -> Reading<'_, Stmt>
+    requires { room ≤ DEPTH }
+    ensures { Gives (λ x. (stmt_of x.0, tokens_of x.1.now)) result (reader.stmt_with (exprs.below_at room) (reader.nested_at room) (tokens_of tokens.now)) }
+{
+    let Some((next, rest)) = tokens.split_first() else {
+        return Err(Stop::Unexpected(tokens));
+    };
+    let place = place(next);
+    match leads_to(&next.kind) {
+        Leading::Block => {
+            let (body, rest) = block(alloc, room, tokens)?;
+            Ok((nodes::block(place, body), rest))
+        }
+        Leading::Empty => Ok((simple(place, StmtKind::Empty), rest)),
+        Leading::If => if_statement(alloc, room, place, rest),
+        Leading::While => while_statement(alloc, room, place, rest),
+        Leading::Do => do_statement(alloc, room, place, rest),
+        Leading::For => for_statement(alloc, room, place, rest),
+        Leading::Switch => switch_statement(alloc, room, place, rest),
+        Leading::Break => {
+            let (_, rest) = expect(Sign::Semicolon, rest)?;
+            Ok((simple(place, StmtKind::Break), rest))
+        }
+        Leading::Continue => {
+            let (_, rest) = expect(Sign::Semicolon, rest)?;
+            Ok((simple(place, StmtKind::Continue), rest))
+        }
+        Leading::Return => {
+            let (value, rest) = returned(alloc, room, rest)?;
+            Ok((simple(place, StmtKind::Return(value)), rest))
+        }
+        Leading::Other => evaluate(alloc, room, tokens),
+        Leading::End | Leading::Else | Leading::Case | Leading::Default => {
+            Err(Stop::Unexpected(tokens))
+        }
+    }
+}
+
+fn simple(place: Place, kind: StmtKind) -> Stmt
+    ensures { stmt_of result ≡ stmt_at place kind }
+{
+    Stmt { place, kind }
+}
+
+/// `"(" assign ")" stmt [ "else" stmt ]`, behind the `if`
+#[cycle(statements)]
+#[tactic(auto, unfolding(crate::specs::StatementReader::if_with))]
+fn if_statement<'a>(
+    alloc: Global,
+    room: u32,
+    place: Place,
+    tokens: &'a [Token],
+) -> Reading<'a, Stmt>
+    requires { room ≤ DEPTH }
+    ensures { Gives (λ x. (stmt_of x.0, tokens_of x.1.now)) result (reader.if_with (exprs.below_at room) (reader.nested_at room) place (tokens_of tokens.now)) }
+{
+    let (condition, rest) = bracketed(alloc, room, tokens)?;
+    let (then, rest) = nested(alloc, room, rest)?;
+    else_branch(alloc, room, place, condition, then, rest)
+}
+
+/// `[ "else" stmt ]`
+#[cycle(statements)]
+#[tactic(auto, unfolding(crate::specs::StatementReader::else_with))]
+fn else_branch<'a>(
+    alloc: Global,
+    room: u32,
+    place: Place,
+    condition: Expr,
+    then: Stmt,
+    tokens: &'a [Token],
+) -> Reading<'a, Stmt>
+    requires { room ≤ DEPTH }
+    ensures { Gives (λ x. (stmt_of x.0, tokens_of x.1.now)) result (reader.else_with (reader.nested_at room) place (expr_of condition) (stmt_of then) (tokens_of tokens.now)) }
+{
+    let Some((next, rest)) = tokens.split_first() else {
+        return Ok((nodes::if_only(alloc, place, condition, then)?, tokens));
+    };
+    if !matches!(leads_to(&next.kind), Leading::Else) {
+        return Ok((nodes::if_only(alloc, place, condition, then)?, tokens));
+    }
+    let (otherwise, rest) = nested(alloc, room, rest)?;
+    Ok((
+        nodes::if_else(alloc, place, condition, then, otherwise)?,
+        rest,
+    ))
+}
+
+/// `"(" assign ")" stmt`, behind the `while`
+#[cycle(statements)]
+#[tactic(auto, unfolding(crate::specs::StatementReader::while_with))]
+fn while_statement<'a>(
+    alloc: Global,
+    room: u32,
+    place: Place,
+    tokens: &'a [Token],
+) -> Reading<'a, Stmt>
+    requires { room ≤ DEPTH }
+    ensures { Gives (λ x. (stmt_of x.0, tokens_of x.1.now)) result (reader.while_with (exprs.below_at room) (reader.nested_at room) place (tokens_of tokens.now)) }
+{
+    let (condition, rest) = bracketed(alloc, room, tokens)?;
+    let (body, rest) = nested(alloc, room, rest)?;
+    Ok((nodes::while_loop(alloc, place, condition, body)?, rest))
+}
+
+/// `stmt "while" "(" assign ")" ";"`, behind the `do`
+#[cycle(statements)]
+#[tactic(auto, unfolding(crate::specs::StatementReader::do_with))]
+fn do_statement<'a>(
+    alloc: Global,
+    room: u32,
+    place: Place,
+    tokens: &'a [Token],
+) -> Reading<'a, Stmt>
+    requires { room ≤ DEPTH }
+    ensures { Gives (λ x. (stmt_of x.0, tokens_of x.1.now)) result (reader.do_with (exprs.below_at room) (reader.nested_at room) place (tokens_of tokens.now)) }
+{
+    let (body, rest) = nested(alloc, room, tokens)?;
+    let (_, rest) = expect_while(rest)?;
+    let (condition, rest) = bracketed(alloc, room, rest)?;
+    let (_, rest) = expect(Sign::Semicolon, rest)?;
+    Ok((nodes::do_loop(alloc, place, body, condition)?, rest))
+}
+
+/// `"(" [ vars | assign ] ";" [assign] ";" [ assign {"," assign} ] ")" stmt`, behind the `for`
+#[cycle(statements)]
+#[tactic(auto, unfolding(crate::specs::StatementReader::for_with))]
+fn for_statement<'a>(
+    alloc: Global,
+    room: u32,
+    place: Place,
+    tokens: &'a [Token],
+) -> Reading<'a, Stmt>
+    requires { room ≤ DEPTH }
+    ensures { Gives (λ x. (stmt_of x.0, tokens_of x.1.now)) result (reader.for_with (exprs.below_at room) (reader.nested_at room) place (tokens_of tokens.now)) }
+{
+    let (_, rest) = expect(Sign::OpenParenthesis, tokens)?;
+    let (first, rest) = first(alloc, room, rest)?;
+    let (condition, rest) = test(alloc, room, rest)?;
+    let (steps, rest) = expressions(alloc, room, rest)?;
+    let (_, rest) = expect(Sign::CloseParenthesis, rest)?;
+    let (body, rest) = nested(alloc, room, rest)?;
+    Ok((
+        nodes::for_loop(alloc, place, first, condition, steps, body)?,
+        rest,
+    ))
+}
+
+/// `"(" assign ")" "{" { label { stmt } } "}"`, behind the `switch`
+#[cycle(statements)]
+#[tactic(auto, unfolding(crate::specs::StatementReader::switch_with))]
+fn switch_statement<'a>(
+    alloc: Global,
+    room: u32,
+    place: Place,
+    tokens: &'a [Token],
+) -> Reading<'a, Stmt>
+    requires { room ≤ DEPTH }
+    ensures { Gives (λ x. (stmt_of x.0, tokens_of x.1.now)) result (reader.switch_with (exprs.below_at room) (reader.nested_at room) place (tokens_of tokens.now)) }
+{
+    let (value, rest) = bracketed(alloc, room, tokens)?;
+    let (_, rest) = expect(Sign::OpenBrace, rest)?;
+    let (cases, rest) = cases(alloc, room, rest)?;
+    let (_, rest) = expect(Sign::CloseBrace, rest)?;
+    Ok((nodes::switch(place, value, cases), rest))
+}
+
+#[cycle(statements)]
+fn cases(alloc: Global, room: u32, tokens: &[Token]) -> Reading<'_, Vec<Case>>
+    requires { room ≤ DEPTH }
+    ensures { Gives (λ x. (map case_of x.0.items, tokens_of x.1.now)) result (reader.cases_with (reader.nested_at room) (tokens_of tokens.now)) }
+{
+    let mut all = Vec::new(alloc);
+    let mut rest = tokens;
+    'more: while goes_on(rest) {
+        let (next, behind) = case(alloc, room, rest)?;
+        all.push(next)?;
+        rest = behind;
+    }
+    Ok((all, rest))
+}
+
+/// `label { stmt }`
+#[cycle(statements)]
+#[tactic(auto, unfolding(crate::specs::StatementReader::case_with))]
+fn case(alloc: Global, room: u32, tokens: &[Token]) -> Reading<'_, Case>
+    requires { room ≤ DEPTH }
+    ensures { Gives (λ x. (case_of x.0, tokens_of x.1.now)) result (reader.case_with (reader.nested_at room) (tokens_of tokens.now)) }
+{
+    let ((label, place), rest) = label(tokens)?;
+    let (body, rest) = statements(alloc, room, rest)?;
+    Ok((nodes::case(place, label, body), rest))
+}
+
+/// `{ stmt }`, behind a label
+#[cycle(statements)]
+fn statements(alloc: Global, room: u32, tokens: &[Token]) -> Reading<'_, Vec<Stmt>>
+    requires { room ≤ DEPTH }
+    ensures { Gives (λ x. (map stmt_of x.0.items, tokens_of x.1.now)) result (reader.stmts_with (reader.nested_at room) (tokens_of tokens.now)) }
+{
+    let mut all = Vec::new(alloc);
+    let mut rest = tokens;
+    'more: while case_goes_on(rest) {
+        let (next, behind) = nested(alloc, room, rest)?;
+        all.push(next)?;
+        rest = behind;
+    }
+    Ok((all, rest))
+}
+
+/// `"{" { vars ";" | stmt } "}"`
+#[cycle(statements)]
+#[tactic(auto, unfolding(crate::specs::StatementReader::block_with))]
+pub fn block(alloc: Global, room: u32, tokens: &[Token]) -> Reading<'_, Vec<Stmt>>
+    requires { room ≤ DEPTH }
+    ensures { Gives (λ x. (map stmt_of x.0.items, tokens_of x.1.now)) result (reader.block_with (exprs.below_at room) (reader.nested_at room) (tokens_of tokens.now)) }
+{
+    let (_, rest) = expect(Sign::OpenBrace, tokens)?;
+    let (body, rest) = locals(alloc, room, rest)?;
+    let (_, rest) = expect(Sign::CloseBrace, rest)?;
+    Ok((body, rest))
+}
+
+/// `{ vars ";" | stmt }`
+#[cycle(statements)]
+fn locals(alloc: Global, room: u32, tokens: &[Token]) -> Reading<'_, Vec<Stmt>>
+    requires { room ≤ DEPTH }
+    ensures { Gives (λ x. (map stmt_of x.0.items, tokens_of x.1.now)) result (reader.locals_with (exprs.below_at room) (reader.nested_at room) (tokens_of tokens.now)) }
+{
+    let mut all = Vec::new(alloc);
+    let mut rest = tokens;
+    'more: while goes_on(rest) {
+        let (next, behind) = local(alloc, room, rest)?;
+        all.push(next)?;
+        rest = behind;
+    }
+    Ok((all, rest))
+}
+
+/// `vars ";" | stmt`
+#[cycle(statements)]
+#[tactic(auto, unfolding(crate::specs::StatementReader::local_with))]
+fn local(alloc: Global, room: u32, tokens: &[Token]) -> Reading<'_, Stmt>
+    requires { room ≤ DEPTH }
+    ensures { Gives (λ x. (stmt_of x.0, tokens_of x.1.now)) result (reader.local_with (exprs.below_at room) (reader.nested_at room) (tokens_of tokens.now)) }
+{
+    if is_vars(tokens) {
+        let (vars, rest) = declared(alloc, room, tokens)?;
+        return Ok((nodes::declare(vars), rest));
+    }
+    nested(alloc, room, tokens)
+}
