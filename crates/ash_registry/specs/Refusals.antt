@@ -1,0 +1,147 @@
+-- Which registrations are refused, with the first cause in the order in which they are tested, and what an
+-- accepted one adds.
+use Rattle.std.specs.Prelude.{◌≡◌, ◌⊎◌, ◌+◌, ℕ, Bool, true, false, not, ◌||◌, List, [], ◌∷◌, ◌++◌, Option, None, Some, Result, OnOk, OnErr, IfErr, length, nat_le, nat_lt, count_by}
+use Rattle.std.specs.List.{list_any, filter_map}
+use Rattle.std.specs.Option.{is_none, option_and_then, option_to_list}
+use Rattle.std.specs.Str.{bytes_eq}
+use Rattle.ash_registry.specs.declared.types.Primitive.{Primitive}
+use Rattle.ash_registry.specs.declared.fault.RegistryFault.{RegistryFault}
+use Rattle.ash_registry.specs.declared.fault.RegistryFault.TheVariants.{UnknownType, NoService, BadDeclaration, ReservedName, NotPrimitive, NameTaken, FactoryTaken, TooMany, NoMemory}
+use Rattle.ash_registry.specs.Trees.{Named, Prim, Object, Handle, Signature, Declaration, Spelling, AName, AReserved, ANoName, primitive_of}
+use Rattle.ash_registry.specs.Trees as trees
+use Rattle.ash_registry.specs.Calls.{Operation, Call, AType, AFactory, AMethod, AProperty, AService, AFunction, is_type, names_type, takes_kind, takes_name, is_factory_of, is_member_of, takes_member, takes_method, takes_property, takes_function, is_service, is_function}
+use Rattle.ash_registry.specs.Text.{line_of, text_of}
+
+-- a cause that is tested, and those that are tested after it
+abbrev pub cause : Bool → RegistryFault → Option RegistryFault → Option RegistryFault
+cause true fault later = Some fault
+cause false fault later = later
+
+-- whether a type of this name is registered
+abbrev pub is_known : List Call → List ℕ → Bool
+is_known calls name = list_any (names_type name) calls
+
+-- whether a declared type is an object type that isn't registered
+abbrev pub is_unknown : List Call → Named → Bool
+is_unknown calls (Prim _) = false
+is_unknown calls (Object name) = not (is_known calls name)
+is_unknown calls (Handle name) = not (is_known calls name)
+
+-- whether a declared type is no primitive
+abbrev pub is_object : Named → Bool
+is_object named = is_none (primitive_of named)
+
+-- the causes that lie in declared types
+abbrev pub cause_in : List Call → List Named → Option RegistryFault → Option RegistryFault
+cause_in calls types later = cause (list_any (is_unknown calls) types) UnknownType (cause (list_any is_object types) NotPrimitive later)
+
+-- whether the text would pass 1,048,576 bytes with one more call
+abbrev pub is_too_long : List Call → Call → Bool
+is_too_long calls call = nat_lt 1048576 (length (text_of calls) + length (line_of call))
+
+-- too many of a kind, or too long a text
+abbrev pub cause_of_many : Bool → List Call → Call → Option RegistryFault
+cause_of_many many calls call = cause (many || is_too_long calls call) TooMany None
+
+-- the types that a signature names, its result first
+abbrev pub types_of : Signature → List Named
+types_of s = option_to_list s.result ++ s.parameters
+
+-- a signature whose types are primitive
+abbrev pub primitive_operation : Signature → Operation
+primitive_operation s = record { name = s.name; result = option_and_then primitive_of s.result; parameters = filter_map primitive_of s.parameters }
+
+-- A type has a name and a kind of its own, and there are at most 256.
+abbrev pub refusal_of_type : List Call → Spelling → ℕ → Option RegistryFault
+refusal_of_type calls ANoName kind = Some BadDeclaration
+refusal_of_type calls AReserved kind = Some ReservedName
+refusal_of_type calls (AName name) kind =
+    cause (list_any (takes_name name) calls || list_any (takes_kind kind) calls) NameTaken (cause_of_many (nat_le 256 (count_by is_type calls)) calls (AType name kind))
+
+-- A service has a kind of its own, and there are at most 16.
+abbrev pub refusal_of_service : List Call → ℕ → Option RegistryFault
+refusal_of_service calls kind =
+    cause (list_any (takes_kind kind) calls) NameTaken (cause_of_many (nat_le 16 (count_by is_service calls)) calls (AService kind))
+
+-- A call is accepted where no cause speaks against it, and is then added; else its cause is told, or that memory
+-- ran out, and nothing changes.
+pub record RegisteredIf {A : Type 0} (refusal : Option RegistryFault) (call : List Call) (result : Result A RegistryFault) (old new : List Call) : Type 0 where
+  pub accepted : OnOk result (refusal ≡ None)
+  pub added : OnOk result (new ≡ old ++ call)
+  pub refused : IfErr result (λ fault. (refusal ≡ Some fault) ⊎ (fault ≡ NoMemory))
+  pub unchanged : OnErr result (new ≡ old)
+
+-- the call of a type
+abbrev pub type_call : Spelling → ℕ → List Call
+type_call (AName name) kind = AType name kind ∷ []
+type_call _ _ = []
+
+-- What a method declares: a function of primitives. A type's methods and properties have names of their own, its
+-- methods numbers of their own, and there are at most 32 of both.
+abbrev pub refusal_of_signature : List Call → List ℕ → ℕ → Signature → Option RegistryFault
+refusal_of_signature calls of id s =
+    cause_in calls (types_of s) (cause (list_any (takes_member of s.name) calls || list_any (takes_method of id) calls) NameTaken (cause_of_many (nat_le 32 (count_by (is_member_of of) calls)) calls (AMethod of id (primitive_operation s))))
+
+abbrev pub refusal_of_method : List Call → List ℕ → Option Declaration → ℕ → Option RegistryFault
+refusal_of_method calls of None id = cause (not (is_known calls of)) UnknownType (Some BadDeclaration)
+refusal_of_method calls of (Some (trees.AProperty _ _)) id = cause (not (is_known calls of)) UnknownType (Some BadDeclaration)
+refusal_of_method calls of (Some (trees.AFunction s)) id = cause (not (is_known calls of)) UnknownType (refusal_of_signature calls of id s)
+
+-- the call of a method
+abbrev pub method_call : List ℕ → Option Declaration → ℕ → List Call
+method_call of (Some (trees.AFunction s)) id = AMethod of id (primitive_operation s) ∷ []
+method_call _ _ _ = []
+
+-- A property is of a primitive type; its number is its own among the type's properties.
+abbrev pub refusal_of_primitive : List Call → List ℕ → ℕ → Primitive → List ℕ → Option RegistryFault
+refusal_of_primitive calls of id value name =
+    cause (list_any (takes_member of name) calls || list_any (takes_property of id) calls) NameTaken (cause_of_many (nat_le 32 (count_by (is_member_of of) calls)) calls (AProperty of id value name))
+
+abbrev pub refusal_of_value : List Call → List ℕ → ℕ → Named → List ℕ → Option RegistryFault
+refusal_of_value calls of id (Prim value) name = refusal_of_primitive calls of id value name
+refusal_of_value calls of id (Object other) name = cause (not (is_known calls other)) UnknownType (Some NotPrimitive)
+refusal_of_value calls of id (Handle other) name = cause (not (is_known calls other)) UnknownType (Some NotPrimitive)
+
+abbrev pub refusal_of_property : List Call → List ℕ → Option Declaration → ℕ → Option RegistryFault
+refusal_of_property calls of (Some (trees.AProperty value name)) id = cause (not (is_known calls of)) UnknownType (refusal_of_value calls of id value name)
+refusal_of_property calls of _ id = cause (not (is_known calls of)) UnknownType (Some BadDeclaration)
+
+-- the call of a property
+abbrev pub value_call : List ℕ → ℕ → Named → List ℕ → List Call
+value_call of id (Prim value) name = AProperty of id value name ∷ []
+value_call _ _ _ _ = []
+
+abbrev pub property_call : List ℕ → Option Declaration → ℕ → List Call
+property_call of (Some (trees.AProperty value name)) id = value_call of id value name
+property_call _ _ _ = []
+
+-- A factory gives a handle of its own type, whatever its name, and a type has one.
+abbrev pub gives_handle_of : List ℕ → Option Named → Bool
+gives_handle_of of (Some (Handle name)) = bytes_eq of name
+gives_handle_of _ _ = false
+
+abbrev pub refusal_of_constructor : List Call → List ℕ → List Named → Option RegistryFault
+refusal_of_constructor calls of parameters =
+    cause_in calls parameters (cause (list_any (is_factory_of of) calls) FactoryTaken (cause_of_many false calls (AFactory of (filter_map primitive_of parameters))))
+
+abbrev pub refusal_of_factory : List Call → List ℕ → Option Declaration → Option RegistryFault
+refusal_of_factory calls of (Some (trees.AFunction s)) = cause (not (is_known calls of)) UnknownType (cause (not (gives_handle_of of s.result)) BadDeclaration (refusal_of_constructor calls of s.parameters))
+refusal_of_factory calls of _ = cause (not (is_known calls of)) UnknownType (Some BadDeclaration)
+
+abbrev pub factory_call : List ℕ → Option Declaration → List Call
+factory_call of (Some (trees.AFunction s)) = AFactory of (filter_map primitive_of s.parameters) ∷ []
+factory_call _ _ = []
+
+-- A function of a service has a name of its own among types and functions and a number of its own in its service,
+-- and there are at most 256.
+abbrev pub refusal_of_operation : List Call → ℕ → ℕ → Signature → Option RegistryFault
+refusal_of_operation calls service id s =
+    cause_in calls (types_of s) (cause (list_any (takes_name s.name) calls || list_any (takes_function service id) calls) NameTaken (cause_of_many (nat_le 256 (count_by is_function calls)) calls (AFunction service id (primitive_operation s))))
+
+abbrev pub refusal_of_function : List Call → ℕ → Option Declaration → ℕ → Option RegistryFault
+refusal_of_function calls service (Some (trees.AFunction s)) id = cause (nat_le (count_by is_service calls) service) NoService (refusal_of_operation calls service id s)
+refusal_of_function calls service _ id = cause (nat_le (count_by is_service calls) service) NoService (Some BadDeclaration)
+
+abbrev pub function_call : ℕ → Option Declaration → ℕ → List Call
+function_call service (Some (trees.AFunction s)) id = AFunction service id (primitive_operation s) ∷ []
+function_call _ _ _ = []

@@ -1,0 +1,167 @@
+//! What a registry tells.
+ghost use Rattle.std.specs.Prelude.{◌≡◌, [], count_by, find, IfOk};
+ghost use Rattle.std.specs.List.{list_any, filter_map};
+ghost use Rattle.std.specs.Option.{option_copied, option_map};
+ghost use Rattle.ash_registry.specs.Calls.{call_of};
+ghost use Rattle.ash_registry.specs.Calls as spec;
+ghost use Rattle.ash_registry.specs.Registered.{registered};
+ghost use Rattle.ash_registry.specs.Text.{text_of};
+
+use crate::searches::{
+    any_is_factory_of, any_names_type, any_takes_function, any_takes_kind, any_takes_member,
+    any_takes_method, any_takes_name, any_takes_property, find_factory, find_member, find_name,
+    kinds_of_services,
+};
+use crate::{Call, Registry};
+use std::alloc::{AllocError, Global};
+
+impl Registry {
+    /// Nothing is registered.
+    pub fn new(alloc: Global) -> Registry
+        ensures { registered result ≡ [] }
+    {
+        Registry {
+            alloc,
+            calls: Vec::new(alloc),
+            text: String::new(alloc),
+        }
+    }
+
+    /// One line for each accepted call, in order.
+    pub fn text(&self) -> &str
+        ensures { result.now ≡ text_of (registered self.now) }
+    {
+        self.text.as_str()
+    }
+
+    /// The type or function of a name, as it was registered.
+    #[tactic(auto, using(crate::proofs::Mapped::find_mapped))]
+    pub fn named(&self, name: &str) -> Option<&Call>
+        ensures { option_map call_of (option_copied result)
+            ≡ find (spec.takes_name name.now) (registered self.now) }
+    {
+        find_name(&self.calls, name)
+    }
+
+    /// The method or property of a type by its name, as it was registered.
+    #[tactic(auto, using(crate::proofs::Mapped::find_mapped))]
+    pub fn member(&self, of: &str, name: &str) -> Option<&Call>
+        ensures { option_map call_of (option_copied result)
+            ≡ find (spec.takes_member of.now name.now) (registered self.now) }
+    {
+        find_member(&self.calls, of, name)
+    }
+
+    /// The factory of a type, as it was registered.
+    #[tactic(auto, using(crate::proofs::Mapped::find_mapped))]
+    pub fn factory_of(&self, of: &str) -> Option<&Call>
+        ensures { option_map call_of (option_copied result)
+            ≡ find (spec.is_factory_of of.now) (registered self.now) }
+    {
+        find_factory(&self.calls, of)
+    }
+
+    /// The kinds of the services, in order of registration.
+    #[tactic(auto, using(crate::proofs::Mapped::filter_mapped))]
+    pub fn service_kinds(&self) -> Result<Vec<u16>, AllocError>
+        ensures { IfOk result (λ kinds. kinds.items
+            ≡ filter_map spec.service_kind (registered self.now)) }
+    {
+        kinds_of_services(self.alloc, &self.calls)
+    }
+
+    // Whether a type of this name is registered.
+    #[tactic(auto, using(crate::proofs::Mapped::any_mapped))]
+    pub(crate) fn knows(&self, name: &str) -> bool
+        ensures { result ≡ list_any (spec.names_type name.now) (registered self.now) }
+    {
+        any_names_type(&self.calls, name)
+    }
+
+    // Whether a name is taken among types and functions.
+    #[tactic(auto, using(crate::proofs::Mapped::any_mapped))]
+    pub(crate) fn takes_name(&self, name: &str) -> bool
+        ensures { result ≡ list_any (spec.takes_name name.now) (registered self.now) }
+    {
+        any_takes_name(&self.calls, name)
+    }
+
+    // Whether a type or a service has this kind.
+    #[tactic(auto, using(crate::proofs::Mapped::any_mapped))]
+    pub(crate) fn takes_kind(&self, kind: u16) -> bool
+        ensures { result ≡ list_any (spec.takes_kind kind) (registered self.now) }
+    {
+        any_takes_kind(&self.calls, kind)
+    }
+
+    // Whether a type has a factory.
+    #[tactic(auto, using(crate::proofs::Mapped::any_mapped))]
+    pub(crate) fn has_factory(&self, of: &str) -> bool
+        ensures { result ≡ list_any (spec.is_factory_of of.now) (registered self.now) }
+    {
+        any_is_factory_of(&self.calls, of)
+    }
+
+    // Whether a name is taken among the members of a type.
+    #[tactic(auto, using(crate::proofs::Mapped::any_mapped))]
+    pub(crate) fn takes_member(&self, of: &str, name: &str) -> bool
+        ensures { result ≡ list_any (spec.takes_member of.now name.now) (registered self.now) }
+    {
+        any_takes_member(&self.calls, of, name)
+    }
+
+    // Whether a number is taken among the methods of a type.
+    #[tactic(auto, using(crate::proofs::Mapped::any_mapped))]
+    pub(crate) fn takes_method(&self, of: &str, id: u16) -> bool
+        ensures { result ≡ list_any (spec.takes_method of.now id) (registered self.now) }
+    {
+        any_takes_method(&self.calls, of, id)
+    }
+
+    // Whether a number is taken among the properties of a type.
+    #[tactic(auto, using(crate::proofs::Mapped::any_mapped))]
+    pub(crate) fn takes_property(&self, of: &str, id: u16) -> bool
+        ensures { result ≡ list_any (spec.takes_property of.now id) (registered self.now) }
+    {
+        any_takes_property(&self.calls, of, id)
+    }
+
+    // Whether a number is taken among the functions of a service.
+    #[tactic(auto, using(crate::proofs::Mapped::any_mapped))]
+    pub(crate) fn takes_function(&self, service: u16, id: u16) -> bool
+        ensures { result ≡ list_any (spec.takes_function service id) (registered self.now) }
+    {
+        any_takes_function(&self.calls, service, id)
+    }
+
+    // How many types there are.
+    pub(crate) fn types(&self) -> usize
+        ensures { result ≡ count_by spec.is_type (registered self.now) }
+    {
+        self.calls.iter().filter(|call| call.is_type()).count()
+    }
+
+    // How many services there are.
+    pub(crate) fn services(&self) -> usize
+        ensures { result ≡ count_by spec.is_service (registered self.now) }
+    {
+        self.calls.iter().filter(|call| call.is_service()).count()
+    }
+
+    // How many functions there are.
+    pub(crate) fn functions(&self) -> usize
+        ensures { result ≡ count_by spec.is_function (registered self.now) }
+    {
+        self.calls.iter().filter(|call| call.is_function()).count()
+    }
+
+    // How many methods and properties a type has.
+    pub(crate) fn members_of(&self, of: &str) -> usize
+        ensures { result ≡ count_by (spec.is_member_of of.now) (registered self.now) }
+    {
+        self.calls
+            .iter()
+            .filter(|call| call.is_member_of(of))
+            .count()
+    }
+}
