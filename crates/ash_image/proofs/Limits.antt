@@ -7,8 +7,10 @@ use Rattle.ash_host.specs.declared.word.Word.{Word}
 use Rattle.ash_host.specs.declared.word.Word.TheVariants as words
 use Rattle.ash_meaning.specs.State.{Script}
 use Rattle.ash_image.specs.Fields.{number, text, items}
-use Rattle.ash_image.specs.Image.{word, script, image_of, HasSizes, IsWithinLimits, script_in, state_in}
-use Rattle.ash_image.specs.declared.image.ModuleParts.{ModuleParts}
+use Rattle.ash_image.specs.Image.{word, script, image_of, HasSizes, IsWithinLimits}
+use Rattle.ash_meaning.specs.Kept.{Admits, script_in, state_in}
+use Rattle.ash_meaning.specs.declared.kept.ModuleParts.{ModuleParts}
+use Rattle.ash_meaning.proofs.Admitted.{admitted-source, admitted-globals}
 use Rattle.ash_image.proofs.Names.{name_short}
 
 word_short : (w : Word) → length (word w) ≤ 9
@@ -37,3 +39,19 @@ pub has_room : (parts : Option ModuleParts) (seq : ℕ) → IfSome parts (λ m. 
 has_room None seq h = omega arith
 has_room (Some m) seq h =
     omega (arith, script_short (script_in m) h, length-append (script (script_in m)) [], length-append (script (script_in m) ++ []) (number 4 0))
+
+-- a module that a host may keep is within its limits
+pub within_limits : (parts : Option ModuleParts) (seq : ℕ) → Admits (state_in parts seq) → IfSome parts (λ m. IsWithinLimits (script_in m))
+within_limits None seq h = tt
+within_limits (Some m) seq h = record {
+  name = h.modules.0.name;
+  source = admitted-source (script_in m) h.modules.0;
+  globals = admitted-globals (script_in m) h.modules.0;
+}
+
+-- so a state that a host may keep has a file
+pub admitted-sizes : (parts : Option ModuleParts) (seq : ℕ) → Admits (state_in parts seq) → IfSome parts (λ m. HasSizes (script_in m))
+admitted-sizes parts seq h = has_sizes parts (within_limits parts seq h)
+
+pub admitted-room : (parts : Option ModuleParts) (seq : ℕ) → Admits (state_in parts seq) → length (image_of (state_in parts seq)) < 2 ^ 32
+admitted-room parts seq h = has_room parts seq (within_limits parts seq h)

@@ -1,16 +1,14 @@
 -- The image of a host's state, byte for byte, and the file round it.
-use Rattle.std.specs.Prelude.{◌≡◌, ◌⊎◌, ℕ, ◌<◌, ◌≤◌, ◌^◌, Bool, true, false, List, ◌++◌, length, Option, Some, None, option_map, string_bytes, slice_index, codes, ⊤, FitsSigned}
+use Rattle.std.specs.Prelude.{◌≡◌, ◌⊎◌, ℕ, ◌<◌, ◌≤◌, ◌^◌, Bool, true, false, List, ◌++◌, length, Option, Some, None, slice_index, codes, ⊤, FitsSigned}
 use Rattle.std.specs.Bool.{IsTrue}
 use Rattle.std.specs.Int.{w32, w64, cast_unsigned}
 use Rattle.std.specs.List.{AllByRecursion}
-use Rattle.std.specs.Option.{option_to_list}
 use Rattle.ash_host.specs.declared.word.Word.{Word}
 use Rattle.ash_host.specs.declared.word.Word.TheVariants as words
+use Rattle.ash_meaning.specs.Kept.{state_of}
 use Rattle.ash_meaning.specs.State.{Script, State}
 use Rattle.ash_meaning.specs.Step.{is_module_name, most_modules}
 use Rattle.ash_image.specs.declared.image.Stored.{Stored}
-use Rattle.ash_image.specs.declared.image.StoredModule.{StoredModule}
-use Rattle.ash_image.specs.declared.image.ModuleParts.{ModuleParts}
 use Rattle.ash_image.specs.declared.image.FileContent.{FileContent}
 use Rattle.ash_image.specs.declared.image.FileContent.TheVariants as contents
 use Rattle.ash_image.specs.Fields.{number, text, items}
@@ -136,29 +134,9 @@ IsClosed bytes = (length bytes < 2) ⊎ (slice_index bytes 0 ≡ open_gate → �
 
 -- ---- what the code's types stand for
 
--- a module that was read
-abbrev pub script_of : StoredModule → Script
-script_of m = record { name = string_bytes m.name; source = m.source.items; globals = m.globals.items }
-
--- the modules that were read
-abbrev pub scripts_of : Option StoredModule → List Script
-scripts_of m = option_to_list (option_map script_of m)
-
 -- a state that was read
 abbrev pub stored_of : Stored → State
-stored_of s = record { modules = scripts_of s.module; seq = s.seq }
-
--- a module that is to be written
-abbrev pub script_in : ModuleParts → Script
-script_in m = record { name = m.name.now; source = m.source.now; globals = m.globals.now }
-
--- the modules that are to be written
-abbrev pub scripts_in : Option ModuleParts → List Script
-scripts_in m = option_to_list (option_map script_in m)
-
--- a state that is to be written
-abbrev pub state_in : Option ModuleParts → ℕ → State
-state_in m seq = record { modules = scripts_in m; seq = seq }
+stored_of s = state_of s.module s.seq
 
 -- the state that a file holds
 abbrev pub held : FileContent → Option State

@@ -34,7 +34,6 @@
 // What stands behind the last gate may be left from an older file, and is never read.
 
 mod fields;
-mod name;
 mod reading;
 #[cfg(test)]
 mod tests;
@@ -42,11 +41,12 @@ mod writing;
 
 ghost use Rattle.std.specs.Prelude.{◌≡◌, ◌<◌, ◌^◌, ◌↔◌, length, IsTrue, IfOk, OnOk, IfSome, Some, option_map};
 ghost use Rattle.ash_meaning.specs.State.{State};
-ghost use Rattle.ash_image.specs.Image.{Depicts, FitsFile, HasSizes, IsClosed, IsFile, file_of, held, image_of, script_in, state_in, stored_of};
+ghost use Rattle.ash_image.specs.Image.{Depicts, FitsFile, HasSizes, IsClosed, IsFile, file_of, held, image_of, stored_of};
+ghost use Rattle.ash_meaning.specs.Kept.{script_in, state_in};
 ghost use Rattle.ash_image.specs.declared.image.FileContent.TheVariants.{Closed, Damaged};
 
 use crate::image::fields::Unread;
-use ash_host::Word;
+use ash_meaning::kept::{ModuleParts, StoredModule};
 use std::alloc::{AllocError, Global};
 
 const VERSION: u16 = 1;
@@ -77,24 +77,6 @@ pub struct Stored {
     pub seq: u64,
     /// The module that is kept.
     pub module: Option<StoredModule>,
-}
-
-/// A module as it was read.
-#[derive(Debug, Drop)]
-pub struct StoredModule {
-    pub name: String,
-    pub source: Vec<u8>,
-    /// What the globals hold, in source order.
-    pub globals: Vec<Word>,
-}
-
-/// The parts of a module that is to be written.
-#[derive(Clone, Copy, Debug)]
-pub struct ModuleParts<'a> {
-    pub name: &'a str,
-    pub source: &'a [u8],
-    /// What the globals hold, in source order.
-    pub globals: &'a [Word],
 }
 
 /// What a file is found to be.

@@ -1,12 +1,9 @@
 -- The function that reads a source says exactly what the grammar and the rules on names say.
-use Rattle.std.proofs.Common.{◌≡◌, ◌↔◌, ◌<◌, ◌≤◌, ℕ, List, length, Option, Some, None, Result, Ok, Err, IfOk, IfSome, option_map, sym, ◌∙◌, ap, refl, arith, nat_le, Bool, true, false, cond}
-use Rattle.std.specs.declared.alloc.AllocError.{AllocError}
+use Rattle.std.proofs.Common.{◌≡◌, ◌↔◌, ◌<◌, ℕ, List, length, Some, None, ◌∙◌, ap, refl, arith, nat_le, false}
 use Rattle.std.specs.Option.{option_and_then}
 use Rattle.std.proofs.lemmas.Option.{option_and_then_some}
 use Rattle.std.proofs.lemmas.Bool.Decides.{nat_tests}
-use Rattle.ash_meaning.specs.Tree.{Module, module_of}
-use Rattle.ash_meaning.specs.declared.tree.Module as declared
-use Rattle.ash_meaning.specs.small.Tree.{Item}
+use Rattle.ash_meaning.specs.Tree.{Module}
 use Rattle.ash_meaning.specs.small.Lexer.{read_items}
 use Rattle.ash_meaning.specs.small.Scope.{resolved}
 use Rattle.ash_meaning.specs.small.Reading.{IsSourceOf, read_module}
@@ -33,16 +30,3 @@ too_long n h = grind (arith, nat_tests)
 pub read_module-long : (source : List ℕ) → 65536 < length source → read_module source ≡ None
 unfolding read_module read_items
 read_module-long source h = rw (too_long (length source) h) refl
-
-found_in : (source : List ℕ) (found : Option declared.Module) → option_map module_of found ≡ read_module source → IfSome found (λ tree. IsSourceOf source (module_of tree))
-found_in source None h = tt
-found_in source (Some tree) h = read_module-sound source (module_of tree) (sym h)
-
--- the same of what a call returned
-pub is_found : (source : List ℕ) (r : Result (Option declared.Module) AllocError) → IfOk r (λ found. option_map module_of found ≡ read_module source) → IfOk r (λ found. IfSome found (λ tree. IsSourceOf source (module_of tree)))
-is_found source (Ok found) h = found_in source found h
-is_found source (Err e) h = tt
-
-pub is_only : (source : List ℕ) (r : Result (Option declared.Module) AllocError) → IfOk r (λ found. option_map module_of found ≡ read_module source) → (tree : Module) → IsSourceOf source tree → IfOk r (λ found. option_map module_of found ≡ Some tree)
-is_only source (Ok found) h tree s = h ∙ read_module-again source tree s
-is_only source (Err e) h tree s = tt

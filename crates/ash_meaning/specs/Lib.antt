@@ -3,6 +3,11 @@ pub mod Activity
 pub mod Meaning
 pub mod State
 pub mod small
+pub mod subset
+pub mod Lexing
+pub mod Scanning
+pub mod Reading
 pub mod Machine
 pub mod Step
+pub mod Kept
 pub mod Plain

@@ -1,15 +1,16 @@
 -- What the plain state stands for.
-use Rattle.std.specs.Prelude.{◌≡◌, ℕ, List, [], ◌∷◌, Option, Some, None, string_bytes}
+use Rattle.std.specs.Prelude.{◌≡◌, ℕ, List, [], ◌∷◌, Option, Some, None, Err, ◌⊎◌, string_bytes}
 use Rattle.ash_host.specs.declared.word.Word.{Word}
 use Rattle.ash_meaning.specs.declared.plain.Script as declared
 use Rattle.ash_meaning.specs.declared.request.Argument.{Argument}
 use Rattle.ash_meaning.specs.declared.refusal.Refusal.{Refusal}
 use Rattle.ash_meaning.specs.declared.refusal.Refusal.TheVariants as refusals
+use Rattle.ash_meaning.specs.Kept.{IsAdmitted}
 use Rattle.ash_meaning.specs.Meaning.{End, call, load_globals}
 use Rattle.ash_meaning.specs.State.{State, Script}
 use Rattle.ash_meaning.specs.Step.{find_function, words_for}
 use Rattle.ash_meaning.specs.Tree.{Function, module_of}
-use Rattle.ash_meaning.specs.small.Reading.{read_module}
+use Rattle.ash_meaning.specs.Reading.{read_source, module_read, TakesToRead}
 
 abbrev pub script_of : declared.Script → Script
 script_of s = record { name = string_bytes s.name; source = s.source.items; globals = s.globals.items }
@@ -21,23 +22,26 @@ scripts_of (Some s) = script_of s ∷ []
 abbrev pub state_of : Option declared.Script → ℕ → State
 state_of script seq = record { modules = scripts_of script; seq = seq }
 
--- the tree that is kept is that of the source
-abbrev pub IsRead : Option declared.Script → Type 0
-IsRead None = Unit {0}
-IsRead (Some s) = read_module s.source.items ≡ Some (module_of s.tree)
+-- The tree that is kept is that of the source, and the module is one that a host may keep.
+pub record IsKept (s : declared.Script) : Type 0 where
+  pub tree : module_read s.source.items ≡ Some (module_of s.tree)
+  pub admitted : IsAdmitted (script_of s)
+
+-- each module that is kept is so
+abbrev pub AreKept : Option declared.Script → Type 0
+AreKept None = Unit {0}
+AreKept (Some s) = IsKept s
 
 -- a source that was read, and how its initializers ended
 pub record IsLoaded (budget : ℕ) (name source : List ℕ) (end : End) (script : declared.Script) : Type 0 where
   pub called : string_bytes script.name ≡ name
   pub kept : script.source.items ≡ source
-  pub read : read_module source ≡ Some (module_of script.tree)
+  pub read : module_read source ≡ Some (module_of script.tree)
   pub run : (end, script.globals.items) ≡ load_globals (module_of script.tree) budget
 
--- a source is refused where it spells no module, or where memory was refused for one that does
+-- a source is refused for what it is read as, or memory was refused
 abbrev pub RefusesLoad : List ℕ → Refusal → Type 0
-RefusesLoad source refusals.NotYet = read_module source ≡ None
-RefusesLoad source refusals.NoMemory = Unit {0}
-RefusesLoad source _ = ⊥
+RefusesLoad source refusal = ((refusal ≡ refusals.NoMemory) × TakesToRead (read_source source)) ⊎ (read_source source ≡ Err refusal)
 
 -- a call that was run: its function, the words of its arguments, how it ended and what it left in the globals
 pub record IsCalled (budget : ℕ) (name : List ℕ) (arguments : List Argument) (old : declared.Script) (end : End) (new : declared.Script) : Type 0 where

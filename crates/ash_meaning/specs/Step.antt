@@ -1,5 +1,5 @@
 -- What a request does to the state, and what is replied.
-use Rattle.std.specs.Prelude.{◌≡◌, ◌⊎◌, ℕ, pos, negsuc, ◌+◌, ◌-◌, ◌^◌, ◌==◌, ◌&&◌, ◌||◌, nat_lt, nat_le, not, Bool, false, if◌then◌else◌, List, [], ◌∷◌, ◌++◌, length, map, slice_get, Option, Some, None, is_some, unwrap_or}
+use Rattle.std.specs.Prelude.{◌≡◌, ◌⊎◌, ℕ, pos, negsuc, ◌+◌, ◌-◌, ◌^◌, ◌==◌, ◌&&◌, ◌||◌, nat_lt, nat_le, not, Bool, false, if◌then◌else◌, List, [], ◌∷◌, ◌++◌, length, map, slice_get, Option, Some, None, is_some, unwrap_or, Ok, Err}
 use Rattle.std.specs.List.{list_all}
 use Rattle.std.specs.Str.{bytes_eq}
 use Rattle.ash_host.specs.declared.word.Word.{Word}
@@ -11,7 +11,7 @@ use Rattle.ash_meaning.specs.declared.refusal.Refusal.TheVariants as refusals
 use Rattle.ash_meaning.specs.Tree.{Module, Function, Global as Variable}
 use Rattle.ash_meaning.specs.Meaning.{End, Finished, call, load_globals}
 use Rattle.ash_meaning.specs.State.{Script, State, Request, Load, Call, Global, Seq, Reply, Answered, Value, Number, Refused}
-use Rattle.ash_meaning.specs.small.Reading.{read_module}
+use Rattle.ash_meaning.specs.Reading.{Reading, read_source, module_read, TakesToTell}
 
 -- the first of a list that passes a test
 abbrev pub first_where : {A : Type 0} → (A → Bool) → List A → Option A
@@ -61,9 +61,9 @@ abbrev pub kept : End → Script → List Script → List Script
 kept (Finished value) script modules = modules ++ script ∷ []
 kept _ script modules = modules
 
-abbrev pub load_read : ℕ → List ℕ → List ℕ → Option Module → State → Reply × State
-load_read budget name source None state = refuse refusals.NotYet state
-load_read budget name source (Some tree) state =
+abbrev pub load_read : ℕ → List ℕ → List ℕ → Reading → State → Reply × State
+load_read budget name source (Err refusal) state = refuse refusal state
+load_read budget name source (Ok tree) state =
     let run = load_globals tree budget in
     answer run.0 (kept run.0 (record { name = name; source = source; globals = run.1 }) state.modules) state.seq
 
@@ -73,7 +73,7 @@ load budget name source state =
     else if not (is_module_name name) then refuse refusals.BadName state
     else if is_some (find_script name state) then refuse refusals.ModuleTaken state
     else if nat_le most_modules (length state.modules) then refuse refusals.TooManyModules state
-    else load_read budget name source (read_module source) state
+    else load_read budget name source (read_source source) state
 
 -- An argument becomes an `int` where it is a number in its range.
 abbrev pub int_argument : Argument → Option Word
@@ -95,7 +95,7 @@ words_for parameters arguments = if length arguments == parameters then int_argu
 
 -- the typed tree of a module that is kept
 abbrev pub tree_of : Script → Module
-tree_of script = unwrap_or (read_module script.source) (record { globals = []; functions = [] })
+tree_of script = unwrap_or (module_read script.source) (record { globals = []; functions = [] })
 
 abbrev pub find_function : List ℕ → Module → Option Function
 find_function name tree = first_where (λ function. bytes_eq function.name name) tree.functions
@@ -154,7 +154,7 @@ step budget Seq state = (Number state.seq, state)
 -- the replies that were made by reading a source or running a function, for which memory is taken
 abbrev pub TakesMemory : Reply → Type 0
 TakesMemory (Answered end seq) = Unit {0}
-TakesMemory (Refused refusals.NotYet) = Unit {0}
+TakesMemory (Refused refusal) = TakesToTell refusal
 TakesMemory _ = ⊥
 
 -- One request from old to new: its step, or, where memory is taken, that memory was refused and nothing changed.

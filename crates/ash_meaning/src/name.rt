@@ -42,9 +42,9 @@ fn all_name_parts(bytes: &[u8]) -> bool
     true
 }
 
-/// A name of at most 64 bytes.
-pub(crate) fn is_module_name(name: &str) -> bool
+/// A module's name is a name of at most 64 bytes.
+pub fn is_module_name(name: &[u8]) -> bool
     ensures { result ≡ is_module_name name.now }
 {
-    is_name(name.as_bytes()) && name.len() <= MOST_BYTES
+    is_name(name) && name.len() <= MOST_BYTES
 }

@@ -1,21 +1,25 @@
 // The state of a host, and its steps by the plain evaluator.
 
-ghost use Rattle.std.specs.Prelude.{◌≡◌, option_map, IfOk, IfErr, OnErr};
-ghost use Rattle.ash_meaning.specs.Plain.{IsLoaded, RefusesLoad, IsCalled, RefusesCall};
+ghost use Rattle.std.specs.Prelude.{◌≡◌, ◌↔◌, option_map, SomeIff, IfOk, IfErr, OnErr};
+ghost use Rattle.std.specs.Bool.{IsTrue};
+ghost use Rattle.std.specs.List.{AllByRecursion};
+ghost use Rattle.ash_meaning.specs.Kept.{IsInt, IsAdmitted, Admits, script_of as stored_script, state_of as stored_state, scripts_in};
+ghost use Rattle.ash_meaning.specs.Plain.{script_of, IsKept, AreKept, IsLoaded, RefusesLoad, IsCalled, RefusesCall};
 ghost use Rattle.ash_meaning.specs.State.{empty, Load, Call, answer_of, word_of, end_of, request_of, reply_of};
-ghost use Rattle.ash_meaning.specs.Step.{Steps, find_function, find_script, place_from, names_of, told, value_in, word_named};
+ghost use Rattle.ash_meaning.specs.Step.{Steps, find_function, find_script, is_module_name, place_from, names_of, told, value_in, word_named};
 ghost use Rattle.ash_meaning.specs.Tree.{function_of, module_of};
 
 use crate::arguments::words_for;
 use crate::evaluator;
+use crate::kept::{ModuleParts, StoredModule};
 use crate::name::is_module_name;
 use crate::outcome::Outcome;
-use crate::reading::read_module;
+use crate::reading::{module_read, read_source};
 use crate::refusal::Refusal;
 use crate::request::{Answer, Argument, Reply, Request};
 use crate::tree::{Function, Module};
 use ash_host::Word;
-use std::alloc::Global;
+use std::alloc::{AllocError, Global};
 use std::marker::Model;
 
 /// A module that is kept, with the tree of its source.
@@ -37,14 +41,14 @@ pub struct PlainState {
 
 impl Model for PlainState {
     ghost use Rattle.ash_meaning.specs.State.{State};
-    ghost use Rattle.ash_meaning.specs.Plain.{state_of, IsRead};
+    ghost use Rattle.ash_meaning.specs.Plain.{state_of, AreKept};
 
     ghost Value = { State };
 
     ghost view = { λ s. state_of s.script s.seq };
 
-    // The tree is that of the source.
-    ghost invariant = { λ s. IsRead s.script };
+    // The tree is that of the source, and the module is one that a host may keep.
+    ghost invariant = { λ s. AreKept s.script };
 }
 
 /// The function of this name.
@@ -66,12 +70,12 @@ fn loaded(
     source: &[u8],
     budget: u64,
 ) -> Result<(Outcome, Script), Refusal>
+    requires { IsTrue (is_module_name name.now) }
     ensures run { IfOk result (λ r. IsLoaded budget name.now source.now (end_of r.0) r.1) }
+    ensures kept { IfOk result (λ r. IsKept r.1) }
     ensures refused { IfErr result (λ e. RefusesLoad source.now e) }
 {
-    let Some(tree) = read_module(alloc, source)? else {
-        return Err(Refusal::NotYet);
-    };
+    let tree = read_source(alloc, source)?;
     let name = String::from_str(alloc, name)?;
     let source = Vec::from_slice(alloc, source)?;
     let (outcome, globals) = evaluator::load_globals(alloc, &tree, budget)?;
@@ -82,6 +86,40 @@ fn loaded(
         globals,
     };
     Ok((outcome, script))
+}
+
+/// Each word is an `int`.
+fn are_ints(words: &[Word]) -> bool
+    ensures { IsTrue result ↔ AllByRecursion IsInt words.now }
+{
+    for word in words {
+        if !matches!(*word, Word::Int(_)) {
+            return false;
+        }
+    }
+    true
+}
+
+/// A module that was stored, with the tree of its source, if a host may keep it.
+fn restored_script(alloc: Global, stored: StoredModule) -> Result<Option<Script>, AllocError>
+    ensures exact { IfOk result (λ found. SomeIff (option_map script_of found) (IsAdmitted (stored_script stored)) (stored_script stored)) }
+    ensures kept { IfOk result (λ found. AreKept found) }
+{
+    let Some(tree) = module_read(alloc, &stored.source)? else {
+        return Ok(None);
+    };
+    if !is_module_name(stored.name.as_bytes())
+        || stored.globals.len() != tree.globals.len()
+        || !are_ints(&stored.globals)
+    {
+        return Ok(None);
+    }
+    Ok(Some(Script {
+        name: stored.name,
+        source: stored.source,
+        tree,
+        globals: stored.globals,
+    }))
 }
 
 impl Script {
@@ -95,6 +133,7 @@ impl Script {
         ensures run { IfOk result (λ outcome. IsCalled budget function.now arguments.now self.old (end_of outcome) self.new) }
         ensures refused { IfErr result (λ e. RefusesCall function.now arguments.now self.old e) }
         ensures unchanged { OnErr result (self.new ≡ self.old) }
+        ensures kept { IsKept self.old → IsKept self.new }
     {
         let Some(function) = find_function(&self.tree, function) else {
             return Err(Refusal::NoFunction);
@@ -141,6 +180,37 @@ impl PlainState {
         }
     }
 
+    /// The state that was stored: how many requests had been answered, and the module that was kept. Its source is
+    /// read again. `None` where a host keeps no such module. An `Err` says that memory was refused.
+    pub fn restored(
+        alloc: Global,
+        seq: u64,
+        stored: Option<StoredModule>,
+    ) -> Result<Option<PlainState>, AllocError>
+        ensures { IfOk result (λ found. SomeIff found (Admits (stored_state stored seq)) (stored_state stored seq)) }
+    {
+        let script = match stored {
+            Some(stored) => match restored_script(alloc, stored)? {
+                Some(script) => Some(script),
+                None => return Ok(None),
+            },
+            None => None,
+        };
+        Ok(Some(PlainState { alloc, script, seq }))
+    }
+
+    /// The parts of the module that is kept.
+    pub fn parts(&self) -> Option<ModuleParts<'_>>
+        ensures parts { scripts_in result ≡ self.now.modules }
+        ensures admitted { Admits self.now }
+    {
+        self.script.as_ref().map(|script| ModuleParts {
+            name: script.name.as_str(),
+            source: &script.source,
+            globals: &script.globals,
+        })
+    }
+
     /// How many requests have been answered.
     pub fn seq(&self) -> u64
         ensures { result ≡ self.now.seq }
@@ -155,7 +225,7 @@ impl PlainState {
         if self.seq == u64::MAX {
             return Err(Refusal::SequenceSpent);
         }
-        if !is_module_name(name) {
+        if !is_module_name(name.as_bytes()) {
             return Err(Refusal::BadName);
         }
         if let Some(script) = &self.script {

@@ -1,12 +1,22 @@
-// Why a request is refused. A refusal changes nothing.
+// Why a request is refused.
 
 ghost use Rattle.std.specs.Prelude.{◌≡◌};
 
+use ash_lex::LexFault;
 use std::alloc::AllocError;
 
 /// Why a request is refused.
 #[derive(Clone, Copy, Debug, PartialEq, Eq)]
 pub enum Refusal {
+    /// The source has more than 65,536 bytes.
+    SourceTooLong,
+    /// No token, no comment and no blank begins at this byte of the source, or the source is no UTF-8 from it on.
+    /// Offsets in a source are counted in bytes, from 0.
+    BadCharacter { at: usize },
+    /// A `/*` of the source, at this offset, has no `*/`.
+    UnclosedComment { at: usize },
+    /// A number in the source, at this offset, is 2^64 or more.
+    NumberTooLarge { at: usize },
     /// The source is not of the part of the language that can be run so far.
     NotYet,
     /// There is no module of this name.
@@ -25,6 +35,10 @@ pub enum Refusal {
     BadName,
     /// The sequence number has reached its last value, 2^64 - 1.
     SequenceSpent,
+    /// A disk failed, and what the request was to change was not kept.
+    DeviceFailed,
+    /// An earlier request failed half way: the store is to be opened again.
+    Reopen,
     /// Memory was refused.
     NoMemory,
 }
@@ -36,5 +50,21 @@ impl From<AllocError> for Refusal {
 
     fn from(_: AllocError) -> Self {
         Refusal::NoMemory
+    }
+}
+
+impl From<LexFault> for Refusal {
+    ghost use Rattle.ash_meaning.specs.Lexing.{lexical};
+
+    ghost from_gives = { λ fault refusal. refusal ≡ lexical fault };
+
+    fn from(fault: LexFault) -> Self {
+        match fault {
+            LexFault::BadCharacter { at } => Refusal::BadCharacter { at },
+            LexFault::UnclosedComment { at } => Refusal::UnclosedComment { at },
+            LexFault::NumberTooLarge { at } => Refusal::NumberTooLarge { at },
+            LexFault::SourceTooLong => Refusal::SourceTooLong,
+            LexFault::NoMemory => Refusal::NoMemory,
+        }
     }
 }

@@ -3,18 +3,20 @@
 ghost use Rattle.std.specs.Prelude.{◌≡◌, string_bytes, Some, None, if◌then◌else◌};
 ghost use Rattle.ash_meaning.specs.Step.{is_module_name};
 ghost use Rattle.ash_image.specs.Fields.{Gives, times_at, whole};
-ghost use Rattle.ash_image.specs.Image.{script_of, scripts_of, stored_of};
+ghost use Rattle.ash_image.specs.Image.{stored_of};
+ghost use Rattle.ash_meaning.specs.Kept.{script_of, scripts_of};
 ghost use Rattle.ash_image.specs.ImageReading.{file_at, globals_at, image_at, module_at, modules_at, name_at, word_at};
 
 use crate::image::fields::{
     Unread, front, past, past_u8, past_u16, past_u32, past_u64, u8_at, u16_at, u32_at, u64_at,
 };
-use crate::image::name::is_module_name;
 use crate::image::{
     GENERATION, LAST_NUMBER, MAGIC, NO_OBJECTS, NO_REGISTRY, NO_SERVICES, OPEN, SHUT, Stored,
-    StoredModule, VERSION,
+    VERSION,
 };
 use ash_host::Word;
+use ash_meaning::kept::StoredModule;
+use ash_meaning::name::is_module_name;
 use std::alloc::Global;
 
 #[tactic(auto, unfolding(crate::specs::ImageReading::word_at, crate::specs::ImageReading::value_at))]

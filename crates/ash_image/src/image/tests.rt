@@ -1,7 +1,9 @@
 ghost use Rattle.std.specs.Prelude.{◌≡◌, IfOk, IfSome};
-ghost use Rattle.ash_image.specs.Image.{IsWithinLimits, file_of, script_in, state_in};
+ghost use Rattle.ash_image.specs.Image.{IsWithinLimits, file_of};
+ghost use Rattle.ash_meaning.specs.Kept.{script_in, state_in};
 
 use super::*;
+use ash_host::Word;
 use std::test::*;
 
 /// The file of a host that keeps no module and has answered no request.

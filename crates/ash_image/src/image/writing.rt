@@ -3,10 +3,12 @@
 ghost use Rattle.std.specs.Prelude.{◌≡◌, ◌<◌, ◌≤◌, ◌^◌, ◌*◌, ◌++◌, ℕ, length, OnOk, IfSome};
 ghost use Rattle.std.specs.List.{flat_map, AllByRecursion};
 ghost use Rattle.ash_image.specs.Fields.{items, number};
-ghost use Rattle.ash_image.specs.Image.{Fits, FitsModule, FitsWord, HasSizes, image_of, script, script_in, scripts_in, state_in, word};
+ghost use Rattle.ash_image.specs.Image.{Fits, FitsModule, FitsWord, HasSizes, image_of, script, word};
+ghost use Rattle.ash_meaning.specs.Kept.{script_in, scripts_in, state_in};
 
-use crate::image::{LAST_NUMBER, ModuleParts, NO_OBJECTS, NO_REGISTRY, NO_SERVICES, VERSION};
+use crate::image::{LAST_NUMBER, NO_OBJECTS, NO_REGISTRY, NO_SERVICES, VERSION};
 use ash_host::Word;
+use ash_meaning::kept::ModuleParts;
 use byteorder::{ByteOrder, LittleEndian};
 use std::alloc::AllocError;
 

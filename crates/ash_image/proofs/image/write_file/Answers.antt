@@ -1,6 +1,7 @@
 use Rattle.std.proofs.Common.{◌++◌, ℕ, List, ap, ◌∙◌, length}
 use Rattle.ash_image.specs.Fields.{number}
-use Rattle.ash_image.specs.Image.{open_gate, shut_gate, magic, generation, image_of, state_in}
+use Rattle.ash_image.specs.Image.{open_gate, shut_gate, magic, generation, image_of}
+use Rattle.ash_meaning.specs.Kept.{state_in}
 use Rattle.ash_image.proofs.Appended.{appended6}
 use Rattle.ash_image.proofs.image.write_file.Goals as goal
 

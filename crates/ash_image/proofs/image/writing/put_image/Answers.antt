@@ -1,7 +1,8 @@
 use Rattle.std.proofs.Common.{◌++◌}
 use Rattle.std.proofs.lemmas.Result.{on_ok_weaker}
 use Rattle.ash_image.specs.Fields.{number, items}
-use Rattle.ash_image.specs.Image.{version, registry, last_number, services, objects, script, scripts_in}
+use Rattle.ash_image.specs.Image.{version, registry, last_number, services, objects, script}
+use Rattle.ash_meaning.specs.Kept.{scripts_in}
 use Rattle.ash_image.proofs.Appended.{appended2, appended6}
 use Rattle.ash_image.proofs.image.writing.put_image.Goals as goal
 

@@ -1,0 +1,3 @@
+pub mod NameLemmas
+pub mod ChainLemmas
+pub mod TypedLemmas

@@ -1,0 +1,3 @@
+pub mod Scope
+pub mod Resolver
+pub mod Views
