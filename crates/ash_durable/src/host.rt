@@ -1,9 +1,14 @@
 // The host.
 
-ghost use Rattle.std.specs.Prelude.{◌≡◌, map, IfOk, OnErr};
-ghost use Rattle.ash_meaning.specs.State.{empty, Load, Call, Global, answer_of, word_of, request_of, reply_of};
-ghost use Rattle.ash_meaning.specs.Step.{Steps, Runs, value_in, find_script};
+ghost use Rattle.std.specs.Prelude.{◌≡◌, ℕ, map, None, IfOk, OnErr};
+ghost use Rattle.ash_meaning.specs.State.{State, Load, Call, Global as LookUp, Seq, Number, answer_of, word_of, request_of, reply_of};
+ghost use Rattle.ash_durable.specs.Hosting.{Carries, CarriesAll, IsRunning, Keeps};
+ghost use Rattle.ash_durable.specs.Store.{Creates, Opens, OpensAgain};
 
+use crate::fault::OpenRefused;
+use crate::saving::save;
+use crate::store::{find, make};
+use ash_disk::Disk;
 use ash_host::Word;
 use ash_meaning::plain::PlainState;
 use ash_meaning::refusal::Refusal;
@@ -11,45 +16,134 @@ use ash_meaning::request::{Answer, Argument, Reply, Request};
 use std::alloc::{AllocError, Global};
 use std::marker::Model;
 
-/// A host for script modules. Each call is one request; a refusal changes nothing, and every other answer to a
-/// `load` or a `call` raises the sequence number by one. `Refusal::NoMemory` is told only where memory was
-/// refused, and changes nothing.
+/// A host for script modules whose state stands on two disks. Each call is one request. Every answer to a `load` or a
+/// `call` but a refusal raises the sequence number by one, and before it is given the whole file of the new state is
+/// written to the first disk, by one write and one sync. Where that fails, or finds no memory for the file, the answer
+/// is lost and a reopening is owed: every call but `seq`, `close` and `reopen` is from then on refused by
+/// `Refusal::Reopen`. Any other refusal changes nothing.
 #[derive(Drop)]
-pub struct Host {
+pub struct Host<D> {
+    alloc: Global,
     state: PlainState,
+    /// Where a reopening is owed, the number after the last request that was answered.
+    owed: Option<u64>,
+    first: D,
+    second: D,
 }
 
-impl Model for Host {
-    ghost use Rattle.ash_meaning.specs.State.{State};
+impl<D> Model for Host<D> {
+    ghost use Rattle.ash_durable.specs.Hosting.{Hosted, state_unless};
+    ghost use Rattle.std.specs.Prelude.{unwrap_or};
 
-    ghost Value = { State };
+    ghost Value = { Hosted D };
 
-    ghost view = { λ h. h.state };
+    ghost view = { λ h. record { state = state_unless h.owed h.state; seq = unwrap_or h.owed h.state.seq; first = h.first; second = h.second } };
 }
 
-impl Host {
-    /// A host in memory, with no module.
-    pub fn thin(alloc: Global) -> Host
-        ensures { result ≡ empty }
+impl<D: Disk> Host<D> {
+    /// Makes a store on two disks, and a host with no module, before any request. Each request that is answered is
+    /// from then on kept in the file `a`; the file `b` is shut.
+    ///
+    /// Faults, the first that holds: `DeviceFailed`, `AlreadyThere`, `NoMemory`. Nothing is written where one of the
+    /// last two is told, nor where a file of the store is open already, whatever fails.
+    pub fn create(alloc: Global, mut a: D, mut b: D) -> Result<Host<D>, OpenRefused<D>>
+        ensures { Creates (record { honest = D.honest; seen = D.seen; clock = D.clock; leaves = D.leaves; failures = D.failures }) a b result }
     {
-        Host {
-            state: PlainState::new(alloc),
+        let state = PlainState::new(alloc);
+        match make(alloc, &state, &mut a, &mut b) {
+            Ok(()) => Ok(Host {
+                alloc,
+                state,
+                owed: None,
+                first: a,
+                second: b,
+            }),
+            Err(fault) => Err(OpenRefused { fault, a, b }),
+        }
+    }
+
+    /// Opens the store on two disks, and gives a host in the state that they keep. It writes nothing.
+    ///
+    /// Faults, the first that holds: `DeviceFailed`, `NoGeneration`, `Damaged`. `NoMemory` where there is none to read the
+    /// file `a` into. Both disks read as before.
+    pub fn open(alloc: Global, mut a: D, mut b: D) -> Result<Host<D>, OpenRefused<D>>
+        ensures { Opens (record { honest = D.honest; seen = D.seen; clock = D.clock; leaves = D.leaves; failures = D.failures }) a b result }
+    {
+        match find(alloc, &mut a, &mut b) {
+            Ok(state) => Ok(Host {
+                alloc,
+                state,
+                owed: None,
+                first: a,
+                second: b,
+            }),
+            Err(fault) => Err(OpenRefused { fault, a, b }),
+        }
+    }
+
+    /// Gives the disks back, as they are.
+    pub fn close(self) -> (D, D)
+        ensures first { result.0 ≡ self.first }
+        ensures second { result.1 ≡ self.second }
+    {
+        (self.first, self.second)
+    }
+
+    /// Closes the host and opens its store again, as a host needs that is owed a reopening. A host that was not owed one
+    /// is then in the state in which it was.
+    ///
+    /// It is what `open` gives of the disks that are handed back, whether a reopening was owed or not.
+    ///
+    /// Faults are those of `open`.
+    pub fn reopen(self) -> Result<Host<D>, OpenRefused<D>>
+        ensures opens { Opens (record { honest = D.honest; seen = D.seen; clock = D.clock; leaves = D.leaves; failures = D.failures }) self.first self.second result }
+        ensures again { OpensAgain (record { honest = D.honest; seen = D.seen; clock = D.clock; leaves = D.leaves; failures = D.failures }) self result }
+    {
+        let alloc = self.alloc;
+        let (first, second) = self.close();
+        Host::open(alloc, first, second)
+    }
+
+    /// Keeps what a request has changed, before it is answered. `seq` is the number of the last answer before it, which
+    /// stays where this is not kept: from then on a reopening is owed.
+    fn keep(&mut self, seq: u64, answer: Answer) -> Result<Answer, Refusal>
+        ensures kept { IfOk result (λ kept. (kept ≡ answer) × (self.new.state ≡ self.old.state) × (self.new.seq ≡ self.old.seq)) }
+        ensures owed { OnErr result ((self.new.state ≡ None) × (self.new.seq ≡ seq)) }
+        ensures second { self.new.second ≡ self.old.second }
+        ensures saves { (state : State) → IsRunning state self.old → Keeps (record { honest = D.honest; seen = D.seen; clock = D.clock; leaves = D.leaves; failures = D.failures }) state self.old.first result self.new.first }
+    {
+        match save(self.alloc, &self.state, &mut self.first) {
+            Ok(()) => Ok(answer),
+            Err(refusal) => {
+                self.owed = Some(seq);
+                Err(refusal)
+            }
         }
     }
 
     /// Loads a source as a module of this name: reads it and runs its initializers, with a budget in ticks. The
     /// module is kept where they finish.
     ///
-    /// Refusals, the first that holds: `SequenceSpent`, `BadName`, `ModuleTaken`, `TooManyModules`, `NotYet`.
+    /// Refusals, the first that holds: `Reopen`, `SequenceSpent`, `BadName`, `ModuleTaken`, `TooManyModules`, those of a
+    /// source: `SourceTooLong`, `BadCharacter`, `UnclosedComment`, `NumberTooLarge`, `NotYet`.
+    /// At `DeviceFailed`, and at `NoMemory` where the answer could not be kept, a reopening is owed from then on.
     pub fn load(&mut self, name: &str, source: &[u8], budget: u64) -> Result<Answer, Refusal>
-        ensures { Steps budget (Load name.now source.now) self.old (answer_of result) self.new }
+        ensures { Carries (record { honest = D.honest; seen = D.seen; clock = D.clock; leaves = D.leaves; failures = D.failures }) budget (Load name.now source.now) self.old (answer_of result) self.new }
     {
-        self.state.load(name, source, budget)
+        if self.owed.is_some() {
+            return Err(Refusal::Reopen);
+        }
+        let seq = self.state.seq();
+        match self.state.load(name, source, budget) {
+            Ok(answer) => self.keep(seq, answer),
+            Err(refusal) => Err(refusal),
+        }
     }
 
     /// Calls a function of a module, with a budget in ticks.
     ///
-    /// Refusals, the first that holds: `SequenceSpent`, `NoModule`, `NoFunction`, `BadArguments`.
+    /// Refusals, the first that holds: `Reopen`, `SequenceSpent`, `NoModule`, `NoFunction`, `BadArguments`. At
+    /// `DeviceFailed`, and at `NoMemory` where the answer could not be kept, a reopening is owed from then on.
     pub fn call(
         &mut self,
         script: &str,
@@ -57,43 +151,65 @@ impl Host {
         arguments: &[Argument],
         budget: u64,
     ) -> Result<Answer, Refusal>
-        ensures { Steps budget (Call script.now function.now arguments.now) self.old (answer_of result) self.new }
+        ensures { Carries (record { honest = D.honest; seen = D.seen; clock = D.clock; leaves = D.leaves; failures = D.failures }) budget (Call script.now function.now arguments.now) self.old (answer_of result) self.new }
     {
-        self.state.call(script, function, arguments, budget)
+        if self.owed.is_some() {
+            return Err(Refusal::Reopen);
+        }
+        let seq = self.state.seq();
+        match self.state.call(script, function, arguments, budget) {
+            Ok(answer) => self.keep(seq, answer),
+            Err(refusal) => Err(refusal),
+        }
     }
 
-    /// What a global of a module holds. It takes no memory.
+    /// What a global of a module holds. It takes no memory, and touches no disk.
     ///
-    /// Refusals, the first that holds: `NoModule`, `NoGlobal`.
+    /// Refusals, the first that holds: `Reopen`, `NoModule`, `NoGlobal`.
     pub fn global(&self, script: &str, name: &str) -> Result<Word, Refusal>
-        ensures { word_of result ≡ value_in (find_script script.now self.now) name.now }
+        ensures { (budget : ℕ) → Carries (record { honest = D.honest; seen = D.seen; clock = D.clock; leaves = D.leaves; failures = D.failures }) budget (LookUp script.now name.now) self.now (word_of result) self.now }
     {
-        self.state.global(script, name)
+        match self.owed {
+            None => self.state.global(script, name),
+            Some(_) => Err(Refusal::Reopen),
+        }
     }
 
     /// How many requests have been answered.
     pub fn seq(&self) -> u64
-        ensures { result ≡ self.now.seq }
+        ensures number { result ≡ self.now.seq }
+        ensures carries { (budget : ℕ) → Carries (record { honest = D.honest; seen = D.seen; clock = D.clock; leaves = D.leaves; failures = D.failures }) budget Seq self.now (Number result) self.now }
     {
-        self.state.seq()
+        self.owed.unwrap_or(self.state.seq())
     }
 
     /// Carries out one request, with a budget in ticks.
     pub fn carry_out(&mut self, request: &Request, budget: u64) -> Reply
-        ensures { Steps budget (request_of request.now) self.old (reply_of result) self.new }
+        ensures { Carries (record { honest = D.honest; seen = D.seen; clock = D.clock; leaves = D.leaves; failures = D.failures }) budget (request_of request.now) self.old (reply_of result) self.new }
     {
-        self.state.carry_out(request, budget)
+        match *request {
+            Request::Load { name, source } => self.load(name, source, budget).into(),
+            Request::Call {
+                module,
+                function,
+                arguments,
+            } => self.call(module, function, arguments, budget).into(),
+            Request::Global { module, name } => match self.global(module, name) {
+                Ok(word) => Reply::Value(word),
+                Err(refusal) => Reply::Refused(refusal),
+            },
+            Request::Seq => Reply::Seq(self.seq()),
+        }
     }
 
-    /// Carries out requests in order, each with a budget in ticks. The replies and the state are those of a run. An
-    /// `Err` comes before the first of them.
+    /// Carries out requests in order, each with a budget in ticks. An `Err` comes before the first of them.
     pub fn carry_out_all(
         &mut self,
         alloc: Global,
         requests: &[Request],
         budget: u64,
     ) -> Result<Vec<Reply>, AllocError>
-        ensures run { IfOk result (λ replies. Runs budget self.old (map request_of requests.now) (map reply_of replies.items) self.new) }
+        ensures run { IfOk result (λ replies. CarriesAll (record { honest = D.honest; seen = D.seen; clock = D.clock; leaves = D.leaves; failures = D.failures }) budget self.old (map request_of requests.now) (map reply_of replies.items) self.new) }
         ensures err { OnErr result (self.new ≡ self.old) }
     {
         let mut replies = Vec::with_capacity(alloc, requests.len())?;

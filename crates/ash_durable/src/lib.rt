@@ -1,8 +1,18 @@
-//! The host that scripts run in. So far it keeps its state in memory, by the plain evaluator of `ash_meaning`, on
-//! which it stands with `ash_host`. It promises that its replies and its state are those of the written
-//! steps, for every list of requests.
+//! The host that scripts run in, with its state on two disks. It stands on `ash_meaning`, whose plain evaluator takes
+//! its steps, on `ash_image`, which writes and reads the file of a state, and on `ash_disk`. It promises that each reply
+//! is that of the written steps, that an answer is on the first disk before it is given, so that no crash between two
+//! requests loses it, and that a host which is closed is opened again in the same state. The second file is only shut.
+//!
+//! In reading order: `fault` (why there is no store), `front` (how a file begins), `saving` (the file of a state, and
+//! how it is kept), `store` (making a store and finding its state), `host`. The words of the clauses stand in
+//! `specs/Hosting` (a host and its requests) and `specs/Store` (its disks).
 #![tactic(auto)]
 
+pub mod fault;
+mod front;
 pub mod host;
+mod saving;
+mod store;
 
+pub use fault::{OpenRefused, StoreFault};
 pub use host::Host;

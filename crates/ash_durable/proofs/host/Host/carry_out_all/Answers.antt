@@ -4,13 +4,13 @@ use Rattle.ash_durable.proofs.Going_on.{one_more, nothing_left}
 use Rattle.ash_durable.proofs.host.Host.carry_out_all.Goals as goal
 
 pub loop-request-preserved : goal.loop-request-preserved
-loop-request-preserved c = record {
+loop-request-preserved g c = record {
   run = λ replies new rest.
       let grown : c.push.new.self.items ≡ c.loop-request.replies.items ++ c.carry_out.result ∷ [] = search rules in
-      one_more request_of reply_of _ _ _ _ new _ _ _ _ _ _ replies c.loop-request-test.true grown c.carry_out.ensures c.loop-request.invariant.run rest;
+      one_more _ request_of reply_of _ _ _ _ new _ _ _ _ _ _ replies c.loop-request-test.true grown c.carry_out.ensures c.loop-request.invariant.run rest;
   count = search rules;
   room = search rules;
 }
 
 pub returns-clause-run : goal.returns-clause-run
-returns-clause-run c = nothing_left request_of reply_of _ _ _ _ _ _ (omega arith) c.loop-request.invariant.run
+returns-clause-run g c = nothing_left _ request_of reply_of _ _ _ _ _ _ (omega arith) c.loop-request.invariant.run

@@ -1,0 +1,63 @@
+-- A source that is too long is no module, and so is what begins it.
+use Rattle.std.proofs.Common.{◌≡◌, ◌⊎◌, inl, inr, ◌<◌, ◌≤◌, ℕ, nat_lt, Bool, true, false, List, length, take, refl, ap, ◌∙◌, subst, arith, Option, Some, None, Err}
+use Rattle.std.proofs.lemmas.Bool.Decides.{nat_tests}
+use Rattle.std.proofs.lemmas.Grind.{common_steps}
+use Rattle.ash_meaning.specs.State.{State, Load, Reply, Refused}
+use Rattle.ash_meaning.specs.Step.{step, TakesMemory}
+use Rattle.ash_meaning.specs.declared.refusal.Refusal.TheVariants as refusals
+use Rattle.ash_meaning.specs.Reading.{read_source}
+use Rattle.ash_meaning.proofs.ReadingLaws.{read_source-long}
+use Rattle.ash_durable.specs.Hosting.{Device, Hosted, IsAnswer, Replies, Carries}
+
+take-all : (n : ℕ) (xs : List ℕ) → length xs ≤ n → take n xs ≡ xs
+take-all n xs h = grind (arith, common_steps)
+
+length-most : (n : ℕ) (xs : List ℕ) → n ≤ length xs → length (take n xs) ≡ n
+length-most n xs h = grind (arith, common_steps)
+
+long-step : (budget : ℕ) (name kept source : List ℕ) (state : State) → read_source kept ≡ Err refusals.SourceTooLong → read_source source ≡ Err refusals.SourceTooLong → step budget (Load name kept) state ≡ step budget (Load name source) state
+long-step budget name kept source state e f = rw (e, f) refl
+
+by-length : (budget : ℕ) (name source : List ℕ) (state : State) (t : Bool) → nat_lt 65536 (length source) ≡ t → step budget (Load name (take 65537 source)) state ≡ step budget (Load name source) state
+by-length budget name source state true e =
+    let l : 65536 < length source = grind (arith, nat_tests, e) in
+    let m = length-most 65537 source (omega arith) in
+    long-step budget name (take 65537 source) source state (read_source-long (take 65537 source) (omega (arith, m))) (read_source-long source l)
+by-length budget name source state false e =
+    let l : length source ≤ 65536 = grind (arith, nat_tests, e) in
+    ap (λ (x : List ℕ). step budget (Load name x) state) (take-all 65537 source (omega arith))
+
+-- a load of the first 65,537 bytes does what a load of the source does
+pub step_kept : (budget : ℕ) (name kept source : List ℕ) (state : State) → kept ≡ take 65537 source → step budget (Load name kept) state ≡ step budget (Load name source) state
+step_kept budget name kept source state e = ap (λ (x : List ℕ). step budget (Load name x) state) e ∙ by-length budget name source state (nat_lt 65536 (length source)) refl
+
+replies_kept : {D : Type 0} (budget : ℕ) (name kept source : List ℕ) (state : Option State) (old : Hosted D) (reply : Reply) (new : Hosted D) → kept ≡ take 65537 source → Replies budget (Load name kept) state old reply new → Replies budget (Load name source) state old reply new
+replies_kept budget name kept source None old reply new e h = h
+replies_kept budget name kept source (Some state) old reply new e (inl taken) =
+    let q = step_kept budget name kept source state e in
+    inl (record {
+      after = taken.after;
+      step = subst (λ (x : Reply × State). (x ≡ (reply, taken.after)) ⊎ ((reply ≡ Refused refusals.NoMemory) × (taken.after ≡ state) × TakesMemory x.0)) q taken.step;
+      running = taken.running;
+      untouched = taken.untouched;
+    })
+replies_kept budget name kept source (Some state) old reply new e (inr lost) =
+    let q = step_kept budget name kept source state e in
+    inr (record {
+      answer = subst (λ (x : Reply × State). IsAnswer x.0) q lost.answer;
+      lost = lost.lost;
+      owed = lost.owed;
+      seq_same = lost.seq_same;
+    })
+
+-- and so does a host
+pub carries_kept : {D : Type 0} (device : Device D) (budget : ℕ) (name kept source : List ℕ) (old : Hosted D) (reply : Reply) (new : Hosted D) → kept ≡ take 65537 source → Carries device budget (Load name kept) old reply new → Carries device budget (Load name source) old reply new
+carries_kept device budget name kept source old reply new e h = record {
+  replies = replies_kept budget name kept source old.state old reply new e h.replies;
+  saved = h.saved;
+  kept = h.kept;
+  reads = h.reads;
+  honesty = h.honesty;
+  failures = h.failures;
+  second = h.second;
+}

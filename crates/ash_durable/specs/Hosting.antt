@@ -1,0 +1,131 @@
+-- A host over two disks, and what one request does to it.
+use Rattle.std.specs.Prelude.{◌≡◌, ◌⊎◌, ℕ, ◌≤◌, Bool, List, [], ◌∷◌, Option, Some, None, Result, Ok, Err, OnOk}
+use Rattle.std.specs.Bool.{IsTrue}
+use Rattle.ash_disk.specs.Failures.{Rose}
+use Rattle.ash_disk.specs.Image.{after_write}
+use Rattle.ash_image.specs.Image.{IsFile, IsClosed, file_of}
+use Rattle.ash_meaning.specs.declared.refusal.Refusal.{Refusal}
+use Rattle.ash_meaning.specs.declared.refusal.Refusal.TheVariants as refusals
+use Rattle.ash_meaning.specs.Kept.{Admits}
+use Rattle.ash_meaning.specs.State.{State, Request, Seq, Reply, Answered, Number, Refused}
+use Rattle.ash_meaning.specs.Step.{Steps, step}
+
+-- what can be said of the disks of one type: the ghost members of `Disk`
+pub record Device (D : Type 0) : Type 1 where
+  pub honest : D → Bool
+  pub seen : D → List ℕ
+  pub clock : D → ℕ
+  pub leaves : D → ℕ → List ℕ → Type 0
+  pub failures : D → ℕ
+
+-- A host: its state, or none where it is owed a reopening; the number after the last request that was answered; its
+-- two disks.
+pub record Hosted (D : Type 0) : Type 0 where
+  pub state : Option State
+  pub seq : ℕ
+  pub first : D
+  pub second : D
+
+-- the state of a host: none where it is owed a reopening, of which the number after the last answer is kept
+abbrev pub state_unless : Option ℕ → State → Option State
+state_unless None state = Some state
+state_unless (Some seq) state = None
+
+-- a host that runs, in this state
+pub record IsRunning {D : Type 0} (state : State) (host : Hosted D) : Type 0 where
+  pub state_is : host.state ≡ Some state
+  pub seq_is : host.seq ≡ state.seq
+
+-- each file that a crash now may leave of the disk is of this state
+abbrev pub LeavesFilesOf : {D : Type 0} → Device D → State → D → Type 0
+LeavesFilesOf device state disk = IsTrue (device.honest disk) → (image : List ℕ) → device.leaves disk (device.clock disk) image → IsFile image state
+
+-- each file that a crash now may leave of the disk is closed
+abbrev pub LeavesClosed : {D : Type 0} → Device D → D → Type 0
+LeavesClosed device disk = IsTrue (device.honest disk) → (image : List ℕ) → device.leaves disk (device.clock disk) image → IsClosed image
+
+-- The disk reads as with the file of this state written over its beginning.
+abbrev pub WroteFile : {D : Type 0} → Device D → State → D → D → Type 0
+WroteFile device state old new = IsTrue (device.honest old) → device.seen new ≡ after_write (device.seen old) 0 (file_of state)
+
+-- Where the host runs, its state is one that a host may keep, and is on its first disk, whatever a crash now makes of
+-- that. The second is closed.
+pub record IsSaved {D : Type 0} (device : Device D) (host : Hosted D) : Type 0 where
+  pub admitted : (state : State) → IsRunning state host → Admits state
+  pub first : (state : State) → IsRunning state host → LeavesFilesOf device state host.first
+  pub second : LeavesClosed device host.second
+
+-- an answer, which raises the sequence number and is kept on the disks before it is given
+abbrev pub IsAnswer : Reply → Type 0
+IsAnswer (Answered end seq) = Unit {0}
+IsAnswer _ = ⊥
+
+-- why an answer was not kept: a device failed, or memory was refused before anything was written
+abbrev pub WasLost : {D : Type 0} → D → Reply → D → Type 0
+WasLost old (Refused refusals.DeviceFailed) new = Unit {0}
+WasLost old (Refused refusals.NoMemory) new = new ≡ old
+WasLost old _ new = ⊥
+
+-- That a device failed is told where a disk failed, and nowhere else.
+abbrev pub TellsFailures : {D : Type 0} → Device D → D → Reply → D → Type 0
+TellsFailures device old (Refused refusals.DeviceFailed) new = (device.failures old ≤ device.failures new) × Rose (device.failures old) (device.failures new)
+TellsFailures device old _ new = device.failures new ≡ device.failures old
+
+-- The step of a request was taken. What is not an answer touches no disk.
+pub record WasTaken {D : Type 0} (budget : ℕ) (request : Request) (state : State) (old : Hosted D) (reply : Reply) (new : Hosted D) : Type 0 where
+  pub after : State
+  pub step : Steps budget request state reply after
+  pub running : IsRunning after new
+  pub untouched : (IsAnswer reply → ⊥) → new ≡ old
+
+-- There was an answer, and it could not be kept. From now on a reopening is owed, and the sequence number is that
+-- of the last request that was answered.
+pub record WasNotKept {D : Type 0} (budget : ℕ) (request : Request) (state : State) (old : Hosted D) (reply : Reply) (new : Hosted D) : Type 0 where
+  pub answer : IsAnswer (step budget request state).0
+  pub lost : WasLost old.first reply new.first
+  pub owed : new.state ≡ None
+  pub seq_same : new.seq ≡ old.seq
+
+-- the reply of a host that is owed a reopening
+abbrev pub reply_owed : Request → ℕ → Reply
+reply_owed Seq seq = Number seq
+reply_owed _ seq = Refused refusals.Reopen
+
+-- What a request is replied, and what it leaves.
+abbrev pub Replies : {D : Type 0} → ℕ → Request → Option State → Hosted D → Reply → Hosted D → Type 0
+Replies budget request (Some state) old reply new =
+    WasTaken budget request state old reply new ⊎ WasNotKept budget request state old reply new
+Replies budget request None old reply new = (reply ≡ reply_owed request old.seq) × (new ≡ old)
+
+-- An answer is kept, unless a disk fails, which its count shows, or memory is refused.
+abbrev pub KeepsWith : {D T : Type 0} → Device D → D → Result T Refusal → D → Type 0
+KeepsWith device old (Ok kept) new = device.failures new ≡ device.failures old
+KeepsWith device old (Err refusals.DeviceFailed) new = (device.failures old ≤ device.failures new) × Rose (device.failures old) (device.failures new)
+KeepsWith device old (Err refusals.NoMemory) new = new ≡ old
+KeepsWith device old (Err _) new = ⊥
+
+-- What keeping an answer left on the first disk.
+pub record Keeps {D T : Type 0} (device : Device D) (state : State) (old : D) (result : Result T Refusal) (new : D) : Type 0 where
+  pub honesty : device.honest new ≡ device.honest old
+  pub admitted : OnOk result (Admits state)
+  pub files : OnOk result (LeavesFilesOf device state new)
+  pub reads : OnOk result (WroteFile device state old new)
+  pub failures : KeepsWith device old result new
+
+-- One request of a host. Where it is answered the new state is on the first disk before the reply is given, and where
+-- nothing is answered the disks are as they were. The second disk is never touched.
+pub record Carries {D : Type 0} (device : Device D) (budget : ℕ) (request : Request) (old : Hosted D) (reply : Reply) (new : Hosted D) : Type 0 where
+  pub replies : Replies budget request old.state old reply new
+  pub saved : IsSaved device old → IsSaved device new
+  pub kept : IsAnswer reply → (state : State) → IsRunning state new → LeavesFilesOf device state new.first
+  pub reads : IsAnswer reply → (state : State) → IsRunning state new → WroteFile device state old.first new.first
+  pub honesty : device.honest new.first ≡ device.honest old.first
+  pub failures : TellsFailures device old.first reply new.first
+  pub second : new.second ≡ old.second
+
+-- Requests in order: each is carried out by the host that the one before it left.
+abbrev pub CarriesAll : {D : Type 0} → Device D → ℕ → Hosted D → List Request → List Reply → Hosted D → Type 0
+CarriesAll device budget old [] [] new = new ≡ old
+CarriesAll {D} device budget old (request ∷ requests) (reply ∷ replies) new =
+    (next : Hosted D) × Carries device budget request old reply next × CarriesAll device budget next requests replies new
+CarriesAll device budget old _ _ new = ⊥

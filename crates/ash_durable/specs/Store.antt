@@ -1,0 +1,166 @@
+-- Making a store on two disks, opening it, and what is said of the disks.
+use Rattle.std.specs.Prelude.{◌≡◌, ◌⊎◌, ℕ, List, [], ◌∷◌, length, slice_index, Result, Ok, Err}
+use Rattle.std.specs.Bool.{IsTrue}
+use Rattle.ash_disk.specs.Failures.{Rose}
+use Rattle.ash_disk.specs.Image.{after_write}
+use Rattle.ash_disk.specs.Moments.{During}
+use Rattle.ash_image.specs.Image.{IsFile, IsClosed, file_of, shut_gate}
+use Rattle.ash_meaning.specs.Kept.{Admits}
+use Rattle.ash_meaning.specs.State.{State, empty}
+use Rattle.ash_durable.specs.Hosting.{Device, Hosted, IsRunning, IsSaved, LeavesFilesOf, LeavesClosed}
+use Rattle.ash_durable.specs.declared.fault.OpenRefused.{OpenRefused}
+use Rattle.ash_durable.specs.declared.fault.StoreFault.{StoreFault}
+use Rattle.ash_durable.specs.declared.fault.StoreFault.TheVariants as faults
+use Rattle.ash_durable.specs.declared.front.Front.{Front}
+
+-- how a file begins: its length, and its first byte, which is 0 where there is none
+pub record IsFront (front : Front) (bytes : List ℕ) : Type 0 where
+  pub length_is : front.length ≡ length bytes
+  pub gate_is : front.gate ≡ slice_index bytes 0
+
+-- Calls that only read took a disk from old to new. It reads as it did, and at every moment of them a crash leaves
+-- nothing that it could not leave before.
+pub record OnlyRead {D : Type 0} (device : Device D) (old new : D) : Type 0 where
+  pub honesty : device.honest new ≡ device.honest old
+  pub seen : IsTrue (device.honest old) → device.seen new ≡ device.seen old
+  pub moments : IsTrue (device.honest old) → During (device.clock old) (device.clock new) (device.leaves old) (device.leaves new) (device.leaves old (device.clock old))
+
+-- What was read, or why it was not: a disk failed, which its count shows, or memory was refused.
+abbrev pub TellsRead : {D T : Type 0} → Device D → D → Result T StoreFault → D → Type 0
+TellsRead device old (Ok read) new = device.failures new ≡ device.failures old
+TellsRead device old (Err faults.DeviceFailed) new = Rose (device.failures old) (device.failures new)
+TellsRead device old (Err faults.NoMemory) new = device.failures new ≡ device.failures old
+TellsRead device old (Err _) new = ⊥
+
+-- The state of which the bytes are a file, if a host may keep it.
+abbrev pub TellsState : List ℕ → Result State StoreFault → Type 0
+TellsState bytes (Ok state) = Admits state × IsFile bytes state
+TellsState bytes (Err (faults.Damaged offset)) = (offset ≡ 0) × ((state : State) → Admits state → IsFile bytes state → ⊥)
+TellsState bytes (Err faults.NoMemory) = Unit {0}
+TellsState bytes (Err _) = ⊥
+
+-- neither disk failed
+pub record NoneFailed {D : Type 0} (device : Device D) (a b a' b' : D) : Type 0 where
+  pub first : device.failures a' ≡ device.failures a
+  pub second : device.failures b' ≡ device.failures b
+
+-- one of the disks failed, and the other did not
+abbrev pub OneFailed : {D : Type 0} → Device D → D → D → D → D → Type 0
+OneFailed device a b a' b' =
+    (Rose (device.failures a) (device.failures a') × (device.failures b' ≡ device.failures b))
+    ⊎ (Rose (device.failures b) (device.failures b') × (device.failures a' ≡ device.failures a))
+
+-- both files are closed, as the disks read
+pub record AreClosed {D : Type 0} (device : Device D) (a b : D) : Type 0 where
+  pub first : IsClosed (device.seen a)
+  pub second : IsClosed (device.seen b)
+
+-- ---- making a store
+
+-- A store was made on two disks whose files were closed: the first holds the file of the state, the second is closed.
+pub record WasMade {D : Type 0} (device : Device D) (state : State) (a b a' b' : D) : Type 0 where
+  pub failed : NoneFailed device a b a' b'
+  pub closed : IsTrue (device.honest a) → IsTrue (device.honest b) → AreClosed device a b
+  pub admitted : Admits state
+  pub first_reads : IsTrue (device.honest a) → device.seen a' ≡ after_write (device.seen a) 0 (file_of state)
+  pub second_reads : IsTrue (device.honest b) → device.seen b' ≡ after_write (device.seen b) 0 (shut_gate ∷ [])
+  pub first_leaves : LeavesFilesOf device state a'
+  pub second_leaves : LeavesClosed device b'
+
+-- nothing was written, and no disk failed
+pub record WasNotTouched {D : Type 0} (device : Device D) (a b a' b' : D) : Type 0 where
+  pub failed : NoneFailed device a b a' b'
+  pub first : OnlyRead device a a'
+  pub second : OnlyRead device b b'
+
+-- A disk failed: before anything was written, or where both files were closed. The second is closed, whatever a crash
+-- makes of it, before the first is written.
+abbrev pub WasLeft : {D : Type 0} → Device D → D → D → D → D → Type 0
+WasLeft device a b a' b' =
+    (OnlyRead device a a' × OnlyRead device b b')
+    ⊎ ((IsTrue (device.honest a) → IsTrue (device.honest b) → AreClosed device a b) × (OnlyRead device a a' ⊎ LeavesClosed device b'))
+
+-- what came of it, by the first reason that holds
+abbrev pub MakesWith : {D T : Type 0} → Device D → State → D → D → Result T StoreFault → D → D → Type 0
+MakesWith device state a b (Ok made) a' b' = WasMade device state a b a' b'
+MakesWith device state a b (Err faults.DeviceFailed) a' b' = OneFailed device a b a' b' × WasLeft device a b a' b'
+MakesWith device state a b (Err faults.AlreadyThere) a' b' =
+    WasNotTouched device a b a' b' × (IsTrue (device.honest a) → IsTrue (device.honest b) → AreClosed device a b → ⊥)
+MakesWith device state a b (Err faults.NoMemory) a' b' =
+    WasNotTouched device a b a' b' × (IsTrue (device.honest a) → IsTrue (device.honest b) → AreClosed device a b)
+MakesWith device state a b (Err _) a' b' = ⊥
+
+-- A store of a state is made on the disks a and b, which it leaves as a' and b'.
+pub record Makes {D T : Type 0} (device : Device D) (state : State) (a b : D) (result : Result T StoreFault) (a' b' : D) : Type 0 where
+  pub first_honesty : device.honest a' ≡ device.honest a
+  pub second_honesty : device.honest b' ≡ device.honest b
+  pub outcome : MakesWith device state a b result a' b'
+
+-- A host was made: it runs in the empty state, which its disks keep.
+pub record WasCreated {D : Type 0} (device : Device D) (a b : D) (host : Hosted D) : Type 0 where
+  pub running : IsRunning empty host
+  pub saved : IsSaved device host
+  pub made : Makes {T = Hosted D} device empty a b (Ok host) host.first host.second
+
+-- A host is made on two disks, or both are handed back.
+abbrev pub Creates : {D : Type 0} → Device D → D → D → Result (Hosted D) (OpenRefused D) → Type 0
+Creates device a b (Ok host) = WasCreated device a b host
+Creates {D} device a b (Err refused) = Makes {T = Hosted D} device empty a b (Err refused.fault) refused.a refused.b
+
+-- ---- opening a store
+
+-- The files are those of no store that this host has left: not both are closed, and the second is open, or the first
+-- is of no state that a host may keep.
+pub record AreDamaged {D : Type 0} (device : Device D) (a b : D) : Type 0 where
+  pub is_open : AreClosed device a b → ⊥
+  pub wrong : (IsClosed (device.seen b) → ⊥) ⊎ ((state : State) → Admits state → IsFile (device.seen a) state → ⊥)
+
+-- The state was found: its file is on the first disk, and the second is closed.
+pub record WasFound {D : Type 0} (device : Device D) (a b a' b' : D) (state : State) : Type 0 where
+  pub failed : NoneFailed device a b a' b'
+  pub admitted : Admits state
+  pub first : IsTrue (device.honest a) → IsFile (device.seen a) state
+  pub second : IsTrue (device.honest b) → IsClosed (device.seen b)
+
+-- what came of it, by the first reason that holds
+abbrev pub FindsWith : {D : Type 0} → Device D → D → D → Result State StoreFault → D → D → Type 0
+FindsWith device a b (Ok state) a' b' = WasFound device a b a' b' state
+FindsWith device a b (Err faults.DeviceFailed) a' b' = OneFailed device a b a' b'
+FindsWith device a b (Err faults.NoGeneration) a' b' =
+    NoneFailed device a b a' b' × (IsTrue (device.honest a) → IsTrue (device.honest b) → AreClosed device a b)
+FindsWith device a b (Err (faults.Damaged offset)) a' b' =
+    NoneFailed device a b a' b' × (offset ≡ 0) × (IsTrue (device.honest a) → IsTrue (device.honest b) → AreDamaged device a b)
+FindsWith device a b (Err faults.NoMemory) a' b' =
+    NoneFailed device a b a' b' × (IsTrue (device.honest a) → IsTrue (device.honest b) → (IsClosed (device.seen a) → ⊥) × IsClosed (device.seen b))
+FindsWith device a b (Err faults.AlreadyThere) a' b' = ⊥
+
+-- The state of a store is looked for on the disks a and b, which it leaves as a' and b' and reading as before.
+pub record Finds {D : Type 0} (device : Device D) (a b : D) (result : Result State StoreFault) (a' b' : D) : Type 0 where
+  pub first : OnlyRead device a a'
+  pub second : OnlyRead device b b'
+  pub outcome : FindsWith device a b result a' b'
+
+-- A host was opened: it runs in the state that was found. Where the disks keep a state it is that one, and they keep it
+-- still.
+pub record WasOpened {D : Type 0} (device : Device D) (a b : D) (host : Hosted D) : Type 0 where
+  pub state : State
+  pub running : IsRunning state host
+  pub found : Finds device a b (Ok state) host.first host.second
+  pub same : (kept : State) → LeavesFilesOf device kept a → IsTrue (device.honest a) → state ≡ kept
+  pub saved : (kept : State) → LeavesFilesOf device kept a → LeavesClosed device b → IsSaved device host
+
+-- A host is opened on two disks, or both are handed back.
+abbrev pub Opens : {D : Type 0} → Device D → D → D → Result (Hosted D) (OpenRefused D) → Type 0
+Opens device a b (Ok host) = WasOpened device a b host
+Opens device a b (Err refused) = Finds device a b (Err refused.fault) refused.a refused.b
+
+-- ---- closing it and opening it again
+
+-- a refusal for want of memory, or because a disk failed
+abbrev pub IsMishap : {D : Type 0} → Device D → D → D → OpenRefused D → Type 0
+IsMishap device a b refused = (refused.fault ≡ faults.NoMemory) ⊎ ((refused.fault ≡ faults.DeviceFailed) × OneFailed device a b refused.a refused.b)
+
+-- A host that was saved is opened in the state in which it was closed, unless memory is refused or a disk fails.
+abbrev pub OpensAgain : {D : Type 0} → Device D → Hosted D → Result (Hosted D) (OpenRefused D) → Type 0
+OpensAgain device host (Ok opened) = (state : State) → IsRunning state host → IsSaved device host → IsTrue (device.honest host.first) → IsRunning state opened × IsSaved device opened
+OpensAgain device host (Err refused) = (state : State) → IsRunning state host → IsSaved device host → IsTrue (device.honest host.first) → IsTrue (device.honest host.second) → IsMishap device host.first host.second refused

@@ -1,0 +1,55 @@
+// Why a store is not made or not opened.
+
+use ash_disk::DeviceFailed;
+use std::alloc::AllocError;
+use thiserror::Error;
+
+/// Why a store is not made or not opened.
+#[derive(Clone, Copy, Debug, PartialEq, Eq, Error)]
+pub enum StoreFault {
+    /// No file of the store is open: nothing was ever stored in it.
+    #[error("501 NoGeneration")]
+    NoGeneration,
+    /// A file of the store is open already.
+    #[error("502 AlreadyThere")]
+    AlreadyThere,
+    /// The bytes are not those of a store. The offset, in bytes, is that of the gate before what is damaged.
+    #[error("503 Damaged")]
+    Damaged(u64),
+    /// A disk failed.
+    #[error("507 DeviceFailed")]
+    DeviceFailed,
+    /// Memory was refused.
+    #[error("509 NoMemory")]
+    NoMemory,
+}
+
+impl From<DeviceFailed> for StoreFault {
+    ghost use Rattle.std.specs.Prelude.{◌≡◌};
+    ghost use Rattle.ash_durable.specs.declared.fault.StoreFault.TheVariants as faults;
+
+    ghost from_gives = { λ _ fault. fault ≡ faults.DeviceFailed };
+
+    fn from(_: DeviceFailed) -> StoreFault {
+        StoreFault::DeviceFailed
+    }
+}
+
+impl From<AllocError> for StoreFault {
+    ghost use Rattle.std.specs.Prelude.{◌≡◌};
+    ghost use Rattle.ash_durable.specs.declared.fault.StoreFault.TheVariants as faults;
+
+    ghost from_gives = { λ _ fault. fault ≡ faults.NoMemory };
+
+    fn from(_: AllocError) -> StoreFault {
+        StoreFault::NoMemory
+    }
+}
+
+/// A refused `create` or `open`, which hands both disks back.
+#[derive(Drop)]
+pub struct OpenRefused<D> {
+    pub fault: StoreFault,
+    pub a: D,
+    pub b: D,
+}

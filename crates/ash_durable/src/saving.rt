@@ -1,0 +1,32 @@
+// The file of a state, and how it is kept.
+
+ghost use Rattle.std.specs.Prelude.{◌≡◌, IfOk, OnOk};
+ghost use Rattle.ash_image.specs.Image.{FitsFile, file_of};
+ghost use Rattle.ash_meaning.specs.Kept.{Admits};
+ghost use Rattle.ash_durable.specs.Hosting.{Keeps};
+
+use ash_disk::{Disk, write_durably};
+use ash_image::image::write_file;
+use ash_meaning::plain::PlainState;
+use ash_meaning::refusal::Refusal;
+use std::alloc::{AllocError, Global};
+
+/// The file of a state, and how it is kept.
+pub fn file_of(alloc: Global, state: &PlainState) -> Result<Vec<u8>, AllocError>
+    ensures written { IfOk result (λ file. file.items ≡ file_of state.now) }
+    ensures fits { OnOk result (FitsFile state.now) }
+    ensures admitted { Admits state.now }
+{
+    write_file(alloc, state.parts(), state.seq())
+}
+
+/// Writes the file of a state over the file on a disk, by one write and one sync.
+pub fn save<D: Disk>(alloc: Global, state: &PlainState, disk: &mut D) -> Result<(), Refusal>
+    ensures { Keeps (record { honest = D.honest; seen = D.seen; clock = D.clock; leaves = D.leaves; failures = D.failures }) state.now disk.old result disk.new }
+{
+    let file = file_of(alloc, state)?;
+    match write_durably(disk, 0, &file) {
+        Ok(()) => Ok(()),
+        Err(_) => Err(Refusal::DeviceFailed),
+    }
+}
