@@ -10,3 +10,4 @@ pub mod ServingLemmas
 pub mod ReaderLemmas
 pub mod WriterLemmas
 pub mod RunningLemmas
+pub mod ServiceLemmas

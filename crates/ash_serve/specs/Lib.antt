@@ -6,7 +6,9 @@ pub mod Words
 pub mod Spelled
 pub mod Replies
 pub mod Serving
+pub mod Blind
 pub mod Reader
 pub mod Writer
 pub mod Running
 pub mod Program
+pub mod Service

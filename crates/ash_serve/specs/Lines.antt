@@ -14,6 +14,11 @@ pub data Line : Type 0 where
   BadRequest : Line
   LineTooLong : Line
 
+-- a line after which the run goes on: any but `quit`
+abbrev pub GoesOn : Line → Type 0
+GoesOn Quit = ⊥
+GoesOn _ = Unit {0}
+
 -- The bytes before the first line feed, and those after it.
 unfoldable pub cut_line : List ℕ → Option (List ℕ × List ℕ)
 cut_line [] = None

@@ -1,10 +1,11 @@
 -- The statuses of the program.
 use Rattle.std.specs.Prelude.{ℕ}
-use Rattle.ash_serve.specs.declared.program.Fault.{Fault}
-use Rattle.ash_serve.specs.declared.program.Fault.TheVariants.{Usage, NoMemory, Run}
+use Rattle.ash_serve.specs.declared.program.fault.Fault.{Fault}
+use Rattle.ash_serve.specs.declared.program.fault.Fault.TheVariants.{Usage, NoMemory, Store, Run}
 
 -- 2 for wrong words, 1 for any other fault
 abbrev pub status_of : Fault → ℕ
 status_of Usage = 2
 status_of NoMemory = 1
+status_of (Store fault) = 1
 status_of (Run fault) = 1

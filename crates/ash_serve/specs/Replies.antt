@@ -39,17 +39,38 @@ exception_text exceptions.BadHostAnswer = codes "BadHostAnswer"
 exception_text (exceptions.Raised code) = codes "Raised " ++ decimal code
 exception_text exceptions.NumbersSpent = codes "NumbersSpent"
 
+-- the number and the name of a refusal
+abbrev pub refusal_name : Refusal → List ℕ
+refusal_name refusals.SourceTooLong = codes "107 SourceTooLong"
+refusal_name (refusals.BadCharacter at) = codes "101 BadCharacter"
+refusal_name (refusals.UnclosedComment at) = codes "102 UnclosedComment"
+refusal_name (refusals.NumberTooLarge at) = codes "103 NumberTooLarge"
+refusal_name refusals.NotYet = codes "199 NotYet"
+refusal_name refusals.NoModule = codes "401 NoModule"
+refusal_name refusals.ModuleTaken = codes "402 ModuleTaken"
+refusal_name refusals.NoFunction = codes "403 NoFunction"
+refusal_name refusals.BadArguments = codes "405 BadArguments"
+refusal_name refusals.NoGlobal = codes "406 NoGlobal"
+refusal_name refusals.TooManyModules = codes "408 TooManyModules"
+refusal_name refusals.BadName = codes "409 BadName"
+refusal_name refusals.SequenceSpent = codes "410 SequenceSpent"
+refusal_name refusals.DeviceFailed = codes "507 DeviceFailed"
+refusal_name refusals.Reopen = codes "508 Reopen"
+refusal_name refusals.NoMemory = codes "509 NoMemory"
+
+-- the offset in a source that a refusal tells
+abbrev pub offset_in : Refusal → Option ℕ
+offset_in (refusals.BadCharacter at) = Some at
+offset_in (refusals.UnclosedComment at) = Some at
+offset_in (refusals.NumberTooLarge at) = Some at
+offset_in _ = None
+
+abbrev pub offset_text : Option ℕ → List ℕ
+offset_text None = []
+offset_text (Some at) = codes " " ++ decimal at
+
 abbrev pub refusal_text : Refusal → List ℕ
-refusal_text refusals.NotYet = codes "199 NotYet"
-refusal_text refusals.NoModule = codes "401 NoModule"
-refusal_text refusals.ModuleTaken = codes "402 ModuleTaken"
-refusal_text refusals.NoFunction = codes "403 NoFunction"
-refusal_text refusals.BadArguments = codes "405 BadArguments"
-refusal_text refusals.NoGlobal = codes "406 NoGlobal"
-refusal_text refusals.TooManyModules = codes "408 TooManyModules"
-refusal_text refusals.BadName = codes "409 BadName"
-refusal_text refusals.SequenceSpent = codes "410 SequenceSpent"
-refusal_text refusals.NoMemory = codes "509 NoMemory"
+refusal_text refusal = refusal_name refusal ++ offset_text (offset_in refusal)
 
 -- a function of the script and the line that it came to
 abbrev pub place_text : List ℕ → ℕ → List ℕ

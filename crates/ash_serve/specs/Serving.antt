@@ -1,10 +1,11 @@
 -- A run: requests are read, carried out and answered, one after another.
 use Rattle.std.specs.Prelude.{◌≡◌, ◌⊎◌, ℕ, true, List, [], ◌∷◌, ◌++◌, Result, Ok, Err, Option, Some, None}
-use Rattle.ash_meaning.specs.State.{State}
-use Rattle.ash_meaning.specs.Step.{Steps}
+use Rattle.std.specs.List.{AllByRecursion}
+use Rattle.ash_meaning.specs.State.{Request, Load, Reply}
 use Rattle.ash_serve.specs.Source.{Feed, Faults}
+use Rattle.ash_serve.specs.Reading.{kept_part}
 use Rattle.ash_serve.specs.Sink.{Outlet, Sent, Stops}
-use Rattle.ash_serve.specs.Lines.{Line, Asked, Quit, BadRequest, LineTooLong, Cut, Whole, next, Asks, is_unfinished}
+use Rattle.ash_serve.specs.Lines.{Line, Asked, Quit, BadRequest, LineTooLong, GoesOn, Cut, Whole, next, Asks, is_unfinished}
 use Rattle.ash_serve.specs.Replies.{Told, Replied, Left, NoRequest, LongLine, reply_line, text_of}
 use Rattle.ash_serve.specs.declared.source.ReadFault.{ReadFault}
 use Rattle.ash_serve.specs.declared.source.ReadFault.TheVariants as reads
@@ -28,13 +29,29 @@ told_of tolds.Left = Left
 told_of tolds.NoRequest = NoRequest
 told_of tolds.LongLine = LongLine
 
--- What a line is told: the host's step where it is asked of, nothing of the host otherwise.
-abbrev pub Answers : ℕ → State → Line → Told → State → Type 0
-Answers budget old (Asked request) (Replied reply) new = Steps budget request old reply new
-Answers budget old Quit Left new = new ≡ old
-Answers budget old BadRequest NoRequest new = new ≡ old
-Answers budget old LineTooLong LongLine new = new ≡ old
-Answers budget old _ _ new = ⊥
+-- What a host of one type may do with a request: by a budget in ticks and the request, from the host before it, to
+-- the reply and the host after it.
+abbrev pub Carrying : Type 0 → Type 1
+Carrying H = ℕ → Request → H → Reply → H → Type 0
+
+-- A source that is too long is a source that is too long, whatever its bytes: what is replied to the part that is
+-- kept of it is replied to the whole.
+abbrev pub IsBlind : {H : Type 0} → Carrying H → Type 0
+IsBlind {H} carries =
+    (budget : ℕ) (name source : List ℕ) (old new : H) (reply : Reply)
+    → carries budget (Load name (kept_part source)) old reply new → carries budget (Load name source) old reply new
+
+-- each request keeps this of a host
+abbrev pub IsKept : {H : Type 0} → Carrying H → (H → Type 0) → Type 0
+IsKept {H} carries holds = (budget : ℕ) (request : Request) (old new : H) (reply : Reply) → carries budget request old reply new → holds old → holds new
+
+-- What a line is told: what the host replies where it is asked, nothing of the host otherwise.
+abbrev pub Answers : {H : Type 0} → Carrying H → ℕ → H → Line → Told → H → Type 0
+Answers carries budget old (Asked request) (Replied reply) new = carries budget request old reply new
+Answers carries budget old Quit Left new = new ≡ old
+Answers carries budget old BadRequest NoRequest new = new ≡ old
+Answers carries budget old LineTooLong LongLine new = new ≡ old
+Answers carries budget old _ _ new = ⊥
 
 -- `quit` ends the run, once it is answered
 abbrev pub turn_after : Told → Turn
@@ -48,31 +65,31 @@ Ends outlet old told (Err faults.Write) new = Stops outlet old (reply_line told)
 Ends outlet old told (Err _) new = ⊥
 
 -- Each line is answered from the state that the one before it left.
-abbrev pub AnswersAll : ℕ → State → List Line → List Told → State → Type 0
-AnswersAll budget old [] [] new = new ≡ old
-AnswersAll budget old (line ∷ lines) (told ∷ replies) new = (between : State) × Answers budget old line told between × AnswersAll budget between lines replies new
-AnswersAll budget old _ _ new = ⊥
+abbrev pub AnswersAll : {H : Type 0} → Carrying H → ℕ → H → List Line → List Told → H → Type 0
+AnswersAll carries budget old [] [] new = new ≡ old
+AnswersAll {H} carries budget old (line ∷ lines) (told ∷ replies) new = (between : H) × Answers carries budget old line told between × AnswersAll carries budget between lines replies new
+AnswersAll carries budget old _ _ new = ⊥
 
 -- Bytes spell a line, however the input goes on.
 abbrev pub Spells : List ℕ → Line → Type 0
 Spells bytes line = (more : List ℕ) → next (bytes ++ more) ≡ Whole line more
 
 -- one line was read and carried out, and this is to be told
-pub record Served {S : Type 0} (feed : Feed S) (budget : ℕ) (source : S) (host : State) (line : Line) (told : Told) (source' : S) (host' : State) : Type 0 where
+pub record Served {S H : Type 0} (feed : Feed S) (carries : Carrying H) (budget : ℕ) (source : S) (host : H) (line : Line) (told : Told) (source' : S) (host' : H) : Type 0 where
   pub bytes : List ℕ
   pub spells : Spells bytes line
   pub took : feed.takes source bytes source'
-  pub answers : Answers budget host line told host'
+  pub answers : Answers carries budget host line told host'
 
 -- the input ended, and no request began
-pub record IsOver {S K : Type 0} (feed : Feed S) (source : S) (sink : K) (host : State) (source' : S) (sink' : K) (host' : State) : Type 0 where
+pub record IsOver {S K H : Type 0} (feed : Feed S) (source : S) (sink : K) (host : H) (source' : S) (sink' : K) (host' : H) : Type 0 where
   pub took : feed.takes source [] source'
   pub ended : feed.ended source'
   pub sink_same : sink' ≡ sink
   pub host_same : host' ≡ host
 
 -- the input ended inside a request
-pub record IsCut {S K : Type 0} (feed : Feed S) (source : S) (sink : K) (host : State) (source' : S) (sink' : K) (host' : State) : Type 0 where
+pub record IsCut {S K H : Type 0} (feed : Feed S) (source : S) (sink : K) (host : H) (source' : S) (sink' : K) (host' : H) : Type 0 where
   pub rest : List ℕ
   pub cut : next rest ≡ Cut
   pub took : feed.takes source rest source'
@@ -81,7 +98,7 @@ pub record IsCut {S K : Type 0} (feed : Feed S) (source : S) (sink : K) (host : 
   pub host_same : host' ≡ host
 
 -- the source failed inside a request, or before it
-pub record Fails {S K : Type 0} (feed : Feed S) (fault : ReadFault) (source : S) (sink : K) (host : State) (source' : S) (sink' : K) (host' : State) : Type 0 where
+pub record Fails {S K H : Type 0} (feed : Feed S) (fault : ReadFault) (source : S) (sink : K) (host : H) (source' : S) (sink' : K) (host' : H) : Type 0 where
   pub rest : List ℕ
   pub unfinished : is_unfinished (next rest) ≡ true
   pub faults : Faults feed source rest fault source'
@@ -89,43 +106,48 @@ pub record Fails {S K : Type 0} (feed : Feed S) (fault : ReadFault) (source : S)
   pub host_same : host' ≡ host
 
 -- What one turn of the run did, by its outcome.
-abbrev pub Turns : {S K : Type 0} → Feed S → Outlet K → ℕ → S → K → State → Result Turn RunFault → S → K → State → Type 0
-Turns feed outlet budget s k h (Ok turns.On) s' k' h' = (line : Line) × (told : Told) × Served feed budget s h line told s' h' × Sent outlet k (reply_line told) k'
-Turns feed outlet budget s k h (Ok turns.Left) s' k' h' = Served feed budget s h Quit Left s' h' × Sent outlet k (reply_line Left) k'
-Turns feed outlet budget s k h (Ok turns.Over) s' k' h' = IsOver feed s k h s' k' h'
-Turns feed outlet budget s k h (Err faults.Truncated) s' k' h' = IsCut feed s k h s' k' h'
-Turns feed outlet budget s k h (Err faults.TooLong) s' k' h' = Fails feed reads.TooLong s k h s' k' h'
-Turns feed outlet budget s k h (Err faults.Read) s' k' h' = Fails feed reads.Failed s k h s' k' h'
-Turns feed outlet budget s k h (Err faults.Write) s' k' h' = (line : Line) × (told : Told) × Served feed budget s h line told s' h' × Stops outlet k (reply_line told) k'
-Turns feed outlet budget s k h (Err faults.NoMemory) s' k' h' = ⊥
+abbrev pub Turns : {S K H : Type 0} → Feed S → Outlet K → Carrying H → ℕ → S → K → H → Result Turn RunFault → S → K → H → Type 0
+Turns feed outlet carries budget s k h (Ok turns.On) s' k' h' = (line : Line) × (told : Told) × Served feed carries budget s h line told s' h' × Sent outlet k (reply_line told) k' × GoesOn line
+Turns feed outlet carries budget s k h (Ok turns.Left) s' k' h' = Served feed carries budget s h Quit Left s' h' × Sent outlet k (reply_line Left) k'
+Turns feed outlet carries budget s k h (Ok turns.Over) s' k' h' = IsOver feed s k h s' k' h'
+Turns feed outlet carries budget s k h (Err faults.Truncated) s' k' h' = IsCut feed s k h s' k' h'
+Turns feed outlet carries budget s k h (Err faults.TooLong) s' k' h' = Fails feed reads.TooLong s k h s' k' h'
+Turns feed outlet carries budget s k h (Err faults.Read) s' k' h' = Fails feed reads.Failed s k h s' k' h'
+Turns feed outlet carries budget s k h (Err faults.Write) s' k' h' = (line : Line) × (told : Told) × Served feed carries budget s h line told s' h' × Stops outlet k (reply_line told) k'
+Turns feed outlet carries budget s k h (Err faults.NoMemory) s' k' h' = ⊥
 
 -- What reading a request and carrying it out did, by its outcome: what is to be told, nothing at the end, or a fault.
-abbrev pub Taken : {S : Type 0} → Feed S → ℕ → S → State → Result (Option CodeTold) RunFault → S → State → Type 0
-Taken feed budget s h (Ok None) s' h' = feed.takes s [] s' × feed.ended s' × (h' ≡ h)
-Taken feed budget s h (Ok (Some told)) s' h' = (line : Line) × Served feed budget s h line (told_of told) s' h'
-Taken feed budget s h (Err faults.Truncated) s' h' = (rest : List ℕ) × feed.takes s rest s' × feed.ended s' × (next rest ≡ Cut) × (h' ≡ h)
-Taken feed budget s h (Err faults.TooLong) s' h' = (rest : List ℕ) × Faults feed s rest reads.TooLong s' × (is_unfinished (next rest) ≡ true) × (h' ≡ h)
-Taken feed budget s h (Err faults.Read) s' h' = (rest : List ℕ) × Faults feed s rest reads.Failed s' × (is_unfinished (next rest) ≡ true) × (h' ≡ h)
-Taken feed budget s h (Err faults.Write) s' h' = ⊥
-Taken feed budget s h (Err faults.NoMemory) s' h' = ⊥
+abbrev pub Taken : {S H : Type 0} → Feed S → Carrying H → ℕ → S → H → Result (Option CodeTold) RunFault → S → H → Type 0
+Taken feed carries budget s h (Ok None) s' h' = feed.takes s [] s' × feed.ended s' × (h' ≡ h)
+Taken feed carries budget s h (Ok (Some told)) s' h' = (line : Line) × Served feed carries budget s h line (told_of told) s' h'
+Taken feed carries budget s h (Err faults.Truncated) s' h' = (rest : List ℕ) × feed.takes s rest s' × feed.ended s' × (next rest ≡ Cut) × (h' ≡ h)
+Taken feed carries budget s h (Err faults.TooLong) s' h' = (rest : List ℕ) × Faults feed s rest reads.TooLong s' × (is_unfinished (next rest) ≡ true) × (h' ≡ h)
+Taken feed carries budget s h (Err faults.Read) s' h' = (rest : List ℕ) × Faults feed s rest reads.Failed s' × (is_unfinished (next rest) ≡ true) × (h' ≡ h)
+Taken feed carries budget s h (Err faults.Write) s' h' = ⊥
+Taken feed carries budget s h (Err faults.NoMemory) s' h' = ⊥
 
 -- The turns of a run so far: the bytes that were read, the lines that they spell, and their replies, which went out.
-pub record Log {S K : Type 0} (feed : Feed S) (outlet : Outlet K) (budget : ℕ) (source : S) (sink : K) (host : State) (source' : S) (sink' : K) (host' : State) : Type 0 where
+pub record Log {S K H : Type 0} (feed : Feed S) (outlet : Outlet K) (carries : Carrying H) (budget : ℕ) (source : S) (sink : K) (host : H) (source' : S) (sink' : K) (host' : H) : Type 0 where
   pub read : List ℕ
   pub lines : List Line
   pub replies : List Told
   pub took : feed.takes source read source'
   pub asks : (more : List ℕ) → Asks (read ++ more) lines more
-  pub answers : AnswersAll budget host lines replies host'
+  pub answers : AnswersAll carries budget host lines replies host'
   pub sent : outlet.sends sink (text_of replies) sink'
   pub empty : outlet.held sink' ≡ []
 
+-- turns, none of which answered `quit`
+pub record GoneOn {S K H : Type 0} (feed : Feed S) (outlet : Outlet K) (carries : Carrying H) (budget : ℕ) (source : S) (sink : K) (host : H) (source' : S) (sink' : K) (host' : H) : Type 0 where
+  pub log : Log feed outlet carries budget source sink host source' sink' host'
+  pub on : AllByRecursion GoesOn log.lines
+
 -- A run: some turns, and one that ends it. Without memory nothing was read, asked or written.
-abbrev pub Serves : {S K : Type 0} → Feed S → Outlet K → ℕ → S → K → State → Result (Unit {0}) RunFault → S → K → State → Type 0
-Serves {S} {K} feed outlet budget s k h (Ok _) s' k' h' =
-    (source : S) × (sink : K) × (host : State) × Log feed outlet budget s k h source sink host
-    × (IsOver feed source sink host s' k' h' ⊎ (Served feed budget source host Quit Left s' h' × Sent outlet sink (reply_line Left) k'))
-Serves feed outlet budget s k h (Err faults.NoMemory) s' k' h' = (s' ≡ s) × (k' ≡ k) × (h' ≡ h)
-Serves {S} {K} feed outlet budget s k h (Err fault) s' k' h' =
-    (source : S) × (sink : K) × (host : State) × Log feed outlet budget s k h source sink host
-    × Turns feed outlet budget source sink host (Err fault) s' k' h'
+abbrev pub Serves : {S K H : Type 0} → Feed S → Outlet K → Carrying H → ℕ → S → K → H → Result (Unit {0}) RunFault → S → K → H → Type 0
+Serves {S} {K} {H} feed outlet carries budget s k h (Ok _) s' k' h' =
+    (source : S) × (sink : K) × (host : H) × GoneOn feed outlet carries budget s k h source sink host
+    × (IsOver feed source sink host s' k' h' ⊎ (Served feed carries budget source host Quit Left s' h' × Sent outlet sink (reply_line Left) k'))
+Serves feed outlet carries budget s k h (Err faults.NoMemory) s' k' h' = (s' ≡ s) × (k' ≡ k) × (h' ≡ h)
+Serves {S} {K} {H} feed outlet carries budget s k h (Err fault) s' k' h' =
+    (source : S) × (sink : K) × (host : H) × GoneOn feed outlet carries budget s k h source sink host
+    × Turns feed outlet carries budget source sink host (Err fault) s' k' h'

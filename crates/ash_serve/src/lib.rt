@@ -8,6 +8,7 @@
 #![tactic(auto)]
 
 mod bytes;
+pub mod carrier;
 pub mod fault;
 mod line;
 mod number;

@@ -4,7 +4,7 @@ ghost use Rattle.std.specs.Prelude.{◌≡◌, ◌∷◌, [], ◌++◌, codes};
 ghost use Rattle.std.specs.List.{flat_map};
 ghost use Rattle.ash_meaning.specs.State.{reply_of, end_of};
 ghost use Rattle.ash_serve.specs.Sink.{Puts, Says};
-ghost use Rattle.ash_serve.specs.Replies.{word_text, exception_text, refusal_text, place_text, finished_text, end_text, reply_text, seq_text};
+ghost use Rattle.ash_serve.specs.Replies.{word_text, exception_text, refusal_name, offset_in, refusal_text, place_text, finished_text, end_text, reply_text, seq_text};
 
 use crate::sink::{Sink, WriteFault};
 use ash_host::Word;
@@ -56,10 +56,7 @@ fn put_reply<K: Sink>(sink: &mut K, reply: &Reply) -> Result<(), WriteFault>
             let mut digits = Buffer::new();
             put_all(sink, &[b"ok ".as_slice(), digits.format(*seq).as_bytes()])
         }
-        Reply::Refused(refusal) => put_all(
-            sink,
-            &[b"refused ".as_slice(), refusal_words(*refusal)],
-        ),
+        Reply::Refused(refusal) => put_refusal(sink, *refusal),
     }
 }
 
@@ -178,11 +175,45 @@ fn put_exception<K: Sink>(sink: &mut K, exception: Exception) -> Result<(), Writ
     }
 }
 
-/// The number and the name of a refusal.
-fn refusal_words(refusal: Refusal) -> &'static [u8]
-    ensures { result.now ≡ refusal_text refusal }
+/// A refusal, with the offset in the source where it tells one.
+fn put_refusal<K: Sink>(sink: &mut K, refusal: Refusal) -> Result<(), WriteFault>
+    ensures { Puts K.outlet sink.old (codes "refused " ++ refusal_text refusal) result sink.new }
+{
+    let name = refusal_name(refusal);
+    match offset_in(refusal) {
+        None => put_all(sink, &[b"refused ".as_slice(), name]),
+        Some(at) => {
+            let mut digits = Buffer::new();
+            let place = digits.format(at);
+            put_all(
+                sink,
+                &[b"refused ".as_slice(), name, b" ", place.as_bytes()],
+            )
+        }
+    }
+}
+
+/// The offset in a source that a refusal tells.
+fn offset_in(refusal: Refusal) -> Option<usize>
+    ensures { result ≡ offset_in refusal }
 {
     match refusal {
+        Refusal::BadCharacter { at }
+        | Refusal::UnclosedComment { at }
+        | Refusal::NumberTooLarge { at } => Some(at),
+        _ => None,
+    }
+}
+
+/// The number and the name of a refusal.
+fn refusal_name(refusal: Refusal) -> &'static [u8]
+    ensures { result.now ≡ refusal_name refusal }
+{
+    match refusal {
+        Refusal::SourceTooLong => b"107 SourceTooLong",
+        Refusal::BadCharacter { .. } => b"101 BadCharacter",
+        Refusal::UnclosedComment { .. } => b"102 UnclosedComment",
+        Refusal::NumberTooLarge { .. } => b"103 NumberTooLarge",
         Refusal::NotYet => b"199 NotYet",
         Refusal::NoModule => b"401 NoModule",
         Refusal::ModuleTaken => b"402 ModuleTaken",
@@ -192,6 +223,8 @@ fn refusal_words(refusal: Refusal) -> &'static [u8]
         Refusal::TooManyModules => b"408 TooManyModules",
         Refusal::BadName => b"409 BadName",
         Refusal::SequenceSpent => b"410 SequenceSpent",
+        Refusal::DeviceFailed => b"507 DeviceFailed",
+        Refusal::Reopen => b"508 Reopen",
         Refusal::NoMemory => b"509 NoMemory",
     }
 }

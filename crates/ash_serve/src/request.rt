@@ -6,11 +6,11 @@ ghost use Rattle.ash_serve.specs.Reading.{Through};
 ghost use Rattle.ash_serve.specs.Serving.{Taken};
 
 use crate::bytes::read_bytes;
+use crate::carrier::Carrier;
 use crate::fault::{RunFault, run_fault};
 use crate::line::{LineRead, Skipped, read_line, skip_line};
 use crate::source::Source;
 use crate::spelled::{Spelled, read_words};
-use ash_durable::Host;
 use ash_meaning::request::{Argument, Reply, Request};
 
 /// What is told of a line.
@@ -26,9 +26,9 @@ pub(crate) enum Told {
 }
 
 /// Reads a request and carries it out. Answers what is to be told, or `None` at the end of the input.
-pub(crate) fn take_request<S: Source>(
+pub(crate) fn take_request<S: Source, H: Carrier>(
     source: &mut S,
-    host: &mut Host,
+    host: &mut H,
     budget: u64,
     line: &mut Vec<u8>,
     arguments: &mut Vec<Argument>,
@@ -37,7 +37,7 @@ pub(crate) fn take_request<S: Source>(
     requires line_room { 4096 ≤ vec_capacity line.old }
     requires arguments_room { 4097 ≤ vec_capacity arguments.old }
     requires kept_room { 65537 ≤ vec_capacity kept.old }
-    ensures taken { Taken S.feed budget source.old host.old result source.new host.new }
+    ensures taken { Taken S.feed H.carries budget source.old host.old result source.new host.new }
     ensures line_room { 4096 ≤ vec_capacity line.new }
     ensures arguments_room { 4097 ≤ vec_capacity arguments.new }
     ensures kept_room { 65537 ≤ vec_capacity kept.new }
@@ -52,9 +52,9 @@ pub(crate) fn take_request<S: Source>(
 }
 
 /// Carries out what a line asks, after reading the source that may follow it.
-fn carry_out<S: Source>(
+fn carry_out<S: Source, H: Carrier>(
     source: &mut S,
-    host: &mut Host,
+    host: &mut H,
     budget: u64,
     line: &[u8],
     arguments: &mut Vec<Argument>,
@@ -63,7 +63,7 @@ fn carry_out<S: Source>(
     requires short { length line.now ≤ 4096 }
     requires arguments_room { 4097 ≤ vec_capacity arguments.old }
     requires kept_room { 65537 ≤ vec_capacity kept.old }
-    ensures taken { (start : S) → Through S.feed start line.now source.old → Taken S.feed budget start host.old result source.new host.new }
+    ensures taken { (start : S) → Through S.feed start line.now source.old → Taken S.feed H.carries budget start host.old result source.new host.new }
     ensures arguments_room { 4097 ≤ vec_capacity arguments.new }
     ensures kept_room { 65537 ≤ vec_capacity kept.new }
 {
@@ -93,16 +93,16 @@ fn carry_out<S: Source>(
 
 /// Reads a source and the end of its line, and loads it. A source that is too long is refused whatever its
 /// bytes, so no more is kept of it than shows that.
-fn load<S: Source>(
+fn load<S: Source, H: Carrier>(
     source: &mut S,
-    host: &mut Host,
+    host: &mut H,
     budget: u64,
     name: &str,
     count: u32,
     kept: &mut Vec<u8>,
 ) -> Result<Option<Told>, RunFault>
     requires { 65537 ≤ vec_capacity kept.old }
-    ensures taken { (start : S) (line : List ℕ) → Through S.feed start line source.old → length line ≤ 4096 → spelling line ≡ Loads name.now count → Taken S.feed budget start host.old result source.new host.new }
+    ensures taken { (start : S) (line : List ℕ) → Through S.feed start line source.old → length line ≤ 4096 → spelling line ≡ Loads name.now count → Taken S.feed H.carries budget start host.old result source.new host.new }
     ensures kept_room { 65537 ≤ vec_capacity kept.new }
 {
     match read_bytes(source, count, kept) {

@@ -4,26 +4,26 @@ ghost use Rattle.std.specs.Prelude.{◌≡◌, []};
 ghost use Rattle.ash_serve.specs.Serving.{Serves};
 
 use crate::bytes::MOST_KEPT;
+use crate::carrier::Carrier;
 use crate::fault::RunFault;
 use crate::line::MOST_LINE;
 use crate::sink::Sink;
 use crate::source::Source;
 use crate::spelled::MOST_ARGUMENTS;
 use crate::turn::{Turn, take_turn};
-use ash_durable::Host;
 use std::alloc::Global;
 
 /// Reads requests, has the host carry each out with this budget in ticks, and sends each reply before the next
 /// request is read. Ends at the end of the input between two requests, or when `quit` is answered.
-pub fn serve<S: Source, K: Sink>(
+pub fn serve<S: Source, K: Sink, H: Carrier>(
     alloc: Global,
     source: &mut S,
     sink: &mut K,
-    host: &mut Host,
+    host: &mut H,
     budget: u64,
 ) -> Result<(), RunFault>
     requires { K.outlet.held sink.old ≡ [] }
-    ensures { Serves S.feed K.outlet budget source.old sink.old host.old result source.new sink.new host.new }
+    ensures { Serves S.feed K.outlet H.carries budget source.old sink.old host.old result source.new sink.new host.new }
 {
     let Ok(mut line) = Vec::with_capacity(alloc, MOST_LINE) else {
         return Err(RunFault::NoMemory);

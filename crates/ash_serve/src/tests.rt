@@ -1,8 +1,12 @@
 // The run over slices and vectors, and over ends that fail.
 
 use crate::fault::RunFault;
+use crate::program::fault::Fault;
+use crate::program::service::{serve_new, serve_stored};
 use crate::run::run;
-use ash_durable::Host;
+use ash_disk::MemoryDisk;
+use ash_durable::{Host, StoreFault};
+use std::alloc::Global;
 use std::io;
 use std::io::{ErrorKind, Read, Write};
 use std::test::Fail;
@@ -53,6 +57,12 @@ impl Write for Refusing {
     }
 }
 
+/// A host over two empty disks in memory.
+fn new_host(alloc: Global) -> Result<Host<MemoryDisk>, StoreFault> {
+    let (a, b) = (MemoryDisk::new(alloc), MemoryDisk::new(alloc));
+    Host::create(alloc, a, b).map_err(|refused| refused.fault)
+}
+
 const INPUT: &[u8] =
     b"seq\n\nget m n\ncall m f 5 true -7\nload m 3\nabc\nload m 2\nabcd\nobject 1\nseq  \nquit\nseq\n";
 
@@ -61,11 +71,44 @@ const OUTPUT: &[u8] =
 
 #[test]
 fn answers_each_line(rt: HostRuntime) -> Result<(), Fail> {
-    let mut host = Host::thin(rt.alloc());
+    let mut host = new_host(rt.alloc())?;
     let mut written = Vec::new(rt.alloc());
     let result = run(rt.alloc(), INPUT, &mut written, &mut host, 1000);
     assert!(rt; result.is_ok());
     assert_eq!(rt; written.as_slice(), OUTPUT);
+    Ok(())
+}
+
+#[test]
+fn serves_a_new_store_and_one_that_is_there(rt: HostRuntime) -> Result<(), Fail> {
+    let alloc = rt.alloc();
+    let (a, b) = (MemoryDisk::new(alloc), MemoryDisk::new(alloc));
+    let mut written = Vec::new(alloc);
+    let result = serve_new(alloc, a, b, INPUT, &mut written, 1000);
+    assert!(rt; result.is_ok());
+    assert_eq!(rt; written.as_slice(), OUTPUT);
+
+    let mut host = new_host(alloc)?;
+    let load = b"load m 10\nint n = 7;\n".as_slice();
+    run(alloc, load, &mut Vec::new(alloc), &mut host, 1000)?;
+    let (a, b) = host.close();
+    let mut written = Vec::new(alloc);
+    let result = serve_stored(
+        alloc,
+        a,
+        b,
+        b"get m n\nseq\n".as_slice(),
+        &mut written,
+        1000,
+    );
+    assert!(rt; result.is_ok());
+    assert_eq!(rt; written.as_slice(), b"ok 7\nok 1\n".as_slice());
+
+    let (a, b) = (MemoryDisk::new(alloc), MemoryDisk::new(alloc));
+    let mut written = Vec::new(alloc);
+    let result = serve_stored(alloc, a, b, INPUT, &mut written, 1000);
+    assert!(rt; matches!(result, Err(Fault::Store(StoreFault::NoGeneration))));
+    assert!(rt; written.is_empty());
     Ok(())
 }
 
@@ -77,7 +120,7 @@ fn tells_a_cut_request(rt: HostRuntime) -> Result<(), Fail> {
         b"seq\nload m 3\nabc".as_slice(),
         b"seq\nload m 3\nabcd".as_slice(),
     ] {
-        let mut host = Host::thin(rt.alloc());
+        let mut host = new_host(rt.alloc())?;
         let mut written = Vec::new(rt.alloc());
         let result = run(rt.alloc(), input, &mut written, &mut host, 1000);
         assert!(rt; matches!(result, Err(RunFault::Truncated)));
@@ -89,7 +132,7 @@ fn tells_a_cut_request(rt: HostRuntime) -> Result<(), Fail> {
 #[test]
 fn tells_a_read_that_fails(rt: HostRuntime) -> Result<(), Fail> {
     for left in 0..79 {
-        let mut host = Host::thin(rt.alloc());
+        let mut host = new_host(rt.alloc())?;
         let mut written = Vec::new(rt.alloc());
         let reader = Failing { bytes: INPUT, left };
         let result = run(rt.alloc(), reader, &mut written, &mut host, 1000);
@@ -102,7 +145,7 @@ fn tells_a_read_that_fails(rt: HostRuntime) -> Result<(), Fail> {
 #[test]
 fn tells_a_write_that_fails(rt: HostRuntime) -> Result<(), Fail> {
     for left in 0..150 {
-        let mut host = Host::thin(rt.alloc());
+        let mut host = new_host(rt.alloc())?;
         let mut writer = Refusing {
             bytes: Vec::new(rt.alloc()),
             left,

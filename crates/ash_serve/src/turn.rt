@@ -5,12 +5,12 @@ ghost use Rattle.ash_serve.specs.Replies.{reply_line};
 ghost use Rattle.ash_serve.specs.Sink.{Says};
 ghost use Rattle.ash_serve.specs.Serving.{Turns, Ends, told_of, turn_after};
 
+use crate::carrier::Carrier;
 use crate::fault::RunFault;
 use crate::reply::{say, say_reply};
 use crate::request::{Told, take_request};
 use crate::sink::{Sink, WriteFault};
 use crate::source::Source;
-use ash_durable::Host;
 use ash_meaning::request::Argument;
 
 /// What a turn came to.
@@ -25,10 +25,10 @@ pub(crate) enum Turn {
 }
 
 /// Takes a request, carries it out, and sends its reply.
-pub(crate) fn take_turn<S: Source, K: Sink>(
+pub(crate) fn take_turn<S: Source, K: Sink, H: Carrier>(
     source: &mut S,
     sink: &mut K,
-    host: &mut Host,
+    host: &mut H,
     budget: u64,
     line: &mut Vec<u8>,
     arguments: &mut Vec<Argument>,
@@ -37,7 +37,7 @@ pub(crate) fn take_turn<S: Source, K: Sink>(
     requires line_room { 4096 ≤ vec_capacity line.old }
     requires arguments_room { 4097 ≤ vec_capacity arguments.old }
     requires kept_room { 65537 ≤ vec_capacity kept.old }
-    ensures turns { Turns S.feed K.outlet budget source.old sink.old host.old result source.new sink.new host.new }
+    ensures turns { Turns S.feed K.outlet H.carries budget source.old sink.old host.old result source.new sink.new host.new }
     ensures line_room { 4096 ≤ vec_capacity line.new }
     ensures arguments_room { 4097 ≤ vec_capacity arguments.new }
     ensures kept_room { 65537 ≤ vec_capacity kept.new }

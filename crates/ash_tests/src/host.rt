@@ -1,5 +1,6 @@
 // The calls of a host, each once, where memory is ample.
 
+use ash_disk::MemoryDisk;
 use ash_durable::Host;
 use ash_host::Word;
 use ash_meaning::outcome::Outcome;
@@ -9,9 +10,19 @@ use std::test::Fail;
 
 const SOURCE: &[u8] = b"int n = 2; int f(int k) { n += k; return n; }";
 
+/// A host on two new disks.
+fn new_host(rt: &impl AllocGlobal) -> Result<Host<MemoryDisk>, Fail> {
+    let first = MemoryDisk::new(rt.alloc());
+    let second = MemoryDisk::new(rt.alloc());
+    match Host::create(rt.alloc(), first, second) {
+        Ok(host) => Ok(host),
+        Err(refused) => Err(refused.fault.into()),
+    }
+}
+
 #[test]
 fn each_call(rt: HostRuntime) -> Result<(), Fail> {
-    let mut host = Host::thin(rt.alloc());
+    let mut host = new_host(&rt)?;
     assert_eq!(rt; host.seq(), 0);
 
     let loaded = host.load("m", SOURCE, 1000)?;
@@ -30,7 +41,7 @@ fn each_call(rt: HostRuntime) -> Result<(), Fail> {
 
 #[test]
 fn each_request(rt: HostRuntime) -> Result<(), Fail> {
-    let mut host = Host::thin(rt.alloc());
+    let mut host = new_host(&rt)?;
     let load = Request::Load {
         name: "m",
         source: SOURCE,
@@ -57,7 +68,7 @@ fn each_request(rt: HostRuntime) -> Result<(), Fail> {
 
 #[test]
 fn an_argument_that_does_not_fit(rt: HostRuntime) -> Result<(), Fail> {
-    let mut host = Host::thin(rt.alloc());
+    let mut host = new_host(&rt)?;
     host.load("m", SOURCE, 1000)?;
     for argument in [
         Argument::Truth(true),

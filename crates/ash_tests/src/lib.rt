@@ -1,8 +1,12 @@
-//! Tests that cross crates: requests served from bytes to bytes, with the replies that were worked out by hand, and
-//! the calls of a host.
+//! Tests that cross crates: requests served from bytes to bytes, with the replies that were worked out by hand, the
+//! calls of a host, and stores on two disks.
 #![tactic(auto)]
 
+#[cfg(test)]
+mod durable_rows;
 #[cfg(test)]
 mod host;
 #[cfg(test)]
 mod rows;
+#[cfg(test)]
+mod store;

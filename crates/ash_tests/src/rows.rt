@@ -1,22 +1,39 @@
 // Requests and their replies, byte for byte.
 
-use ash_durable::Host;
+use ash_disk::{Disk, MemoryDisk};
+use ash_durable::{Host, StoreFault};
 use ash_serve::RunFault;
 use ash_serve::run::run;
 use std::test::Fail;
 
 const FIRST: &[u8] = b"int n = 2; int f(int k) { n += k; return n; }";
 
-/// How a run over these requests ends, and what it replies.
+/// A host over two empty disks in memory.
+fn new_host(rt: &impl AllocGlobal) -> Result<Host<MemoryDisk>, StoreFault> {
+    let (a, b) = (MemoryDisk::new(rt.alloc()), MemoryDisk::new(rt.alloc()));
+    Host::create(rt.alloc(), a, b).map_err(|refused| refused.fault)
+}
+
+/// How a run over these requests ends, and what this host replies.
+fn served_by<D: Disk>(
+    rt: &impl AllocGlobal,
+    host: &mut Host<D>,
+    budget: u64,
+    requests: &[u8],
+) -> (Result<(), RunFault>, Vec<u8>) {
+    let mut replies = Vec::new(rt.alloc());
+    let end = run(rt.alloc(), requests, &mut replies, host, budget);
+    (end, replies)
+}
+
+/// How a run over these requests ends, and what a new host replies.
 fn served(
     rt: &impl AllocGlobal,
     budget: u64,
     requests: &[u8],
 ) -> Result<(Result<(), RunFault>, Vec<u8>), Fail> {
-    let mut host = Host::thin(rt.alloc());
-    let mut replies = Vec::new(rt.alloc());
-    let end = run(rt.alloc(), requests, &mut replies, &mut host, budget);
-    Ok((end, replies))
+    let mut host = new_host(rt)?;
+    Ok(served_by(rt, &mut host, budget, requests))
 }
 
 /// The replies of a run that ends well.
@@ -102,9 +119,22 @@ fn a_source_that_is_not_there_yet(rt: HostRuntime) -> Result<(), Fail> {
     let told = replies(
         &rt,
         1000,
-        b"load m 8\nbool b; \nload m 3\n\xff\xfe\xfd\nseq\n",
+        b"load m 8\nbool b; \nload m 14\nint n = 0x10; \nseq\n",
     )?;
     let expected = b"refused 199 NotYet\nrefused 199 NotYet\nok 0\n";
+    assert_eq!(rt; told.as_slice(), expected.as_slice());
+    Ok(())
+}
+
+#[test]
+fn a_source_without_tokens(rt: HostRuntime) -> Result<(), Fail> {
+    let told = replies(
+        &rt,
+        1000,
+        b"load m 5\nint \"\nload m 4\n/* x\nload m 4\nab\xff\xfe\nload m 27\nint n=999999999999999999999\nseq\n",
+    )?;
+    let expected =
+        b"refused 101 BadCharacter 4\nrefused 102 UnclosedComment 0\nrefused 101 BadCharacter 2\nrefused 103 NumberTooLarge 6\nok 0\n";
     assert_eq!(rt; told.as_slice(), expected.as_slice());
     Ok(())
 }

@@ -1,0 +1,50 @@
+// Why the program ends with another status than 0, and what it tells of that.
+
+ghost use Rattle.std.specs.Prelude.{◌≡◌};
+ghost use Rattle.ash_serve.specs.Program.{status_of};
+
+use crate::fault::RunFault;
+use ash_durable::{OpenRefused, StoreFault};
+use std::alloc::AllocError;
+use thiserror::Error;
+
+/// Why the program ends with another status than 0.
+#[derive(Debug, Drop, Error)]
+pub enum Fault {
+    /// The words ask for nothing that the program does.
+    #[error("usage")]
+    Usage,
+    /// Memory was refused before the run.
+    #[error("509 NoMemory")]
+    NoMemory,
+    /// The store was not made or not opened. Its files are part of it.
+    #[error("{0}")]
+    Store(StoreFault),
+    /// The run ended by a fault.
+    #[error("{0}")]
+    Run(RunFault),
+}
+
+impl Fault {
+    /// The status that the program ends with: 2 for wrong words, 1 for any other fault.
+    pub fn status(&self) -> u8
+        ensures { result ≡ status_of self.now }
+    {
+        match self {
+            Fault::Usage => 2,
+            Fault::NoMemory | Fault::Store(_) | Fault::Run(_) => 1,
+        }
+    }
+}
+
+impl From<AllocError> for Fault {
+    fn from(_: AllocError) -> Self {
+        Fault::NoMemory
+    }
+}
+
+impl<D: Drop> From<OpenRefused<D>> for Fault {
+    fn from(refused: OpenRefused<D>) -> Self {
+        Fault::Store(refused.fault)
+    }
+}

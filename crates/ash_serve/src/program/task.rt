@@ -1,0 +1,119 @@
+// What the words of a command line ask for.
+
+use super::fault::Fault;
+use clap::error::ErrorKind;
+use clap::{Arg, ArgAction, ArgMatches, Command};
+use std::alloc::{AllocError, Global};
+
+/// The most counters that the pool may be given.
+const MOST_COUNTERS: u64 = 4096;
+
+/// The most digits of an option's number.
+const MOST_DIGITS: usize = 20;
+
+/// What the words of a command line ask for.
+#[derive(Clone, Copy, Debug)]
+pub enum Task<'a> {
+    /// Serve standard input and output, with the store in memory.
+    Try { limits: Limits },
+    /// Make a store in this folder.
+    Create { folder: &'a str },
+    /// Serve standard input and output, with the store in this folder.
+    Serve { folder: &'a str, limits: Limits },
+}
+
+/// What the scripts that are served may use.
+#[derive(Clone, Copy, Debug)]
+pub struct Limits {
+    /// Ticks for each request.
+    pub budget: u64,
+    /// How many counters the pool has. So far no script can take one.
+    pub counters: u64,
+}
+
+impl<'a> Task<'a> {
+    /// What the words of a command line ask for, the first of them being the program's name.
+    pub fn read(alloc: Global, words: &'a [String]) -> Result<Task<'a>, Fault> {
+        let matches = match command(alloc)?.try_get_matches_from(words) {
+            Ok(matches) => matches,
+            Err(error) => return Err(refusal(error.kind())),
+        };
+        match matches.subcommand() {
+            Some(("try", matches)) => Ok(Task::Try {
+                limits: limits_of(matches)?,
+            }),
+            Some(("create", matches)) => Ok(Task::Create {
+                folder: folder_of(matches)?,
+            }),
+            Some(("serve", matches)) => Ok(Task::Serve {
+                folder: folder_of(matches)?,
+                limits: limits_of(matches)?,
+            }),
+            _ => Err(Fault::Usage),
+        }
+    }
+}
+
+/// The words that the program takes.
+fn command<'a>(alloc: Global) -> Result<Command<'a>, AllocError> {
+    let in_memory = with_limits(alloc, Command::new(alloc, "try"))?;
+    let create = Command::new(alloc, "create").arg(folder_word(alloc))?;
+    let serve = Command::new(alloc, "serve").arg(folder_word(alloc))?;
+    Command::new(alloc, "ashd")
+        .subcommand_required(true)
+        .subcommand(in_memory)?
+        .subcommand(create)?
+        .subcommand(with_limits(alloc, serve)?)
+}
+
+fn with_limits<'a>(alloc: Global, command: Command<'a>) -> Result<Command<'a>, AllocError> {
+    let budget = Arg::new(alloc, "budget")
+        .long("budget")
+        .required(true)
+        .action(ArgAction::Set);
+    let counters = Arg::new(alloc, "counters")
+        .long("counters")
+        .required(true)
+        .action(ArgAction::Set);
+    command.arg(budget)?.arg(counters)
+}
+
+fn folder_word<'a>(alloc: Global) -> Arg<'a> {
+    Arg::new(alloc, "folder")
+        .required(true)
+        .action(ArgAction::Set)
+}
+
+/// A request for help is a use of words like any other wrong one.
+fn refusal(kind: ErrorKind) -> Fault {
+    match kind {
+        ErrorKind::OutOfMemory => Fault::NoMemory,
+        _ => Fault::Usage,
+    }
+}
+
+/// The folder that is named. An empty name would mean the root of all folders.
+fn folder_of<'a>(matches: &ArgMatches<'a>) -> Result<&'a str, Fault> {
+    match matches.get_str("folder") {
+        Some(folder) if !folder.is_empty() => Ok(folder),
+        _ => Err(Fault::Usage),
+    }
+}
+
+fn limits_of(matches: &ArgMatches) -> Result<Limits, Fault> {
+    let budget = number(matches, "budget")?;
+    let counters = number(matches, "counters")?;
+    if counters > MOST_COUNTERS {
+        return Err(Fault::Usage);
+    }
+    Ok(Limits { budget, counters })
+}
+
+/// The number that an option is given: 1 to 20 digits, below 2^64.
+fn number(matches: &ArgMatches, option: &str) -> Result<u64, Fault> {
+    let text = matches.get_str(option).ok_or(Fault::Usage)?;
+    if text.len() > MOST_DIGITS || !text.bytes().all(|byte| byte.is_ascii_digit()) {
+        return Err(Fault::Usage);
+    }
+    text.parse::<u64>().map_err(|_| Fault::Usage)
+}
