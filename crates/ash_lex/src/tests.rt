@@ -221,9 +221,18 @@ fn longest_source(rt: HostRuntime) -> Result<(), Fail> {
     Ok(())
 }
 
+/// Looks for each word as a token of this sort.
+fn check_words(rt: &impl Abort, alloc: Global, sort: &str, words: &[&str]) -> Result<(), Fail> {
+    for word in words {
+        let want = format!(in alloc; "1:0-{} {sort} {word}; ", word.len())?;
+        assert_eq!(rt; shown(alloc, word)?.as_str(), want.as_str());
+    }
+    Ok(())
+}
+
 #[test]
-fn words(rt: HostRuntime) -> Result<(), Fail> {
-    for word in [
+fn reserved_words(rt: HostRuntime) -> Result<(), Fail> {
+    let words = [
         "and",
         "or",
         "xor",
@@ -256,11 +265,13 @@ fn words(rt: HostRuntime) -> Result<(), Fail> {
         "break",
         "continue",
         "return",
-    ] {
-        let want = format!(in rt.alloc(); "1:0-{} reserved {word}; ", word.len())?;
-        assert_eq!(rt; shown(rt.alloc(), word)?.as_str(), want.as_str());
-    }
-    for word in [
+    ];
+    check_words(&rt, rt.alloc(), "reserved", &words)
+}
+
+#[test]
+fn unsupported_words(rt: HostRuntime) -> Result<(), Fail> {
+    let words = [
         "auto",
         "catch",
         "const",
@@ -282,11 +293,8 @@ fn words(rt: HostRuntime) -> Result<(), Fail> {
         "typedef",
         "uint8",
         "uint16",
-    ] {
-        let want = format!(in rt.alloc(); "1:0-{} unsupported {word}; ", word.len())?;
-        assert_eq!(rt; shown(rt.alloc(), word)?.as_str(), want.as_str());
-    }
-    Ok(())
+    ];
+    check_words(&rt, rt.alloc(), "unsupported", &words)
 }
 
 /// The longest sign that the text begins with, found by trying each.
