@@ -1,5 +1,5 @@
--- What is in the grammar of expressions is read.
-use Rattle.std.proofs.Common.{◌≡◌, ℕ, zero, suc, ◌+◌, ◌<◌, ◌==◌, List, [], ◌∷◌, length, Bool, true, false, Some, None, Ok, refl, ap, arith}
+-- What is in the grammar of expressions is read, or reading is cut where a token stands too deep.
+use Rattle.std.proofs.Common.{◌≡◌, ℕ, zero, suc, ◌+◌, ◌<◌, ◌≤◌, ◌==◌, List, [], ◌∷◌, length, Bool, true, false, Some, None, Ok, refl, arith}
 use Rattle.std.proofs.lemmas.Bool.Decides.{nat_tests}
 use Rattle.ash_lex.specs.Tokens.{Meaning, name, sign, reserved}
 use Rattle.ash_lex.specs.declared.signs.Sign.TheVariants as signs
@@ -12,13 +12,13 @@ use Rattle.ash_tree.specs.declared.tree.operators.AssignOp.{AssignOp}
 use Rattle.ash_tree.specs.Tree.{Expr, Name, Call, Brackets, Convert, Unary, Conditional, Assign, Suffix, Field, Method, Operation, place_of, exprs, chained, suffixed}
 use Rattle.ash_tree.specs.Tokens.{Tokens}
 use Rattle.ash_tree.specs.Operators.{primitive, unary_operator, binary_operator, level, LEVELS, assign_operator}
-use Rattle.ash_tree.specs.Expressions.{IsInner, inner, AreExprs, no_exprs, some_exprs, AreMoreExprs, no_more_exprs, more_exprs, IsArgs, args, IsAssign, no_assign, assign, IsCond, no_branch, branches, IsBinary, operand, joined, AreLinks, no_links, more_links, IsUnary, applied, postfix, AreSuffixes, no_suffixes, more_suffixes, IsSuffix, field, method, increment, decrement, IsPrimary, numeral, yes, no, null, this, named, call, brackets, convert}
+use Rattle.ash_tree.specs.Expressions.{DEPTH, IsInner, inner, AreExprs, no_exprs, some_exprs, AreMoreExprs, no_more_exprs, more_exprs, IsArgs, args, IsAssign, no_assign, assign, IsCond, no_branch, branches, IsBinary, operand, joined, AreLinks, no_links, more_links, IsUnary, applied, postfix, AreSuffixes, no_suffixes, more_suffixes, IsSuffix, field, method, increment, decrement, IsPrimary, numeral, yes, no, null, this, named, call, brackets, convert}
 use Rattle.ash_parse.specs.Signs.{is_sign, same_sign}
-use Rattle.ash_parse.specs.Reading.{put, next_is, next_is_sign}
-use Rattle.ash_parse.specs.ExpressionReader.{Below, begins, next_expr_with, more_exprs_with, exprs_with, arguments_with, bracketed_with, named_with, primary_with, begins_suffix, is_suffix, member_with, suffix_with, suffixes_with, postfix_with, unary_with, operator_at, is_link, link_by, links_by, chain_by, binary_with, branches_with, assign_from, assign_with, below_at}
+use Rattle.ash_parse.specs.Reading.{next_is, next_is_sign}
+use Rattle.ash_parse.specs.ExpressionReader.{Below, begins, next_expr_with, more_exprs_with, exprs_with, arguments_with, bracketed_with, named_with, primary_with, begins_suffix, is_suffix, member_with, suffix_with, suffixes_with, postfix_with, unary_with, operator_at, is_link, link_by, links_by, chain_by, binary_with, branches_with, assign_from, assign_with, limit_at, below_at}
 use Rattle.ash_parse.proofs.Readings.{expect_again, next_is_sign-again, name_again}
-use Rattle.ash_parse.proofs.ExpressionShorter.{inner_shorter, assign_shorter, binary_shorter, unary_shorter, suffix_shorter}
-use Rattle.ash_parse.proofs.Rereading.{no_some, no_true, ReadsAll, none_again, one_again}
+use Rattle.ash_parse.proofs.ExpressionShorter.{inner_shorter, binary_shorter, suffix_shorter}
+use Rattle.ash_parse.proofs.Rereading.{no_some, no_true, Reads, whole, cut, as_read, then_reads, put_reads, ReadsAll, none_again, one_again}
 
 -- an operand that operators up to a level join ends here: no arguments, no suffix and none of these operators follow
 abbrev pub Stops : ℕ → Tokens → Type 0
@@ -213,37 +213,37 @@ module _ (below : Below) where
   unfolding exprs_with
   exprs_none left s = rw s refl
 
-  exprs_some : (from behind left : Tokens) (e : Expr) (es : List Expr) → next_is begins from ≡ true → below true from ≡ Ok (e, behind) → ReadsAll (next_is_sign signs.Comma) (next_expr_with below) behind es left → exprs_with below from ≡ Ok (e ∷ es, left)
+  exprs_some : {free : ℕ} (from behind left : Tokens) (e : Expr) (es : List Expr) → next_is begins from ≡ true → Reads Expr free (below true from) (e, behind) → ReadsAll free (next_is_sign signs.Comma) (next_expr_with below) behind es left → Reads (List Expr) free (exprs_with below from) (e ∷ es, left)
   unfolding exprs_with more_exprs_with
-  exprs_some from behind left e es b h r = rw (begins_no_close from b, h) (ap (put e) (r (length behind) (omega arith)))
+  exprs_some from behind left e es b h r = rw (begins_no_close from b) (then_reads _ h (put_reads e (r (length behind) (omega arith))))
 
-  next_expr_again : (p : Place) (from behind : Tokens) (e : Expr) → below true from ≡ Ok (e, behind) → next_expr_with below ((sign signs.Comma, p) ∷ from) ≡ Ok (e, behind)
+  next_expr_again : {free : ℕ} (p : Place) (from behind : Tokens) (e : Expr) → Reads Expr free (below true from) (e, behind) → Reads Expr free (next_expr_with below ((sign signs.Comma, p) ∷ from)) (e, behind)
   unfolding next_expr_with
   next_expr_again p from behind e h = rw (expect_again signs.Comma p from) h
 
-  args_again : (p q : Place) (from left : Tokens) (es : List Expr) → exprs_with below from ≡ Ok (es, (sign signs.CloseParenthesis, q) ∷ left) → arguments_with below ((sign signs.OpenParenthesis, p) ∷ from) ≡ Ok (es, left)
+  args_again : {free : ℕ} (p q : Place) (from left : Tokens) (es : List Expr) → Reads (List Expr) free (exprs_with below from) (es, (sign signs.CloseParenthesis, q) ∷ left) → Reads (List Expr) free (arguments_with below ((sign signs.OpenParenthesis, p) ∷ from)) (es, left)
   unfolding arguments_with
-  args_again p q from left es h = rw (expect_again signs.OpenParenthesis p from, h, expect_again signs.CloseParenthesis q left) refl
+  args_again p q from left es h = rw (expect_again signs.OpenParenthesis p from) (then_reads _ h (rw (expect_again signs.CloseParenthesis q left) whole))
 
-  pub bracketed_again : (p q : Place) (from left : Tokens) (e : Expr) → below true from ≡ Ok (e, (sign signs.CloseParenthesis, q) ∷ left) → bracketed_with below ((sign signs.OpenParenthesis, p) ∷ from) ≡ Ok (e, left)
+  pub bracketed_again : {free : ℕ} (p q : Place) (from left : Tokens) (e : Expr) → Reads Expr free (below true from) (e, (sign signs.CloseParenthesis, q) ∷ left) → Reads Expr free (bracketed_with below ((sign signs.OpenParenthesis, p) ∷ from)) (e, left)
   unfolding bracketed_with
-  bracketed_again p q from left e h = rw (expect_again signs.OpenParenthesis p from, h, expect_again signs.CloseParenthesis q left) refl
+  bracketed_again p q from left e h = rw (expect_again signs.OpenParenthesis p from) (then_reads _ h (rw (expect_again signs.CloseParenthesis q left) whole))
 
-  assign_again : (m : Meaning) (p : Place) (from behind left : Tokens) (target value : Expr) (operator : AssignOp) → assign_operator m ≡ Some operator → binary_with below LEVELS from ≡ Ok (target, (m, p) ∷ behind) → below true behind ≡ Ok (value, left) → assign_with below from ≡ Ok (Assign (place_of target) target operator value, left)
+  assign_again : {free : ℕ} (m : Meaning) (p : Place) (from behind left : Tokens) (target value : Expr) (operator : AssignOp) → assign_operator m ≡ Some operator → Reads Expr free (binary_with below LEVELS from) (target, (m, p) ∷ behind) → Reads Expr free (below true behind) (value, left) → Reads Expr free (assign_with below from) (Assign (place_of target) target operator value, left)
   unfolding assign_with assign_from
-  assign_again m p from behind left target value operator o h v = rw (h, (assign_plain m operator o).3, o, v) refl
+  assign_again m p from behind left target value operator o h v = then_reads _ h (rw ((assign_plain m operator o).3, o) (then_reads _ v whole))
 
-  alone_again : (from left : Tokens) (e : Expr) → Ends left → binary_with below LEVELS from ≡ Ok (e, left) → assign_with below from ≡ Ok (e, left)
+  alone_again : {free : ℕ} (from left : Tokens) (e : Expr) → Ends left → Reads Expr free (binary_with below LEVELS from) (e, left) → Reads Expr free (assign_with below from) (e, left)
   unfolding assign_with
-  alone_again from left e s h = rw h (ends_assign below e left s)
+  alone_again from left e s h = then_reads _ h (as_read (ends_assign below e left s))
 
-  branches_again : (p q : Place) (from first second left : Tokens) (c a b : Expr) → binary_with below LEVELS from ≡ Ok (c, (sign signs.Question, p) ∷ first) → below true first ≡ Ok (a, (sign signs.Colon, q) ∷ second) → below true second ≡ Ok (b, left) → assign_with below from ≡ Ok (Conditional (place_of c) c a b, left)
+  branches_again : {free : ℕ} (p q : Place) (from first second left : Tokens) (c a b : Expr) → Reads Expr free (binary_with below LEVELS from) (c, (sign signs.Question, p) ∷ first) → Reads Expr free (below true first) (a, (sign signs.Colon, q) ∷ second) → Reads Expr free (below true second) (b, left) → Reads Expr free (assign_with below from) (Conditional (place_of c) c a b, left)
   unfolding assign_with assign_from branches_with is_sign same_sign
-  branches_again p q from first second left c a b h f g = rw (h, f, expect_again signs.Colon q second, g) refl
+  branches_again p q from first second left c a b h f g = then_reads _ h (then_reads _ f (rw (expect_again signs.Colon q second) (then_reads _ g whole)))
 
-  joined_again : (n : ℕ) (from behind left : Tokens) (first : Expr) (more : List Operation) → binary_with below n from ≡ Ok (first, behind) → ReadsAll (is_link n) (link_by n (binary_with below n)) behind more left → binary_with below (suc n) from ≡ Ok (chained first more, left)
+  joined_again : {free : ℕ} (n : ℕ) (from behind left : Tokens) (first : Expr) (more : List Operation) → Reads Expr free (binary_with below n from) (first, behind) → ReadsAll free (is_link n) (link_by n (binary_with below n)) behind more left → Reads Expr free (binary_with below (suc n) from) (chained first more, left)
   unfolding binary_with chain_by links_by
-  joined_again n from behind left first more h r = rw (h, r (length behind) (omega arith)) refl
+  joined_again n from behind left first more h r = then_reads _ h (then_reads _ (r (length behind) (omega arith)) whole)
 
   operator_again : (n : ℕ) (m : Meaning) (p : Place) (ts : Tokens) (o : BinaryOp) → binary_operator m ≡ Some o → level o ≡ suc n → operator_at n ((m, p) ∷ ts) ≡ Some (o, ts)
   unfolding operator_at
@@ -253,116 +253,127 @@ module _ (below : Below) where
   unfolding is_link
   link_begins n m p ts o h l = rw (operator_again n m p ts o h l) refl
 
-  link_again : (n : ℕ) (m : Meaning) (p : Place) (from behind : Tokens) (o : BinaryOp) (e : Expr) → binary_operator m ≡ Some o → level o ≡ suc n → binary_with below n from ≡ Ok (e, behind) → link_by n (binary_with below n) ((m, p) ∷ from) ≡ Ok (record { operator = o; operand = e }, behind)
+  link_again : {free : ℕ} (n : ℕ) (m : Meaning) (p : Place) (from behind : Tokens) (o : BinaryOp) (e : Expr) → binary_operator m ≡ Some o → level o ≡ suc n → Reads Expr free (binary_with below n from) (e, behind) → Reads Operation free (link_by n (binary_with below n) ((m, p) ∷ from)) (record { operator = o; operand = e }, behind)
   unfolding link_by
-  link_again n m p from behind o e h l r = rw (operator_again n m p from o h l, r) refl
+  link_again n m p from behind o e h l r = rw (operator_again n m p from o h l) (then_reads _ r whole)
 
-  applied_again : (m : Meaning) (p : Place) (from left : Tokens) (o : UnaryOp) (e : Expr) → unary_operator m ≡ Some o → below false from ≡ Ok (e, left) → unary_with below ((m, p) ∷ from) ≡ Ok (Unary p o e, left)
+  applied_again : {free : ℕ} (m : Meaning) (p : Place) (from left : Tokens) (o : UnaryOp) (e : Expr) → unary_operator m ≡ Some o → Reads Expr free (below false from) (e, left) → Reads Expr free (unary_with below ((m, p) ∷ from)) (Unary p o e, left)
   unfolding unary_with
-  applied_again m p from left o e h r = rw (h, r) refl
+  applied_again m p from left o e h r = rw h (then_reads _ r whole)
 
-  postfix_again : (from behind left : Tokens) (e : Expr) (more : List Suffix) → primary_with below from ≡ Ok (e, behind) → ReadsAll is_suffix (suffix_with below) behind more left → postfix_with below from ≡ Ok (suffixed e more, left)
+  postfix_again : {free : ℕ} (from behind left : Tokens) (e : Expr) (more : List Suffix) → Reads Expr free (primary_with below from) (e, behind) → ReadsAll free is_suffix (suffix_with below) behind more left → Reads Expr free (postfix_with below from) (suffixed e more, left)
   unfolding postfix_with suffixes_with
-  postfix_again from behind left e more h r = rw (h, r (length behind) (omega arith)) refl
+  postfix_again from behind left e more h r = then_reads _ h (then_reads _ (r (length behind) (omega arith)) whole)
 
   field_again : (p q : Place) (text : List ℕ) (left : Tokens) → next_is_sign signs.OpenParenthesis left ≡ false → suffix_with below ((sign signs.Dot, p) ∷ (name text, q) ∷ left) ≡ Ok (Field q text, left)
   unfolding suffix_with member_with
   field_again p q text left s = rw (name_again text q left, s) refl
 
-  method_again : (p q o : Place) (text : List ℕ) (from left : Tokens) (es : List Expr) → arguments_with below ((sign signs.OpenParenthesis, o) ∷ from) ≡ Ok (es, left) → suffix_with below ((sign signs.Dot, p) ∷ (name text, q) ∷ (sign signs.OpenParenthesis, o) ∷ from) ≡ Ok (Method q text (exprs es), left)
+  method_again : {free : ℕ} (p q o : Place) (text : List ℕ) (from left : Tokens) (es : List Expr) → Reads (List Expr) free (arguments_with below ((sign signs.OpenParenthesis, o) ∷ from)) (es, left) → Reads Suffix free (suffix_with below ((sign signs.Dot, p) ∷ (name text, q) ∷ (sign signs.OpenParenthesis, o) ∷ from)) (Method q text (exprs es), left)
   unfolding suffix_with member_with
-  method_again p q o text from left es h = rw (name_again text q ((sign signs.OpenParenthesis, o) ∷ from), next_is_sign-again signs.OpenParenthesis o from, h) refl
+  method_again p q o text from left es h = rw (name_again text q ((sign signs.OpenParenthesis, o) ∷ from), next_is_sign-again signs.OpenParenthesis o from) (then_reads _ h whole)
 
   named_again : (p : Place) (text : List ℕ) (left : Tokens) → next_is_sign signs.OpenParenthesis left ≡ false → primary_with below ((name text, p) ∷ left) ≡ Ok (Name p text, left)
   unfolding primary_with named_with primitive
   named_again p text left s = rw s refl
 
-  call_again : (p o : Place) (text : List ℕ) (from left : Tokens) (es : List Expr) → arguments_with below ((sign signs.OpenParenthesis, o) ∷ from) ≡ Ok (es, left) → primary_with below ((name text, p) ∷ (sign signs.OpenParenthesis, o) ∷ from) ≡ Ok (Call p text (exprs es), left)
+  call_again : {free : ℕ} (p o : Place) (text : List ℕ) (from left : Tokens) (es : List Expr) → Reads (List Expr) free (arguments_with below ((sign signs.OpenParenthesis, o) ∷ from)) (es, left) → Reads Expr free (primary_with below ((name text, p) ∷ (sign signs.OpenParenthesis, o) ∷ from)) (Call p text (exprs es), left)
   unfolding primary_with named_with primitive
-  call_again p o text from left es h = rw (next_is_sign-again signs.OpenParenthesis o from, h) refl
+  call_again p o text from left es h = rw (next_is_sign-again signs.OpenParenthesis o from) (then_reads _ h whole)
 
-  brackets_again : (p q : Place) (from left : Tokens) (e : Expr) → below true from ≡ Ok (e, (sign signs.CloseParenthesis, q) ∷ left) → primary_with below ((sign signs.OpenParenthesis, p) ∷ from) ≡ Ok (Brackets p e, left)
+  brackets_again : {free : ℕ} (p q : Place) (from left : Tokens) (e : Expr) → Reads Expr free (below true from) (e, (sign signs.CloseParenthesis, q) ∷ left) → Reads Expr free (primary_with below ((sign signs.OpenParenthesis, p) ∷ from)) (Brackets p e, left)
   unfolding primary_with primitive
-  brackets_again p q from left e h = rw (bracketed_again p q from left e h) refl
+  brackets_again p q from left e h = then_reads _ (bracketed_again p q from left e h) whole
 
-  convert_again : (m : Meaning) (k : Primitive) (p q r : Place) (from left : Tokens) (e : Expr) → primitive m ≡ Some k → below true from ≡ Ok (e, (sign signs.CloseParenthesis, r) ∷ left) → primary_with below ((m, p) ∷ (sign signs.OpenParenthesis, q) ∷ from) ≡ Ok (Convert p k e, left)
+  convert_again : {free : ℕ} (m : Meaning) (k : Primitive) (p q r : Place) (from left : Tokens) (e : Expr) → primitive m ≡ Some k → Reads Expr free (below true from) (e, (sign signs.CloseParenthesis, r) ∷ left) → Reads Expr free (primary_with below ((m, p) ∷ (sign signs.OpenParenthesis, q) ∷ from)) (Convert p k e, left)
   unfolding primary_with
-  convert_again m k p q r from left e o h = rw (o, bracketed_again q r from left e h) refl
+  convert_again m k p q r from left e o h = rw o (then_reads _ (bracketed_again q r from left e h) whole)
 
 question_stops : (p : Place) (ts : Tokens) → Stops LEVELS ((sign signs.Question, p) ∷ ts)
 unfolding is_sign same_sign begins_suffix binary_operator
 question_stops p ts = plain_stops LEVELS (sign signs.Question) p ts refl refl refl
 
+-- what begins here stands too deep, so that the limit is not asked of it
+pub past : (free n depth : ℕ) → (free < n → suc depth ≤ DEPTH) → depth + 0 ≡ DEPTH → n ≤ free
+past free n depth w d = grind arith
+
+-- where no deeper phrase may begin
+limit_cuts : (free : ℕ) (from left : Tokens) (e : Expr) → next_is begins from ≡ true → length from ≤ free → Reads Expr free (limit_at from) (e, left)
+unfolding limit_at
+limit_cuts free [] left e b l = absurd (no_true b)
+limit_cuts free ((m, p) ∷ ts) left e b l = rw b (cut {free = free} {more = ts} (omega arith))
+
 mutual
   unfolding below_at binary_with primary_with suffix_with primitive ends_expr
 
-  pub inner_read : {free depth : ℕ} {from left : Tokens} {e : Expr} → IsInner free depth from e left → (room : ℕ) → free ≡ 0 → depth + room ≡ 64 → Ends left → below_at room true from ≡ Ok (e, left)
-  inner_read (inner w a) zero z d s = let l = assign_shorter a in let k = w (omega arith) in absurd (omega arith)
-  inner_read (inner w a) (suc room) z d s = assign_read a room z (omega arith) s
+  pub inner_read : {free depth : ℕ} {from left : Tokens} {e : Expr} → IsInner free depth from e left → (room : ℕ) → depth + room ≡ DEPTH → Ends left → Reads Expr free (below_at room true from) (e, left)
+  inner_read (inner {free = free} {depth = depth} {from = from} {left = left} {e = e} w a) zero d s = limit_cuts free from left e (assign_begins a) (past free (length from) depth w d)
+  inner_read (inner w a) (suc room) d s = assign_read a room (omega arith) s
 
-  pub exprs_read : {free depth : ℕ} {from left : Tokens} {es : List Expr} → AreExprs free depth from es left → (room : ℕ) → free ≡ 0 → depth + room ≡ 64 → Closes left → exprs_with (below_at room) from ≡ Ok (es, left)
-  exprs_read (no_exprs {left = left}) room z d s = exprs_none (below_at room) left s
-  exprs_read (some_exprs {from = from} {behind = behind} {left = left} {e = e} {es = es} a b) room z d s =
-      exprs_some (below_at room) from behind left e es (inner_begins a) (inner_read a room z d (more_end b s)) (more_exprs_read b room z d s)
+  pub exprs_read : {free depth : ℕ} {from left : Tokens} {es : List Expr} → AreExprs free depth from es left → (room : ℕ) → depth + room ≡ DEPTH → Closes left → Reads (List Expr) free (exprs_with (below_at room) from) (es, left)
+  exprs_read (no_exprs {left = left}) room d s = as_read (exprs_none (below_at room) left s)
+  exprs_read (some_exprs {from = from} {behind = behind} {left = left} {e = e} {es = es} a b) room d s =
+      exprs_some (below_at room) from behind left e es (inner_begins a) (inner_read a room d (more_end b s)) (more_exprs_read b room d s)
 
-  more_exprs_read : {free depth : ℕ} {from left : Tokens} {es : List Expr} → AreMoreExprs free depth from es left → (room : ℕ) → free ≡ 0 → depth + room ≡ 64 → Closes left → ReadsAll (next_is_sign signs.Comma) (next_expr_with (below_at room)) from es left
-  more_exprs_read (no_more_exprs {left = left}) room z d s = none_again (next_is_sign signs.Comma) (next_expr_with (below_at room)) left (close_ends left s).1
-  more_exprs_read (more_exprs {p = p} {from = from} {behind = behind} {left = left} {e = e} {es = es} a b) room z d s =
+  more_exprs_read : {free depth : ℕ} {from left : Tokens} {es : List Expr} → AreMoreExprs free depth from es left → (room : ℕ) → depth + room ≡ DEPTH → Closes left → ReadsAll free (next_is_sign signs.Comma) (next_expr_with (below_at room)) from es left
+  more_exprs_read (no_more_exprs {left = left}) room d s = none_again _ (next_is_sign signs.Comma) (next_expr_with (below_at room)) left (close_ends left s).1
+  more_exprs_read (more_exprs {p = p} {from = from} {behind = behind} {left = left} {e = e} {es = es} a b) room d s =
       let l = inner_shorter a in
-      one_again (next_is_sign signs.Comma) (next_expr_with (below_at room)) ((sign signs.Comma, p) ∷ from) behind left e es (next_is_sign-again signs.Comma p from) (next_expr_again (below_at room) p from behind e (inner_read a room z d (more_end b s))) (omega arith) (more_exprs_read b room z d s)
+      one_again _ (next_is_sign signs.Comma) (next_expr_with (below_at room)) ((sign signs.Comma, p) ∷ from) behind left e es (next_is_sign-again signs.Comma p from) (next_expr_again (below_at room) p from behind e (inner_read a room d (more_end b s))) (omega arith) (more_exprs_read b room d s)
 
-  pub args_read : {free depth : ℕ} {from left : Tokens} {es : List Expr} → IsArgs free depth from es left → (room : ℕ) → free ≡ 0 → depth + room ≡ 64 → arguments_with (below_at room) from ≡ Ok (es, left)
-  args_read (args {p = p} {q = q} {from = from} {left = left} {es = es} a) room z d = args_again (below_at room) p q from left es (exprs_read a room z d (next_is_sign-again signs.CloseParenthesis q left))
+  pub args_read : {free depth : ℕ} {from left : Tokens} {es : List Expr} → IsArgs free depth from es left → (room : ℕ) → depth + room ≡ DEPTH → Reads (List Expr) free (arguments_with (below_at room) from) (es, left)
+  args_read (args {p = p} {q = q} {from = from} {left = left} {es = es} a) room d = args_again (below_at room) p q from left es (exprs_read a room d (next_is_sign-again signs.CloseParenthesis q left))
 
-  pub assign_read : {free depth : ℕ} {from left : Tokens} {e : Expr} → IsAssign free depth from e left → (room : ℕ) → free ≡ 0 → depth + room ≡ 64 → Ends left → assign_with (below_at room) from ≡ Ok (e, left)
-  assign_read (no_assign a) room z d s = cond_read a room z d s
-  assign_read (assign {m = m} {p = p} {from = from} {behind = behind} {left = left} {target = target} {value = value} {operator = operator} a o b) room z d s =
+  pub assign_read : {free depth : ℕ} {from left : Tokens} {e : Expr} → IsAssign free depth from e left → (room : ℕ) → depth + room ≡ DEPTH → Ends left → Reads Expr free (assign_with (below_at room) from) (e, left)
+  assign_read (no_assign a) room d s = cond_read a room d s
+  assign_read (assign {m = m} {p = p} {from = from} {behind = behind} {left = left} {target = target} {value = value} {operator = operator} a o b) room d s =
       let q = assign_plain m operator o in
-      assign_again (below_at room) m p from behind left target value operator o (binary_read a room z d (plain_stops LEVELS m p behind q.0 q.1 q.2)) (inner_read b room z d s)
+      assign_again (below_at room) m p from behind left target value operator o (binary_read a room d (plain_stops LEVELS m p behind q.0 q.1 q.2)) (inner_read b room d s)
 
-  cond_read : {free depth : ℕ} {from left : Tokens} {e : Expr} → IsCond free depth from e left → (room : ℕ) → free ≡ 0 → depth + room ≡ 64 → Ends left → assign_with (below_at room) from ≡ Ok (e, left)
-  cond_read (no_branch {from = from} {left = left} {e = e} a) room z d s = alone_again (below_at room) from left e s (binary_read a room z d (ends_stop LEVELS left s))
-  cond_read (branches {p = p} {q = q} {from = from} {first = first} {second = second} {left = left} {c = c} {a = a} {b = b} i j k) room z d s =
-      branches_again (below_at room) p q from first second left c a b (binary_read i room z d (question_stops p first)) (inner_read j room z d refl) (inner_read k room z d s)
+  cond_read : {free depth : ℕ} {from left : Tokens} {e : Expr} → IsCond free depth from e left → (room : ℕ) → depth + room ≡ DEPTH → Ends left → Reads Expr free (assign_with (below_at room) from) (e, left)
+  cond_read (no_branch {from = from} {left = left} {e = e} a) room d s = alone_again (below_at room) from left e s (binary_read a room d (ends_stop LEVELS left s))
+  cond_read (branches {p = p} {q = q} {from = from} {first = first} {second = second} {left = left} {c = c} {a = a} {b = b} i j k) room d s =
+      branches_again (below_at room) p q from first second left c a b (binary_read i room d (question_stops p first)) (inner_read j room d refl) (inner_read k room d s)
 
-  binary_read : {free depth n : ℕ} {from left : Tokens} {e : Expr} → IsBinary free depth n from e left → (room : ℕ) → free ≡ 0 → depth + room ≡ 64 → Stops n left → binary_with (below_at room) n from ≡ Ok (e, left)
-  binary_read (operand a) room z d s = unary_read a room z d s
-  binary_read (joined {n = n} {from = from} {behind = behind} {left = left} {first = first} {more = more} a b) room z d s =
-      joined_again (below_at room) n from behind left first more (binary_read a room z d (links_stop b s)) (links_read b room z d s)
+  binary_read : {free depth n : ℕ} {from left : Tokens} {e : Expr} → IsBinary free depth n from e left → (room : ℕ) → depth + room ≡ DEPTH → Stops n left → Reads Expr free (binary_with (below_at room) n from) (e, left)
+  binary_read (operand a) room d s = unary_read a room d s
+  binary_read (joined {n = n} {from = from} {behind = behind} {left = left} {first = first} {more = more} a b) room d s =
+      joined_again (below_at room) n from behind left first more (binary_read a room d (links_stop b s)) (links_read b room d s)
 
-  links_read : {free depth n : ℕ} {from left : Tokens} {more : List Operation} → AreLinks free depth n from more left → (room : ℕ) → free ≡ 0 → depth + room ≡ 64 → Stops (suc n) left → ReadsAll (is_link n) (link_by n (binary_with (below_at room) n)) from more left
-  links_read (no_links {n = n} {left = left}) room z d s = none_again (is_link n) (link_by n (binary_with (below_at room) n)) left (s.2 n (omega arith))
-  links_read (more_links {n = n} {m = m} {p = p} {from = from} {behind = behind} {left = left} {operator = operator} {operand = right} {more = more} o l a b) room z d s =
+  links_read : {free depth n : ℕ} {from left : Tokens} {more : List Operation} → AreLinks free depth n from more left → (room : ℕ) → depth + room ≡ DEPTH → Stops (suc n) left → ReadsAll free (is_link n) (link_by n (binary_with (below_at room) n)) from more left
+  links_read (no_links {n = n} {left = left}) room d s = none_again _ (is_link n) (link_by n (binary_with (below_at room) n)) left (s.2 n (omega arith))
+  links_read (more_links {n = n} {m = m} {p = p} {from = from} {behind = behind} {left = left} {operator = operator} {operand = right} {more = more} o l a b) room d s =
       let k = binary_shorter a in
-      one_again (is_link n) (link_by n (binary_with (below_at room) n)) ((m, p) ∷ from) behind left (record { operator = operator; operand = right }) more (link_begins (below_at room) n m p from operator o l) (link_again (below_at room) n m p from behind operator right o l (binary_read a room z d (links_stop b s))) (omega arith) (links_read b room z d s)
+      one_again _ (is_link n) (link_by n (binary_with (below_at room) n)) ((m, p) ∷ from) behind left (record { operator = operator; operand = right }) more (link_begins (below_at room) n m p from operator o l) (link_again (below_at room) n m p from behind operator right o l (binary_read a room d (links_stop b s))) (omega arith) (links_read b room d s)
 
-  unary_read : {free depth : ℕ} {from left : Tokens} {e : Expr} → IsUnary free depth from e left → (room : ℕ) → free ≡ 0 → depth + room ≡ 64 → Stops 0 left → unary_with (below_at room) from ≡ Ok (e, left)
-  unary_read (applied {m = m} {p = p} {from = from} {left = left} {operator = operator} {e = e} o w a) zero z d s = let l = unary_shorter a in let k = w (omega arith) in absurd (omega arith)
-  unary_read (applied {m = m} {p = p} {from = from} {left = left} {operator = operator} {e = e} o w a) (suc room) z d s =
-      applied_again (below_at (suc room)) m p from left operator e o (unary_read a room z (omega arith) s)
-  unary_read (postfix {from = from} {behind = behind} {left = left} {e = e} {more = more} a b) room z d s =
-      rw (primary_alone (below_at room) a) (postfix_again (below_at room) from behind left e more (primary_read a room z d (suffixes_open b s.0)) (suffixes_read b room z d s))
+  unary_read : {free depth : ℕ} {from left : Tokens} {e : Expr} → IsUnary free depth from e left → (room : ℕ) → depth + room ≡ DEPTH → Stops 0 left → Reads Expr free (unary_with (below_at room) from) (e, left)
+  unary_read (applied {free = free} {depth = depth} {m = m} {p = p} {from = from} {left = left} {operator = operator} {e = e} o w a) zero d s =
+      applied_again (below_at zero) m p from left operator e o (limit_cuts free from left e (unary_phrase_begins a) (past free (length from) depth w d))
+  unary_read (applied {m = m} {p = p} {from = from} {left = left} {operator = operator} {e = e} o w a) (suc room) d s =
+      applied_again (below_at (suc room)) m p from left operator e o (unary_read a room (omega arith) s)
+  unary_read (postfix {from = from} {behind = behind} {left = left} {e = e} {more = more} a b) room d s =
+      rw (primary_alone (below_at room) a) (postfix_again (below_at room) from behind left e more (primary_read a room d (suffixes_open b s.0)) (suffixes_read b room d s))
 
-  suffixes_read : {free depth : ℕ} {from left : Tokens} {more : List Suffix} → AreSuffixes free depth from more left → (room : ℕ) → free ≡ 0 → depth + room ≡ 64 → Stops 0 left → ReadsAll is_suffix (suffix_with (below_at room)) from more left
-  suffixes_read (no_suffixes {left = left}) room z d s = none_again is_suffix (suffix_with (below_at room)) left s.1
-  suffixes_read (more_suffixes {from = from} {behind = behind} {left = left} {s = x} {more = more} a b) room z d s =
-      one_again is_suffix (suffix_with (below_at room)) from behind left x more (suffix_begins a) (suffix_read a room z d (suffixes_open b s.0)) (suffix_shorter a) (suffixes_read b room z d s)
+  suffixes_read : {free depth : ℕ} {from left : Tokens} {more : List Suffix} → AreSuffixes free depth from more left → (room : ℕ) → depth + room ≡ DEPTH → Stops 0 left → ReadsAll free is_suffix (suffix_with (below_at room)) from more left
+  suffixes_read (no_suffixes {left = left}) room d s = none_again _ is_suffix (suffix_with (below_at room)) left s.1
+  suffixes_read (more_suffixes {from = from} {behind = behind} {left = left} {s = x} {more = more} a b) room d s =
+      one_again _ is_suffix (suffix_with (below_at room)) from behind left x more (suffix_begins a) (suffix_read a room d (suffixes_open b s.0)) (suffix_shorter a) (suffixes_read b room d s)
 
-  suffix_read : {free depth : ℕ} {from left : Tokens} {x : Suffix} → IsSuffix free depth from x left → (room : ℕ) → free ≡ 0 → depth + room ≡ 64 → next_is_sign signs.OpenParenthesis left ≡ false → suffix_with (below_at room) from ≡ Ok (x, left)
-  suffix_read (field {p = p} {q = q} {text = text} {left = left}) room z d s = field_again (below_at room) p q text left s
-  suffix_read (method {p = p} {q = q} {text = text} {left = left} {es = es} (args {p = o} {q = c} {from = from} a)) room z d s =
-      method_again (below_at room) p q o text from left es (args_again (below_at room) o c from left es (exprs_read a room z d (next_is_sign-again signs.CloseParenthesis c left)))
-  suffix_read increment room z d s = refl
-  suffix_read decrement room z d s = refl
+  suffix_read : {free depth : ℕ} {from left : Tokens} {x : Suffix} → IsSuffix free depth from x left → (room : ℕ) → depth + room ≡ DEPTH → next_is_sign signs.OpenParenthesis left ≡ false → Reads Suffix free (suffix_with (below_at room) from) (x, left)
+  suffix_read (field {p = p} {q = q} {text = text} {left = left}) room d s = as_read (field_again (below_at room) p q text left s)
+  suffix_read (method {p = p} {q = q} {text = text} {left = left} {es = es} (args {p = o} {q = c} {from = from} a)) room d s =
+      method_again (below_at room) p q o text from left es (args_again (below_at room) o c from left es (exprs_read a room d (next_is_sign-again signs.CloseParenthesis c left)))
+  suffix_read increment room d s = whole
+  suffix_read decrement room d s = whole
 
-  primary_read : {free depth : ℕ} {from left : Tokens} {e : Expr} → IsPrimary free depth from e left → (room : ℕ) → free ≡ 0 → depth + room ≡ 64 → next_is_sign signs.OpenParenthesis left ≡ false → primary_with (below_at room) from ≡ Ok (e, left)
-  primary_read numeral room z d s = refl
-  primary_read yes room z d s = refl
-  primary_read no room z d s = refl
-  primary_read null room z d s = refl
-  primary_read this room z d s = refl
-  primary_read (named {p = p} {text = text} {left = left}) room z d s = named_again (below_at room) p text left s
-  primary_read (call {p = p} {text = text} {left = left} {es = es} (args {p = o} {q = c} {from = from} a)) room z d s =
-      call_again (below_at room) p o text from left es (args_again (below_at room) o c from left es (exprs_read a room z d (next_is_sign-again signs.CloseParenthesis c left)))
-  primary_read (brackets {p = p} {q = q} {from = from} {left = left} {e = e} a) room z d s = brackets_again (below_at room) p q from left e (inner_read a room z d refl)
-  primary_read (convert {m = m} {p = p} {q = q} {r = r} {to = to} {from = from} {left = left} {e = e} k a) room z d s = convert_again (below_at room) m to p q r from left e k (inner_read a room z d refl)
+  primary_read : {free depth : ℕ} {from left : Tokens} {e : Expr} → IsPrimary free depth from e left → (room : ℕ) → depth + room ≡ DEPTH → next_is_sign signs.OpenParenthesis left ≡ false → Reads Expr free (primary_with (below_at room) from) (e, left)
+  primary_read numeral room d s = whole
+  primary_read yes room d s = whole
+  primary_read no room d s = whole
+  primary_read null room d s = whole
+  primary_read this room d s = whole
+  primary_read (named {p = p} {text = text} {left = left}) room d s = as_read (named_again (below_at room) p text left s)
+  primary_read (call {p = p} {text = text} {left = left} {es = es} (args {p = o} {q = c} {from = from} a)) room d s =
+      call_again (below_at room) p o text from left es (args_again (below_at room) o c from left es (exprs_read a room d (next_is_sign-again signs.CloseParenthesis c left)))
+  primary_read (brackets {p = p} {q = q} {from = from} {left = left} {e = e} a) room d s = brackets_again (below_at room) p q from left e (inner_read a room d refl)
+  primary_read (convert {m = m} {p = p} {q = q} {r = r} {to = to} {from = from} {left = left} {e = e} k a) room d s = convert_again (below_at room) m to p q r from left e k (inner_read a room d refl)

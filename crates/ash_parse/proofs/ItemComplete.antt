@@ -1,10 +1,11 @@
--- What is in the grammar of modules and of registered declarations is read, so that each has one tree.
-use Rattle.std.proofs.Common.{◌≡◌, ℕ, List, [], ◌∷◌, length, true, false, Option, Some, Ok, refl, sym, ap, subst, ◌∙◌, arith}
+-- What is in the grammar of modules and of registered declarations is read, or reading is cut where a token stands too
+-- deep, so that tokens have one tree.
+use Rattle.std.proofs.Common.{◌≡◌, ℕ, List, [], ◌∷◌, length, true, false, ◌≤◌, ◌⊎◌, Option, Some, Ok, Err, refl, sym, ap, subst, ◌∙◌, arith}
 use Rattle.ash_lex.specs.Tokens.{name, sign}
 use Rattle.ash_lex.specs.declared.signs.Sign.TheVariants as signs
 use Rattle.ash_lex.specs.declared.tokens.Token.{Token}
 use Rattle.ash_tree.specs.declared.tree.places.Place.{Place}
-use Rattle.ash_tree.specs.Tree.{Named, Vars, Stmt, Parameter, Function, Member, Item, AFunction, AGlobal, Declaration, AProperty}
+use Rattle.ash_tree.specs.Tree.{Named, Vars, Stmt, Parameter, Function, Constructor, Member, Class, Item, AFunction, AGlobal, Declaration, AProperty}
 use Rattle.ash_tree.specs.Tokens.{Tokens}
 use Rattle.ash_tree.specs.Expressions.{DEPTH}
 use Rattle.ash_tree.specs.Statements.{IsVars, IsBlock}
@@ -12,7 +13,7 @@ use Rattle.ash_tree.specs.Grammar.{IsResultType, void, typed, IsParameter, param
 use Rattle.ash_parse.specs.declared.faults.ParseFault.{ParseFault}
 use Rattle.ash_parse.specs.declared.faults.ParseFault.TheVariants as faults
 use Rattle.ash_parse.specs.Signs.{is_sign, same_sign}
-use Rattle.ash_parse.specs.Reading.{Reading, next_is, next_is_sign}
+use Rattle.ash_parse.specs.Reading.{TooDeep, Reading, next_is, next_is_sign}
 use Rattle.ash_parse.specs.ExpressionReader.{begins}
 use Rattle.ash_parse.specs.StatementReader.{is_name, next_is_name, type_at, goes_on}
 use Rattle.ash_parse.specs.ItemReader.{is_void, is_class, result_type_at, parameter_at, next_parameter_at, more_parameters_at, parameter_list_at, parameters_at, body_at, function_at, globals_at, behind, is_function, constructor_at, member_at, members_at, class_at, item_at, strip, entry_at, is_left, entries_at, module_at, unnamed_at, next_unnamed_at, more_unnamed_at, unnamed_list_at, unnamed_parameters_at, declaration_behind, declaration_at}
@@ -20,7 +21,7 @@ use Rattle.ash_parse.specs.Faults.{IsFault, whole_declaration_at}
 use Rattle.ash_parse.specs.Unique.{HasOneModule, HasOneDeclaration}
 use Rattle.ash_parse.proofs.Readings.{ok_is, expect_again, next_is_sign-again, name_again}
 use Rattle.ash_parse.proofs.ItemShorter.{parameter_shorter, member_shorter, item_shorter, unnamed_shorter, strip_shorter, strip-done, no_more_left}
-use Rattle.ash_parse.proofs.Rereading.{no_true, ReadsAll, none_again, one_again}
+use Rattle.ash_parse.proofs.Rereading.{no_true, Reads, whole, as_read, then_reads, is_cut, is_whole, ReadsAll, none_again, one_again}
 use Rattle.ash_parse.proofs.ExpressionComplete.{Closes, begins_no_close, close_ends}
 use Rattle.ash_parse.proofs.VarsComplete.{Follows, ends_follow, type_read, type_begins, declared_read}
 use Rattle.ash_parse.proofs.StatementComplete.{brace_rests, block_read}
@@ -51,86 +52,93 @@ next_parameter_again : (p : Place) (from left : Tokens) (x : Parameter) → para
 unfolding next_parameter_at
 next_parameter_again p from left x h = rw (expect_again signs.Comma p from) h
 
-more_parameters_read : {from left : Tokens} {xs : List Parameter} → AreMoreParameters from xs left → Closes left → ReadsAll (next_is_sign signs.Comma) next_parameter_at from xs left
-more_parameters_read (no_more_parameters {left = left}) s = none_again (next_is_sign signs.Comma) next_parameter_at left (close_ends left s).1
+more_parameters_read : {from left : Tokens} {xs : List Parameter} → AreMoreParameters from xs left → Closes left → ReadsAll 0 (next_is_sign signs.Comma) next_parameter_at from xs left
+more_parameters_read (no_more_parameters {left = left}) s = none_again 0 (next_is_sign signs.Comma) next_parameter_at left (close_ends left s).1
 more_parameters_read (more_parameters {p = p} {from = from} {behind = next} {left = left} {x = x} {xs = xs} a b) s =
     let l = parameter_shorter a in
-    one_again (next_is_sign signs.Comma) next_parameter_at ((sign signs.Comma, p) ∷ from) next left x xs (next_is_sign-again signs.Comma p from) (next_parameter_again p from next x (parameter_read a)) (omega arith) (more_parameters_read b s)
+    one_again 0 (next_is_sign signs.Comma) next_parameter_at ((sign signs.Comma, p) ∷ from) next left x xs (next_is_sign-again signs.Comma p from) (as_read (next_parameter_again p from next x (parameter_read a))) (omega arith) (more_parameters_read b s)
 
 parameters_read : {from left : Tokens} {xs : List Parameter} → AreParameters from xs left → parameters_at from ≡ Ok (xs, left)
 unfolding parameters_at parameter_list_at more_parameters_at
 parameters_read (no_parameters {p = p} {q = q} {left = left}) = rw (expect_again signs.OpenParenthesis p ((sign signs.CloseParenthesis, q) ∷ left), next_is_sign-again signs.CloseParenthesis q left, expect_again signs.CloseParenthesis q left) refl
 parameters_read (parameters {p = p} {q = q} {from = from} {behind = next} {left = left} {x = x} {xs = xs} a b) =
-    rw (expect_again signs.OpenParenthesis p from, begins_no_close from (parameter_begins a), parameter_read a, more_parameters_read b (next_is_sign-again signs.CloseParenthesis q left) (length next) (omega arith), expect_again signs.CloseParenthesis q left) refl
+    rw (expect_again signs.OpenParenthesis p from, begins_no_close from (parameter_begins a), parameter_read a, is_whole (more_parameters_read b (next_is_sign-again signs.CloseParenthesis q left) (length next) (omega arith)) refl, expect_again signs.CloseParenthesis q left) refl
 
-body_read : {free : ℕ} {from left : Tokens} {ss : List Stmt} → IsBlock free 0 from ss left → free ≡ 0 → body_at from ≡ Ok (ss, left)
+body_read : {free : ℕ} {from left : Tokens} {ss : List Stmt} → IsBlock free 0 from ss left → Reads (List Stmt) free (body_at from) (ss, left)
 unfolding body_at
-body_read a z = block_read a DEPTH z (omega arith)
+body_read a = block_read a DEPTH (omega arith)
 
-function_read : {free : ℕ} {from left : Tokens} {f : Function} → IsFunction free from f left → free ≡ 0 → function_at from ≡ Ok (f, left)
+function_read : {free : ℕ} {from left : Tokens} {f : Function} → IsFunction free from f left → Reads Function free (function_at from) (f, left)
 unfolding function_at
-function_read (function {p = p} {text = text} {behind = next} a b c) z = rw (result_type_read a (name_no_handle text p next), name_again text p next, parameters_read b, body_read c z) refl
+function_read (function {p = p} {text = text} {behind = next} a b c) = rw (result_type_read a (name_no_handle text p next), name_again text p next, parameters_read b) (then_reads _ (body_read c) whole)
 
-globals_read : {free : ℕ} {from : Tokens} {v : Vars} (p : Place) (left : Tokens) → IsVars free 0 from v ((sign signs.Semicolon, p) ∷ left) → free ≡ 0 → globals_at from ≡ Ok (v, left)
+globals_read : {free : ℕ} {from : Tokens} {v : Vars} (p : Place) (left : Tokens) → IsVars free 0 from v ((sign signs.Semicolon, p) ∷ left) → Reads Vars free (globals_at from) (v, left)
 unfolding globals_at
-globals_read p left a z = declared_read p left a DEPTH z (omega arith)
+globals_read p left a = declared_read p left a DEPTH (omega arith)
 
-constructor_again : (p : Place) (text : List ℕ) (from inside left : Tokens) (xs : List Parameter) (body : List Stmt) → parameters_at from ≡ Ok (xs, inside) → body_at inside ≡ Ok (body, left) → constructor_at ((name text, p) ∷ from) ≡ Ok (record { place = p; name = text; parameters = xs; body = body }, left)
+constructor_again : {free : ℕ} (p : Place) (text : List ℕ) (from inside left : Tokens) (xs : List Parameter) (body : List Stmt) → parameters_at from ≡ Ok (xs, inside) → Reads (List Stmt) free (body_at inside) (body, left) → Reads Constructor free (constructor_at ((name text, p) ∷ from)) (record { place = p; name = text; parameters = xs; body = body }, left)
 unfolding constructor_at
-constructor_again p text from inside left xs body h i = rw (name_again text p from, h, i) refl
+constructor_again p text from inside left xs body h i = rw (name_again text p from, h) (then_reads _ i whole)
 
-member_read : {free : ℕ} {from left : Tokens} {x : Member} → IsMember free from x left → free ≡ 0 → member_at from ≡ Ok (x, left)
+member_read : {free : ℕ} {from left : Tokens} {x : Member} → IsMember free from x left → Reads Member free (member_at from) (x, left)
 unfolding member_at
-member_read (method f) z = rw (function_no_constructor f, function_function f, function_read f z) refl
-member_read (fields {p = p} {left = left} v) z = rw (vars_no_constructor v, vars_no_function v (next_is_sign-again signs.Semicolon p left), globals_read p left v z) refl
-member_read (constructor {p = p} {text = text} {from = from} {inside = inside} {left = left} {xs = xs} {body = body} a b) z = rw (constructor_constructor text p a, constructor_again p text from inside left xs body (parameters_read a) (body_read b z)) refl
+member_read (method f) = rw (function_no_constructor f, function_function f) (then_reads _ (function_read f) whole)
+member_read (fields {p = p} {left = left} v) = rw (vars_no_constructor v, vars_no_function v (next_is_sign-again signs.Semicolon p left)) (then_reads _ (globals_read p left v) whole)
+member_read (constructor {p = p} {text = text} {from = from} {inside = inside} {left = left} {xs = xs} {body = body} a b) = rw (constructor_constructor text p a) (then_reads _ (constructor_again p text from inside left xs body (parameters_read a) (body_read b)) whole)
 
-members_read : {free : ℕ} {from left : Tokens} {xs : List Member} → AreMembers free from xs left → free ≡ 0 → goes_on left ≡ false → ReadsAll goes_on member_at from xs left
-members_read (no_members {left = left}) z s = none_again goes_on member_at left s
-members_read (more_members {from = from} {behind = next} {left = left} {x = x} {xs = xs} a b) z s =
-    one_again goes_on member_at from next left x xs (member_goes a) (member_read a z) (member_shorter a) (members_read b z s)
+members_read : {free : ℕ} {from left : Tokens} {xs : List Member} → AreMembers free from xs left → goes_on left ≡ false → ReadsAll free goes_on member_at from xs left
+members_read (no_members {left = left}) s = none_again _ goes_on member_at left s
+members_read (more_members {from = from} {behind = next} {left = left} {x = x} {xs = xs} a b) s =
+    one_again _ goes_on member_at from next left x xs (member_goes a) (member_read a) (member_shorter a) (members_read b s)
 
-class_again : (q o w : Place) (text : List ℕ) (from left : Tokens) (xs : List Member) → ReadsAll goes_on member_at from xs ((sign signs.CloseBrace, w) ∷ left) → class_at ((name text, q) ∷ (sign signs.OpenBrace, o) ∷ from) ≡ Ok (record { place = q; name = text; members = xs }, left)
+class_again : {free : ℕ} (q o w : Place) (text : List ℕ) (from left : Tokens) (xs : List Member) → ReadsAll free goes_on member_at from xs ((sign signs.CloseBrace, w) ∷ left) → Reads Class free (class_at ((name text, q) ∷ (sign signs.OpenBrace, o) ∷ from)) (record { place = q; name = text; members = xs }, left)
 unfolding class_at members_at
-class_again q o w text from left xs r = rw (name_again text q ((sign signs.OpenBrace, o) ∷ from), expect_again signs.OpenBrace o from, r (length from) (omega arith), expect_again signs.CloseBrace w left) refl
+class_again q o w text from left xs r = rw (name_again text q ((sign signs.OpenBrace, o) ∷ from), expect_again signs.OpenBrace o from) (then_reads _ (r (length from) (omega arith)) (rw (expect_again signs.CloseBrace w left) whole))
 
-function_again : (from left : Tokens) (f : Function) → is_left from ≡ true → next_is is_class from ≡ false → is_function from ≡ true → function_at from ≡ Ok (f, left) → item_at from ≡ Ok (AFunction f, left)
+function_again : {free : ℕ} (from left : Tokens) (f : Function) → is_left from ≡ true → next_is is_class from ≡ false → is_function from ≡ true → Reads Function free (function_at from) (f, left) → Reads Item free (item_at from) (AFunction f, left)
 unfolding item_at is_left
 function_again [] left f l c i h = absurd (no_true l)
-function_again ((m, p) ∷ ts) left f l c i h = rw (c, i, h) refl
+function_again ((m, p) ∷ ts) left f l c i h = rw (c, i) (then_reads _ h whole)
 
-globals_again : (from left : Tokens) (v : Vars) → is_left from ≡ true → next_is is_class from ≡ false → is_function from ≡ false → globals_at from ≡ Ok (v, left) → item_at from ≡ Ok (AGlobal v, left)
+globals_again : {free : ℕ} (from left : Tokens) (v : Vars) → is_left from ≡ true → next_is is_class from ≡ false → is_function from ≡ false → Reads Vars free (globals_at from) (v, left) → Reads Item free (item_at from) (AGlobal v, left)
 unfolding item_at is_left
 globals_again [] left v l c i h = absurd (no_true l)
-globals_again ((m, p) ∷ ts) left v l c i h = rw (c, i, h) refl
+globals_again ((m, p) ∷ ts) left v l c i h = rw (c, i) (then_reads _ h whole)
 
 brace_ends : (p : Place) (left : Tokens) → goes_on ((sign signs.CloseBrace, p) ∷ left) ≡ false
 brace_ends p left = (brace_rests p left).0
 
-item_read : {free : ℕ} {from left : Tokens} {x : Item} → IsItem free from x left → free ≡ 0 → item_at from ≡ Ok (x, left)
+item_read : {free : ℕ} {from left : Tokens} {x : Item} → IsItem free from x left → Reads Item free (item_at from) (x, left)
 unfolding item_at is_class
-item_read (a_class (class {q = q} {o = o} {z = w} {text = text} {from = from} {left = left} {xs = xs} a)) z = rw (class_again q o w text from left xs (members_read a z (brace_ends w left))) refl
-item_read (a_function {from = from} {left = left} {f = f} a) z = let q = function_heads a in function_again from left f q.2 q.0 (function_function a) (function_read a z)
-item_read (globals {p = p} {from = from} {left = left} {v = v} a) z = let q = vars_heads a in globals_again from left v q.2 q.0 (vars_no_function a (next_is_sign-again signs.Semicolon p left)) (globals_read p left a z)
+item_read (a_class (class {q = q} {o = o} {z = w} {text = text} {from = from} {left = left} {xs = xs} a)) = then_reads _ (class_again q o w text from left xs (members_read a (brace_ends w left))) whole
+item_read (a_function {from = from} {left = left} {f = f} a) = let q = function_heads a in function_again from left f q.2 q.0 (function_function a) (function_read a)
+item_read (globals {p = p} {from = from} {left = left} {v = v} a) = let q = vars_heads a in globals_again from left v q.2 q.0 (vars_no_function a (next_is_sign-again signs.Semicolon p left)) (globals_read p left a)
 
-entry_again : (from left : Tokens) (x : Item) → item_at from ≡ Ok (x, left) → entry_at from ≡ Ok (x, strip left)
+entry_again : {free : ℕ} (from left : Tokens) (x : Item) → Reads Item free (item_at from) (x, left) → Reads Item free (entry_at from) (x, strip left)
 unfolding entry_at
-entry_again from left x h = rw h refl
+entry_again from left x h = then_reads _ h whole
 
-entries_read : {free : ℕ} {ts : Tokens} {xs : List Item} → Derives free ts xs → free ≡ 0 → ReadsAll is_left entry_at (strip ts) xs []
+entries_read : {free : ℕ} {ts : Tokens} {xs : List Item} → Derives free ts xs → ReadsAll free is_left entry_at (strip ts) xs []
 unfolding strip is_sign same_sign
-entries_read no_items z = none_again is_left entry_at [] no_more_left
-entries_read (semicolon d) z = entries_read d z
-entries_read (item {from = from} {behind = next} {x = x} {xs = xs} i d) z =
+entries_read no_items = none_again _ is_left entry_at [] no_more_left
+entries_read (semicolon d) = entries_read d
+entries_read (item {free = free} {from = from} {behind = next} {x = x} {xs = xs} i d) =
     let q = item_heads i in
     let a = item_shorter i in
     let b = strip_shorter next in
-    subst (λ s. ReadsAll is_left entry_at s (x ∷ xs) []) (sym (strip-done from q.0)) (one_again is_left entry_at from (strip next) [] x xs q.1 (entry_again from next x (item_read i z)) (omega arith) (entries_read d z))
+    subst (λ s. ReadsAll free is_left entry_at s (x ∷ xs) []) (sym (strip-done from q.0)) (one_again free is_left entry_at from (strip next) [] x xs q.1 (entry_again from next x (item_read i)) (omega arith) (entries_read d))
 
--- the items that tokens derive are read
-pub module_read : (ts : Tokens) (xs : List Item) → Derives 0 ts xs → module_at ts ≡ Ok (xs, [])
+-- the items that tokens derive are read, or reading is cut at the depth
+pub module_reads : (free : ℕ) (ts : Tokens) (xs : List Item) → Derives free ts xs → Reads (List Item) free (module_at ts) (xs, [])
 unfolding module_at entries_at
-module_read ts xs d = entries_read d refl (length (strip ts)) (omega arith)
+module_reads free ts xs d = entries_read d (length (strip ts)) (omega arith)
+
+pub module_cut : (free : ℕ) (ts : Tokens) (xs : List Item) → Derives free ts xs → (module_at ts ≡ Ok (xs, [])) ⊎ ((rest : Tokens) × (module_at ts ≡ Err (TooDeep rest)) × (length rest ≤ free))
+module_cut free ts xs d = is_cut (module_reads free ts xs d)
+
+-- within the depth, they are read
+pub module_read : (ts : Tokens) (xs : List Item) → Derives 0 ts xs → module_at ts ≡ Ok (xs, [])
+module_read ts xs d = is_whole (module_reads 0 ts xs d) refl
 
 pub items_are_one : (ts : Tokens) (xs ys : List Item) → module_at ts ≡ Ok (xs, []) → Derives 0 ts ys → xs ≡ ys
 items_are_one ts xs ys h d = ap (λ (v : List Item × Tokens). v.0) (ok_is (xs, []) (ys, []) (sym h ∙ module_read ts ys d))
@@ -173,18 +181,18 @@ unfolding next_is_name is_name next_is_sign is_sign same_sign
 unnamed_follow (no_more_unnamed {left = left}) s = ends_follow left (close_ends left s).0
 unnamed_follow (more_unnamed a b) s = (refl, refl)
 
-more_unnamed_read : {from left : Tokens} {xs : List Named} → AreMoreUnnamed from xs left → Closes left → ReadsAll (next_is_sign signs.Comma) next_unnamed_at from xs left
-more_unnamed_read (no_more_unnamed {left = left}) s = none_again (next_is_sign signs.Comma) next_unnamed_at left (close_ends left s).1
+more_unnamed_read : {from left : Tokens} {xs : List Named} → AreMoreUnnamed from xs left → Closes left → ReadsAll 0 (next_is_sign signs.Comma) next_unnamed_at from xs left
+more_unnamed_read (no_more_unnamed {left = left}) s = none_again 0 (next_is_sign signs.Comma) next_unnamed_at left (close_ends left s).1
 more_unnamed_read (more_unnamed {p = p} {from = from} {behind = next} {left = left} {x = x} {xs = xs} a b) s =
     let l = unnamed_shorter a in
-    one_again (next_is_sign signs.Comma) next_unnamed_at ((sign signs.Comma, p) ∷ from) next left x xs (next_is_sign-again signs.Comma p from) (next_unnamed_again p from next x (unnamed_read a (unnamed_follow b s))) (omega arith) (more_unnamed_read b s)
+    one_again 0 (next_is_sign signs.Comma) next_unnamed_at ((sign signs.Comma, p) ∷ from) next left x xs (next_is_sign-again signs.Comma p from) (as_read (next_unnamed_again p from next x (unnamed_read a (unnamed_follow b s)))) (omega arith) (more_unnamed_read b s)
 
 unnamed_list_read : {from left : Tokens} {xs : List Named} → AreUnnamed from xs left → unnamed_parameters_at from ≡ Ok (xs, left)
 unfolding unnamed_parameters_at unnamed_list_at more_unnamed_at
 unnamed_list_read (no_unnamed {p = p} {q = q} {left = left}) = rw (expect_again signs.OpenParenthesis p ((sign signs.CloseParenthesis, q) ∷ left), next_is_sign-again signs.CloseParenthesis q left, expect_again signs.CloseParenthesis q left) refl
 unnamed_list_read (some_unnamed {p = p} {q = q} {from = from} {behind = next} {left = left} {x = x} {xs = xs} a b) =
     let s = next_is_sign-again signs.CloseParenthesis q left in
-    rw (expect_again signs.OpenParenthesis p from, begins_no_close from (unnamed_begins a), unnamed_read a (unnamed_follow b s), more_unnamed_read b s (length next) (omega arith), expect_again signs.CloseParenthesis q left) refl
+    rw (expect_again signs.OpenParenthesis p from, begins_no_close from (unnamed_begins a), unnamed_read a (unnamed_follow b s), is_whole (more_unnamed_read b s (length next) (omega arith)) refl, expect_again signs.CloseParenthesis q left) refl
 
 unnamed_opens : {from left : Tokens} {xs : List Named} → AreUnnamed from xs left → next_is_sign signs.OpenParenthesis from ≡ true
 unfolding next_is_sign is_sign same_sign

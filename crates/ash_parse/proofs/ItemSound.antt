@@ -19,12 +19,12 @@ use Rattle.ash_parse.proofs.Types.{ends_in, type_sound}
 use Rattle.ash_parse.proofs.ExpressionSound.{whole_sound, part_sound}
 use Rattle.ash_parse.proofs.StatementSound.{declared_sound, block_sound, nested_sound}
 
-void_is : (m : Meaning) → is_void m ≡ true → m ≡ reserved words.Void
+pub void_is : (m : Meaning) → is_void m ≡ true → m ≡ reserved words.Void
 unfolding is_void
 void_is (reserved words.Void) h = refl
 void_is _ h = cc
 
-class_is : (m : Meaning) → is_class m ≡ true → m ≡ reserved words.Class
+pub class_is : (m : Meaning) → is_class m ≡ true → m ≡ reserved words.Class
 unfolding is_class
 class_is (reserved words.Class) h = refl
 class_is _ h = cc

@@ -1,5 +1,5 @@
--- What is in the grammar of statements is read.
-use Rattle.std.proofs.Common.{◌≡◌, ℕ, zero, suc, ◌+◌, ◌<◌, List, [], ◌∷◌, length, Bool, true, false, not, Option, Some, None, Ok, refl, ap, arith}
+-- What is in the grammar of statements is read, or reading is cut where a token stands too deep.
+use Rattle.std.proofs.Common.{◌≡◌, ℕ, zero, suc, ◌+◌, ◌<◌, ◌≤◌, List, [], ◌∷◌, length, Bool, true, false, not, Option, Some, None, Ok, refl, ap, arith}
 use Rattle.ash_lex.specs.Tokens.{Meaning, number, sign, reserved}
 use Rattle.ash_lex.specs.declared.signs.Sign.TheVariants as signs
 use Rattle.ash_lex.specs.declared.words.ReservedWord.TheVariants as words
@@ -8,18 +8,19 @@ use Rattle.ash_tree.specs.declared.tree.statements.Label.{Label}
 use Rattle.ash_tree.specs.Tree.{Expr, Vars, Stmt, Empty, Declare, Evaluate, Block, If, IfElse, While, DoWhile, For, Switch, Break, Continue, Return, Case, labelled, place_of, place_of_type, stmts, cases}
 use Rattle.ash_tree.specs.Tokens.{Tokens}
 use Rattle.ash_tree.specs.Operators.{primitive, unary_operator}
+use Rattle.ash_tree.specs.Expressions.{DEPTH}
 use Rattle.ash_tree.specs.Statements.{IsFirst, no_first, first_vars, first_expr, IsTest, no_test, test, IsResult, no_result, value, IsLabel, case, case_minus, default, IsNested, nested, AreLocals, no_locals, local_vars, local_stmt, IsBlock, block, IsStmt, inner_block, empty, evaluate, if_only, if_else, while, do_while, for, switch, break, continue, return, AreCases, no_cases, more_cases, AreStmts, no_stmts, more_stmts}
 use Rattle.ash_parse.specs.declared.statements.Leading.{Leading}
 use Rattle.ash_parse.specs.declared.statements.Leading.TheVariants as leads
 use Rattle.ash_parse.specs.Signs.{is_sign, same_sign}
 use Rattle.ash_parse.specs.Reading.{next_is, next_is_sign}
 use Rattle.ash_parse.specs.ExpressionReader.{Below, begins, exprs_with, assign_with, below_at}
-use Rattle.ash_parse.specs.StatementReader.{Nested, is_name, is_vars, declared_with, first_with, test_with, result_with, leading, begins_by, begins_stmt, is_end, ends_case, goes_on, case_goes_on, evaluate_with, is_else, else_with, if_with, while_with, while_at, do_with, for_with, number_at, case_value_at, label_at, stmts_with, case_with, cases_with, switch_with, local_with, locals_with, block_with, stmt_with, nested_at}
+use Rattle.ash_parse.specs.StatementReader.{Nested, is_name, is_vars, declared_with, first_with, test_with, result_with, leading, begins_by, begins_stmt, stmt_limit_at, is_end, ends_case, goes_on, case_goes_on, evaluate_with, is_else, else_with, if_with, while_with, while_at, do_with, for_with, number_at, case_value_at, label_at, stmts_with, case_with, cases_with, switch_with, local_with, locals_with, block_with, stmt_with, nested_at}
 use Rattle.ash_parse.proofs.Readings.{expect_again, next_is_sign-again}
 use Rattle.ash_parse.proofs.StatementSound.{Closes}
-use Rattle.ash_parse.proofs.StatementShorter.{vars_shorter, nested_shorter, stmt_shorter, stmts_shorter}
-use Rattle.ash_parse.proofs.Rereading.{no_true, ReadsAll, none_again, one_again}
-use Rattle.ash_parse.proofs.ExpressionComplete.{ends_expr, Ends, assign_begins, inner_begins, bracketed_again, inner_read, exprs_read, assign_read}
+use Rattle.ash_parse.proofs.StatementShorter.{vars_shorter, nested_shorter, stmts_shorter}
+use Rattle.ash_parse.proofs.Rereading.{no_true, Reads, whole, cut, as_read, then_reads, ReadsAll, none_again, one_again}
+use Rattle.ash_parse.proofs.ExpressionComplete.{ends_expr, Ends, past, assign_begins, inner_begins, bracketed_again, inner_read, exprs_read, assign_read}
 use Rattle.ash_parse.proofs.VarsComplete.{ends_follow, assign_no_vars, inner_no_vars, vars_vars, vars_begin, declared_read}
 
 begins_leads : (m : Meaning) → begins m ≡ true → (leading m ≡ leads.Other) × (is_sign signs.Semicolon m ≡ false)
@@ -166,69 +167,69 @@ module _ (below : Below) where
   unfolding first_with
   no_first_again p left = rw (next_is_sign-again signs.Semicolon p left, expect_again signs.Semicolon p left) refl
 
-  first_vars_again : (from left : Tokens) (v : Vars) → next_is begins from ≡ true → is_vars from ≡ true → declared_with below from ≡ Ok (v, left) → first_with below from ≡ Ok (Declare (place_of_type v.of) v, left)
+  first_vars_again : {free : ℕ} (from left : Tokens) (v : Vars) → next_is begins from ≡ true → is_vars from ≡ true → Reads Vars free (declared_with below from) (v, left) → Reads Stmt free (first_with below from) (Declare (place_of_type v.of) v, left)
   unfolding first_with
-  first_vars_again from left v b i h = rw (begins_no_semicolon from b, i, h) refl
+  first_vars_again from left v b i h = rw (begins_no_semicolon from b, i) (then_reads _ h whole)
 
-  first_expr_again : (p : Place) (from left : Tokens) (e : Expr) → next_is begins from ≡ true → is_vars from ≡ false → below true from ≡ Ok (e, (sign signs.Semicolon, p) ∷ left) → first_with below from ≡ Ok (Evaluate (place_of e) e, left)
+  first_expr_again : {free : ℕ} (p : Place) (from left : Tokens) (e : Expr) → next_is begins from ≡ true → is_vars from ≡ false → Reads Expr free (below true from) (e, (sign signs.Semicolon, p) ∷ left) → Reads Stmt free (first_with below from) (Evaluate (place_of e) e, left)
   unfolding first_with
-  first_expr_again p from left e b i h = rw (begins_no_semicolon from b, i, h, expect_again signs.Semicolon p left) refl
+  first_expr_again p from left e b i h = rw (begins_no_semicolon from b, i) (then_reads _ h (rw (expect_again signs.Semicolon p left) whole))
 
   no_test_again : (p : Place) (left : Tokens) → test_with below ((sign signs.Semicolon, p) ∷ left) ≡ Ok (None, left)
   unfolding test_with
   no_test_again p left = rw (next_is_sign-again signs.Semicolon p left, expect_again signs.Semicolon p left) refl
 
-  test_again : (p : Place) (from left : Tokens) (e : Expr) → next_is begins from ≡ true → below true from ≡ Ok (e, (sign signs.Semicolon, p) ∷ left) → test_with below from ≡ Ok (Some e, left)
+  test_again : {free : ℕ} (p : Place) (from left : Tokens) (e : Expr) → next_is begins from ≡ true → Reads Expr free (below true from) (e, (sign signs.Semicolon, p) ∷ left) → Reads (Option Expr) free (test_with below from) (Some e, left)
   unfolding test_with
-  test_again p from left e b h = rw (begins_no_semicolon from b, h, expect_again signs.Semicolon p left) refl
+  test_again p from left e b h = rw (begins_no_semicolon from b) (then_reads _ h (rw (expect_again signs.Semicolon p left) whole))
 
   no_result_again : (p : Place) (left : Tokens) → result_with below ((sign signs.Semicolon, p) ∷ left) ≡ Ok (None, left)
   unfolding result_with
   no_result_again p left = rw (next_is_sign-again signs.Semicolon p left, expect_again signs.Semicolon p left) refl
 
-  result_again : (p : Place) (from left : Tokens) (e : Expr) → next_is begins from ≡ true → assign_with below from ≡ Ok (e, (sign signs.Semicolon, p) ∷ left) → result_with below from ≡ Ok (Some e, left)
+  result_again : {free : ℕ} (p : Place) (from left : Tokens) (e : Expr) → next_is begins from ≡ true → Reads Expr free (assign_with below from) (e, (sign signs.Semicolon, p) ∷ left) → Reads (Option Expr) free (result_with below from) (Some e, left)
   unfolding result_with
-  result_again p from left e b h = rw (begins_no_semicolon from b, h, expect_again signs.Semicolon p left) refl
+  result_again p from left e b h = rw (begins_no_semicolon from b) (then_reads _ h (rw (expect_again signs.Semicolon p left) whole))
 
-  evaluate_again : (p : Place) (from left : Tokens) (e : Expr) → assign_with below from ≡ Ok (e, (sign signs.Semicolon, p) ∷ left) → evaluate_with below from ≡ Ok (Evaluate (place_of e) e, left)
+  evaluate_again : {free : ℕ} (p : Place) (from left : Tokens) (e : Expr) → Reads Expr free (assign_with below from) (e, (sign signs.Semicolon, p) ∷ left) → Reads Stmt free (evaluate_with below from) (Evaluate (place_of e) e, left)
   unfolding evaluate_with
-  evaluate_again p from left e h = rw (h, expect_again signs.Semicolon p left) refl
+  evaluate_again p from left e h = then_reads _ h (rw (expect_again signs.Semicolon p left) whole)
 
-first_read : {free depth : ℕ} {from left : Tokens} {s : Stmt} → IsFirst free depth from s left → (room : ℕ) → free ≡ 0 → depth + room ≡ 64 → first_with (below_at room) from ≡ Ok (s, left)
-first_read (no_first {p = p} {left = left}) room z d = no_first_again (below_at room) p left
-first_read (first_vars {p = p} {from = from} {left = left} {v = v} a) room z d = first_vars_again (below_at room) from left v (vars_begin a) (vars_vars a) (declared_read p left a room z d)
-first_read (first_expr {p = p} {from = from} {left = left} {e = e} a) room z d =
+first_read : {free depth : ℕ} {from left : Tokens} {s : Stmt} → IsFirst free depth from s left → (room : ℕ) → depth + room ≡ DEPTH → Reads Stmt free (first_with (below_at room) from) (s, left)
+first_read (no_first {p = p} {left = left}) room d = as_read (no_first_again (below_at room) p left)
+first_read (first_vars {p = p} {from = from} {left = left} {v = v} a) room d = first_vars_again (below_at room) from left v (vars_begin a) (vars_vars a) (declared_read p left a room d)
+first_read (first_expr {p = p} {from = from} {left = left} {e = e} a) room d =
     let s = semicolon_ends p left in
-    first_expr_again (below_at room) p from left e (inner_begins a) (inner_no_vars a (ends_follow ((sign signs.Semicolon, p) ∷ left) s)) (inner_read a room z d s)
+    first_expr_again (below_at room) p from left e (inner_begins a) (inner_no_vars a (ends_follow ((sign signs.Semicolon, p) ∷ left) s)) (inner_read a room d s)
 
-test_read : {free depth : ℕ} {from left : Tokens} {c : Option Expr} → IsTest free depth from c left → (room : ℕ) → free ≡ 0 → depth + room ≡ 64 → test_with (below_at room) from ≡ Ok (c, left)
-test_read (no_test {p = p} {left = left}) room z d = no_test_again (below_at room) p left
-test_read (test {p = p} {from = from} {left = left} {e = e} a) room z d = test_again (below_at room) p from left e (inner_begins a) (inner_read a room z d (semicolon_ends p left))
+test_read : {free depth : ℕ} {from left : Tokens} {c : Option Expr} → IsTest free depth from c left → (room : ℕ) → depth + room ≡ DEPTH → Reads (Option Expr) free (test_with (below_at room) from) (c, left)
+test_read (no_test {p = p} {left = left}) room d = as_read (no_test_again (below_at room) p left)
+test_read (test {p = p} {from = from} {left = left} {e = e} a) room d = test_again (below_at room) p from left e (inner_begins a) (inner_read a room d (semicolon_ends p left))
 
-result_read : {free depth : ℕ} {from left : Tokens} {c : Option Expr} → IsResult free depth from c left → (room : ℕ) → free ≡ 0 → depth + room ≡ 64 → result_with (below_at room) from ≡ Ok (c, left)
-result_read (no_result {p = p} {left = left}) room z d = no_result_again (below_at room) p left
-result_read (value {p = p} {from = from} {left = left} {e = e} a) room z d = result_again (below_at room) p from left e (assign_begins a) (assign_read a room z d (semicolon_ends p left))
+result_read : {free depth : ℕ} {from left : Tokens} {c : Option Expr} → IsResult free depth from c left → (room : ℕ) → depth + room ≡ DEPTH → Reads (Option Expr) free (result_with (below_at room) from) (c, left)
+result_read (no_result {p = p} {left = left}) room d = as_read (no_result_again (below_at room) p left)
+result_read (value {p = p} {from = from} {left = left} {e = e} a) room d = result_again (below_at room) p from left e (assign_begins a) (assign_read a room d (semicolon_ends p left))
 
 only_true : (b : Bool) → (b ≡ true → true ≡ false) → b ≡ false
 only_true true h = h refl
 only_true false h = refl
 
 module _ (below : Below) (deeper : Nested) where
-  local_vars_again : (from left : Tokens) (v : Vars) → is_vars from ≡ true → declared_with below from ≡ Ok (v, left) → local_with below deeper from ≡ Ok (Declare (place_of_type v.of) v, left)
+  local_vars_again : {free : ℕ} (from left : Tokens) (v : Vars) → is_vars from ≡ true → Reads Vars free (declared_with below from) (v, left) → Reads Stmt free (local_with below deeper from) (Declare (place_of_type v.of) v, left)
   unfolding local_with
-  local_vars_again from left v i h = rw (i, h) refl
+  local_vars_again from left v i h = rw i (then_reads _ h whole)
 
-  local_stmt_again : (from left : Tokens) (s : Stmt) → is_vars from ≡ false → deeper from ≡ Ok (s, left) → local_with below deeper from ≡ Ok (s, left)
+  local_stmt_again : {free : ℕ} (from left : Tokens) (s : Stmt) → is_vars from ≡ false → Reads Stmt free (deeper from) (s, left) → Reads Stmt free (local_with below deeper from) (s, left)
   unfolding local_with
   local_stmt_again from left s i h = rw i h
 
-  block_again : (p q : Place) (from left : Tokens) (ss : List Stmt) → ReadsAll goes_on (local_with below deeper) from ss ((sign signs.CloseBrace, q) ∷ left) → block_with below deeper ((sign signs.OpenBrace, p) ∷ from) ≡ Ok (ss, left)
+  block_again : {free : ℕ} (p q : Place) (from left : Tokens) (ss : List Stmt) → ReadsAll free goes_on (local_with below deeper) from ss ((sign signs.CloseBrace, q) ∷ left) → Reads (List Stmt) free (block_with below deeper ((sign signs.OpenBrace, p) ∷ from)) (ss, left)
   unfolding block_with locals_with
-  block_again p q from left ss r = rw (expect_again signs.OpenBrace p from, r (length from) (omega arith), expect_again signs.CloseBrace q left) refl
+  block_again p q from left ss r = rw (expect_again signs.OpenBrace p from) (then_reads _ (r (length from) (omega arith)) (rw (expect_again signs.CloseBrace q left) whole))
 
-  inner_block_again : (p : Place) (from left : Tokens) (ss : List Stmt) → block_with below deeper ((sign signs.OpenBrace, p) ∷ from) ≡ Ok (ss, left) → stmt_with below deeper ((sign signs.OpenBrace, p) ∷ from) ≡ Ok (Block p (stmts ss), left)
+  inner_block_again : {free : ℕ} (p : Place) (from left : Tokens) (ss : List Stmt) → Reads (List Stmt) free (block_with below deeper ((sign signs.OpenBrace, p) ∷ from)) (ss, left) → Reads Stmt free (stmt_with below deeper ((sign signs.OpenBrace, p) ∷ from)) (Block p (stmts ss), left)
   unfolding stmt_with leading
-  inner_block_again p from left ss h = rw h refl
+  inner_block_again p from left ss h = then_reads _ h whole
 
   alone_again : (from : Tokens) → next_is begins from ≡ true → stmt_with below deeper from ≡ evaluate_with below from
   unfolding stmt_with
@@ -240,33 +241,33 @@ module _ (below : Below) (deeper : Nested) where
   no_else_again p c s [] h = refl
   no_else_again p c s ((m, o) ∷ ts) h = rw h refl
 
-  if_again : (p q r : Place) (from behind left : Tokens) (c : Expr) (s : Stmt) → below true from ≡ Ok (c, (sign signs.CloseParenthesis, r) ∷ behind) → deeper behind ≡ Ok (s, left) → NoElse left → stmt_with below deeper ((reserved words.If, p) ∷ (sign signs.OpenParenthesis, q) ∷ from) ≡ Ok (If p c s, left)
+  if_again : {free : ℕ} (p q r : Place) (from behind left : Tokens) (c : Expr) (s : Stmt) → Reads Expr free (below true from) (c, (sign signs.CloseParenthesis, r) ∷ behind) → Reads Stmt free (deeper behind) (s, left) → NoElse left → Reads Stmt free (stmt_with below deeper ((reserved words.If, p) ∷ (sign signs.OpenParenthesis, q) ∷ from)) (If p c s, left)
   unfolding stmt_with leading if_with
-  if_again p q r from behind left c s h i n = rw (bracketed_again below q r from behind c h, i) (no_else_again p c s left n)
+  if_again p q r from behind left c s h i n = then_reads _ (bracketed_again below q r from behind c h) (then_reads _ i (as_read (no_else_again p c s left n)))
 
-  if_else_again : (p q r o : Place) (from behind other left : Tokens) (c : Expr) (s t : Stmt) → below true from ≡ Ok (c, (sign signs.CloseParenthesis, r) ∷ behind) → deeper behind ≡ Ok (s, (reserved words.Else, o) ∷ other) → deeper other ≡ Ok (t, left) → stmt_with below deeper ((reserved words.If, p) ∷ (sign signs.OpenParenthesis, q) ∷ from) ≡ Ok (IfElse p c s t, left)
+  if_else_again : {free : ℕ} (p q r o : Place) (from behind other left : Tokens) (c : Expr) (s t : Stmt) → Reads Expr free (below true from) (c, (sign signs.CloseParenthesis, r) ∷ behind) → Reads Stmt free (deeper behind) (s, (reserved words.Else, o) ∷ other) → Reads Stmt free (deeper other) (t, left) → Reads Stmt free (stmt_with below deeper ((reserved words.If, p) ∷ (sign signs.OpenParenthesis, q) ∷ from)) (IfElse p c s t, left)
   unfolding stmt_with leading if_with else_with
-  if_else_again p q r o from behind other left c s t h i j = rw (bracketed_again below q r from behind c h, i, j) refl
+  if_else_again p q r o from behind other left c s t h i j = then_reads _ (bracketed_again below q r from behind c h) (then_reads _ i (then_reads _ j whole))
 
-  while_again : (p q r : Place) (from behind left : Tokens) (c : Expr) (s : Stmt) → below true from ≡ Ok (c, (sign signs.CloseParenthesis, r) ∷ behind) → deeper behind ≡ Ok (s, left) → stmt_with below deeper ((reserved words.While, p) ∷ (sign signs.OpenParenthesis, q) ∷ from) ≡ Ok (While p c s, left)
+  while_again : {free : ℕ} (p q r : Place) (from behind left : Tokens) (c : Expr) (s : Stmt) → Reads Expr free (below true from) (c, (sign signs.CloseParenthesis, r) ∷ behind) → Reads Stmt free (deeper behind) (s, left) → Reads Stmt free (stmt_with below deeper ((reserved words.While, p) ∷ (sign signs.OpenParenthesis, q) ∷ from)) (While p c s, left)
   unfolding stmt_with leading while_with
-  while_again p q r from behind left c s h i = rw (bracketed_again below q r from behind c h, i) refl
+  while_again p q r from behind left c s h i = then_reads _ (bracketed_again below q r from behind c h) (then_reads _ i whole)
 
-  do_again : (p q r o w : Place) (from behind left : Tokens) (c : Expr) (s : Stmt) → deeper from ≡ Ok (s, (reserved words.While, w) ∷ (sign signs.OpenParenthesis, q) ∷ behind) → below true behind ≡ Ok (c, (sign signs.CloseParenthesis, r) ∷ (sign signs.Semicolon, o) ∷ left) → stmt_with below deeper ((reserved words.Do, p) ∷ from) ≡ Ok (DoWhile p s c, left)
+  do_again : {free : ℕ} (p q r o w : Place) (from behind left : Tokens) (c : Expr) (s : Stmt) → Reads Stmt free (deeper from) (s, (reserved words.While, w) ∷ (sign signs.OpenParenthesis, q) ∷ behind) → Reads Expr free (below true behind) (c, (sign signs.CloseParenthesis, r) ∷ (sign signs.Semicolon, o) ∷ left) → Reads Stmt free (stmt_with below deeper ((reserved words.Do, p) ∷ from)) (DoWhile p s c, left)
   unfolding stmt_with leading do_with while_at
-  do_again p q r o w from behind left c s i h = rw (i, bracketed_again below q r behind ((sign signs.Semicolon, o) ∷ left) c h, expect_again signs.Semicolon o left) refl
+  do_again p q r o w from behind left c s i h = then_reads _ i (then_reads _ (bracketed_again below q r behind ((sign signs.Semicolon, o) ∷ left) c h) (rw (expect_again signs.Semicolon o left) whole))
 
-  for_again : (p q r : Place) (from second third behind left : Tokens) (f s : Stmt) (c : Option Expr) (es : List Expr) → first_with below from ≡ Ok (f, second) → test_with below second ≡ Ok (c, third) → exprs_with below third ≡ Ok (es, (sign signs.CloseParenthesis, r) ∷ behind) → deeper behind ≡ Ok (s, left) → stmt_with below deeper ((reserved words.For, p) ∷ (sign signs.OpenParenthesis, q) ∷ from) ≡ Ok (For p f c es s, left)
+  for_again : {free : ℕ} (p q r : Place) (from second third behind left : Tokens) (f s : Stmt) (c : Option Expr) (es : List Expr) → Reads Stmt free (first_with below from) (f, second) → Reads (Option Expr) free (test_with below second) (c, third) → Reads (List Expr) free (exprs_with below third) (es, (sign signs.CloseParenthesis, r) ∷ behind) → Reads Stmt free (deeper behind) (s, left) → Reads Stmt free (stmt_with below deeper ((reserved words.For, p) ∷ (sign signs.OpenParenthesis, q) ∷ from)) (For p f c es s, left)
   unfolding stmt_with leading for_with
-  for_again p q r from second third behind left f s c es h i j k = rw (expect_again signs.OpenParenthesis q from, h, i, j, expect_again signs.CloseParenthesis r behind, k) refl
+  for_again p q r from second third behind left f s c es h i j k = rw (expect_again signs.OpenParenthesis q from) (then_reads _ h (then_reads _ i (then_reads _ j (rw (expect_again signs.CloseParenthesis r behind) (then_reads _ k whole)))))
 
-  case_again : (from first behind : Tokens) (p : Place) (l : Label) (ss : List Stmt) → label_at from ≡ Ok ((l, p), first) → ReadsAll case_goes_on deeper first ss behind → case_with deeper from ≡ Ok (labelled p l (stmts ss), behind)
+  case_again : {free : ℕ} (from first behind : Tokens) (p : Place) (l : Label) (ss : List Stmt) → label_at from ≡ Ok ((l, p), first) → ReadsAll free case_goes_on deeper first ss behind → Reads Case free (case_with deeper from) (labelled p l (stmts ss), behind)
   unfolding case_with stmts_with
-  case_again from first behind p l ss h r = rw (h, r (length first) (omega arith)) refl
+  case_again from first behind p l ss h r = rw h (then_reads _ (r (length first) (omega arith)) whole)
 
-  switch_again : (p q r o w : Place) (from behind left : Tokens) (e : Expr) (cs : List Case) → below true from ≡ Ok (e, (sign signs.CloseParenthesis, r) ∷ (sign signs.OpenBrace, o) ∷ behind) → ReadsAll goes_on (case_with deeper) behind cs ((sign signs.CloseBrace, w) ∷ left) → stmt_with below deeper ((reserved words.Switch, p) ∷ (sign signs.OpenParenthesis, q) ∷ from) ≡ Ok (Switch p e (cases cs), left)
+  switch_again : {free : ℕ} (p q r o w : Place) (from behind left : Tokens) (e : Expr) (cs : List Case) → Reads Expr free (below true from) (e, (sign signs.CloseParenthesis, r) ∷ (sign signs.OpenBrace, o) ∷ behind) → ReadsAll free goes_on (case_with deeper) behind cs ((sign signs.CloseBrace, w) ∷ left) → Reads Stmt free (stmt_with below deeper ((reserved words.Switch, p) ∷ (sign signs.OpenParenthesis, q) ∷ from)) (Switch p e (cases cs), left)
   unfolding stmt_with leading switch_with cases_with
-  switch_again p q r o w from behind left e cs h c = rw (bracketed_again below q r from ((sign signs.OpenBrace, o) ∷ behind) e h, expect_again signs.OpenBrace o behind, c (length behind) (omega arith), expect_again signs.CloseBrace w left) refl
+  switch_again p q r o w from behind left e cs h c = then_reads _ (bracketed_again below q r from ((sign signs.OpenBrace, o) ∷ behind) e h) (rw (expect_again signs.OpenBrace o behind) (then_reads _ (c (length behind) (omega arith)) (rw (expect_again signs.CloseBrace w left) whole)))
 
   break_again : (p q : Place) (left : Tokens) → stmt_with below deeper ((reserved words.Break, p) ∷ (sign signs.Semicolon, q) ∷ left) ≡ Ok (Break p, left)
   unfolding stmt_with leading
@@ -276,9 +277,9 @@ module _ (below : Below) (deeper : Nested) where
   unfolding stmt_with leading
   continue_again p q left = rw (expect_again signs.Semicolon q left) refl
 
-  return_again : (p : Place) (from left : Tokens) (c : Option Expr) → result_with below from ≡ Ok (c, left) → stmt_with below deeper ((reserved words.Return, p) ∷ from) ≡ Ok (Return p c, left)
+  return_again : {free : ℕ} (p : Place) (from left : Tokens) (c : Option Expr) → Reads (Option Expr) free (result_with below from) (c, left) → Reads Stmt free (stmt_with below deeper ((reserved words.Return, p) ∷ from)) (Return p c, left)
   unfolding stmt_with leading
-  return_again p from left c h = rw h refl
+  return_again p from left c h = then_reads _ h whole
 
 pub brace_rests : (p : Place) (left : Tokens) → (goes_on ((sign signs.CloseBrace, p) ∷ left) ≡ false) × (case_goes_on ((sign signs.CloseBrace, p) ∷ left) ≡ false) × NoElse ((sign signs.CloseBrace, p) ∷ left)
 unfolding goes_on case_goes_on leading
@@ -288,55 +289,61 @@ while_no_else : (p : Place) (left : Tokens) → NoElse ((reserved words.While, p
 unfolding leading
 while_no_else p left = refl
 
+-- where no deeper statement may begin
+stmt_limit_cuts : (free : ℕ) (from left : Tokens) (s : Stmt) → next_is begins_stmt from ≡ true → length from ≤ free → Reads Stmt free (stmt_limit_at from) (s, left)
+unfolding stmt_limit_at
+stmt_limit_cuts free [] left s b l = absurd (no_true b)
+stmt_limit_cuts free ((m, p) ∷ ts) left s b l = rw b (cut {free = free} {more = ts} (omega arith))
+
 mutual
   unfolding nested_at stmt_with leading
 
-  pub nested_read : {free depth : ℕ} {from left : Tokens} {s : Stmt} → IsNested free depth from s left → (room : ℕ) → free ≡ 0 → depth + room ≡ 64 → Closes s left → nested_at room from ≡ Ok (s, left)
-  nested_read (nested w a) zero z d c = let l = stmt_shorter a in let k = w (omega arith) in absurd (omega arith)
-  nested_read (nested w a) (suc room) z d c = stmt_read a room z (omega arith) c
+  pub nested_read : {free depth : ℕ} {from left : Tokens} {s : Stmt} → IsNested free depth from s left → (room : ℕ) → depth + room ≡ DEPTH → Closes s left → Reads Stmt free (nested_at room from) (s, left)
+  nested_read (nested {free = free} {depth = depth} {from = from} {left = left} {s = s} w a) zero d c = stmt_limit_cuts free from left s (stmt_begins a) (past free (length from) depth w d)
+  nested_read (nested w a) (suc room) d c = stmt_read a room (omega arith) c
 
-  locals_read : {free depth : ℕ} {from left : Tokens} {ss : List Stmt} → AreLocals free depth from ss left → (room : ℕ) → free ≡ 0 → depth + room ≡ 64 → goes_on left ≡ false → NoElse left → ReadsAll goes_on (local_with (below_at room) (nested_at room)) from ss left
-  locals_read (no_locals {left = left}) room z d g n = none_again goes_on (local_with (below_at room) (nested_at room)) left g
-  locals_read (local_vars {p = p} {from = from} {behind = behind} {left = left} {v = v} {ss = ss} a b) room z d g n =
+  locals_read : {free depth : ℕ} {from left : Tokens} {ss : List Stmt} → AreLocals free depth from ss left → (room : ℕ) → depth + room ≡ DEPTH → goes_on left ≡ false → NoElse left → ReadsAll free goes_on (local_with (below_at room) (nested_at room)) from ss left
+  locals_read (no_locals {left = left}) room d g n = none_again _ goes_on (local_with (below_at room) (nested_at room)) left g
+  locals_read (local_vars {p = p} {from = from} {behind = behind} {left = left} {v = v} {ss = ss} a b) room d g n =
       let l = vars_shorter a in
-      one_again goes_on (local_with (below_at room) (nested_at room)) from behind left (Declare (place_of_type v.of) v) ss (goes_further from (begins_both from (vars_begin a))).0 (local_vars_again (below_at room) (nested_at room) from behind v (vars_vars a) (declared_read p behind a room z d)) (omega arith) (locals_read b room z d g n)
-  locals_read (local_stmt {from = from} {behind = behind} {left = left} {s = s} {ss = ss} a b) room z d g n =
-      one_again goes_on (local_with (below_at room) (nested_at room)) from behind left s ss (goes_further from (nested_begins a)).0 (local_stmt_again (below_at room) (nested_at room) from behind s (nested_no_vars a) (nested_read a room z d (closes_where s behind (locals_no_else b n)))) (nested_shorter a) (locals_read b room z d g n)
+      one_again _ goes_on (local_with (below_at room) (nested_at room)) from behind left (Declare (place_of_type v.of) v) ss (goes_further from (begins_both from (vars_begin a))).0 (local_vars_again (below_at room) (nested_at room) from behind v (vars_vars a) (declared_read p behind a room d)) (omega arith) (locals_read b room d g n)
+  locals_read (local_stmt {from = from} {behind = behind} {left = left} {s = s} {ss = ss} a b) room d g n =
+      one_again _ goes_on (local_with (below_at room) (nested_at room)) from behind left s ss (goes_further from (nested_begins a)).0 (local_stmt_again (below_at room) (nested_at room) from behind s (nested_no_vars a) (nested_read a room d (closes_where s behind (locals_no_else b n)))) (nested_shorter a) (locals_read b room d g n)
 
-  pub block_read : {free depth : ℕ} {from left : Tokens} {ss : List Stmt} → IsBlock free depth from ss left → (room : ℕ) → free ≡ 0 → depth + room ≡ 64 → block_with (below_at room) (nested_at room) from ≡ Ok (ss, left)
-  block_read (block {p = p} {q = q} {from = from} {left = left} {ss = ss} a) room z d =
+  pub block_read : {free depth : ℕ} {from left : Tokens} {ss : List Stmt} → IsBlock free depth from ss left → (room : ℕ) → depth + room ≡ DEPTH → Reads (List Stmt) free (block_with (below_at room) (nested_at room) from) (ss, left)
+  block_read (block {p = p} {q = q} {from = from} {left = left} {ss = ss} a) room d =
       let e = brace_rests q left in
-      block_again (below_at room) (nested_at room) p q from left ss (locals_read a room z d e.0 e.2)
+      block_again (below_at room) (nested_at room) p q from left ss (locals_read a room d e.0 e.2)
 
-  stmt_read : {free depth : ℕ} {from left : Tokens} {s : Stmt} → IsStmt free depth from s left → (room : ℕ) → free ≡ 0 → depth + room ≡ 64 → Closes s left → stmt_with (below_at room) (nested_at room) from ≡ Ok (s, left)
-  stmt_read (inner_block {p = p} {from = from} {left = left} {ss = ss} b) room z d k = inner_block_again (below_at room) (nested_at room) p from left ss (block_read b room z d)
-  stmt_read empty room z d k = refl
-  stmt_read (evaluate {p = p} {from = from} {left = left} {e = e} a) room z d k = rw (alone_again (below_at room) (nested_at room) from (assign_begins a)) (evaluate_again (below_at room) p from left e (assign_read a room z d (semicolon_ends p left)))
-  stmt_read (if_only {p = p} {q = q} {r = r} {from = from} {behind = behind} {left = left} {c = c} {s = s} a b) room z d k =
+  stmt_read : {free depth : ℕ} {from left : Tokens} {s : Stmt} → IsStmt free depth from s left → (room : ℕ) → depth + room ≡ DEPTH → Closes s left → Reads Stmt free (stmt_with (below_at room) (nested_at room) from) (s, left)
+  stmt_read (inner_block {p = p} {from = from} {left = left} {ss = ss} b) room d k = inner_block_again (below_at room) (nested_at room) p from left ss (block_read b room d)
+  stmt_read empty room d k = whole
+  stmt_read (evaluate {p = p} {from = from} {left = left} {e = e} a) room d k = rw (alone_again (below_at room) (nested_at room) from (assign_begins a)) (evaluate_again (below_at room) p from left e (assign_read a room d (semicolon_ends p left)))
+  stmt_read (if_only {p = p} {q = q} {r = r} {from = from} {behind = behind} {left = left} {c = c} {s = s} a b) room d k =
       let n = only_true (next_is (λ m. is_else (leading m)) left) k in
-      if_again (below_at room) (nested_at room) p q r from behind left c s (inner_read a room z d (close_ends r behind)) (nested_read b room z d (closes_where s left n)) n
-  stmt_read (if_else {p = p} {q = q} {r = r} {o = o} {from = from} {behind = behind} {other = other} {left = left} {c = c} {s = s} {t = t} a b n f) room z d k =
-      if_else_again (below_at room) (nested_at room) p q r o from behind other left c s t (inner_read a room z d (close_ends r behind)) (nested_read b room z d (λ e. n)) (nested_read f room z d k)
-  stmt_read (while {p = p} {q = q} {r = r} {from = from} {behind = behind} {left = left} {c = c} {s = s} a b) room z d k =
-      while_again (below_at room) (nested_at room) p q r from behind left c s (inner_read a room z d (close_ends r behind)) (nested_read b room z d k)
-  stmt_read (do_while {p = p} {q = q} {r = r} {o = o} {w = w} {from = from} {behind = behind} {left = left} {c = c} {s = s} a b) room z d k =
-      do_again (below_at room) (nested_at room) p q r o w from behind left c s (nested_read a room z d (closes_where s ((reserved words.While, w) ∷ (sign signs.OpenParenthesis, q) ∷ behind) (while_no_else w ((sign signs.OpenParenthesis, q) ∷ behind)))) (inner_read b room z d (close_ends r ((sign signs.Semicolon, o) ∷ left)))
-  stmt_read (for {p = p} {q = q} {r = r} {from = from} {second = second} {third = third} {behind = behind} {left = left} {f = f} {s = s} {c = c} {es = es} i j l b) room z d k =
-      for_again (below_at room) (nested_at room) p q r from second third behind left f s c es (first_read i room z d) (test_read j room z d) (exprs_read l room z d (next_is_sign-again signs.CloseParenthesis r behind)) (nested_read b room z d k)
-  stmt_read (switch {p = p} {q = q} {r = r} {o = o} {z = w} {from = from} {behind = behind} {left = left} {e = e} {cs = cs} a b) room z d k =
+      if_again (below_at room) (nested_at room) p q r from behind left c s (inner_read a room d (close_ends r behind)) (nested_read b room d (closes_where s left n)) n
+  stmt_read (if_else {p = p} {q = q} {r = r} {o = o} {from = from} {behind = behind} {other = other} {left = left} {c = c} {s = s} {t = t} a b n f) room d k =
+      if_else_again (below_at room) (nested_at room) p q r o from behind other left c s t (inner_read a room d (close_ends r behind)) (nested_read b room d (λ e. n)) (nested_read f room d k)
+  stmt_read (while {p = p} {q = q} {r = r} {from = from} {behind = behind} {left = left} {c = c} {s = s} a b) room d k =
+      while_again (below_at room) (nested_at room) p q r from behind left c s (inner_read a room d (close_ends r behind)) (nested_read b room d k)
+  stmt_read (do_while {p = p} {q = q} {r = r} {o = o} {w = w} {from = from} {behind = behind} {left = left} {c = c} {s = s} a b) room d k =
+      do_again (below_at room) (nested_at room) p q r o w from behind left c s (nested_read a room d (closes_where s ((reserved words.While, w) ∷ (sign signs.OpenParenthesis, q) ∷ behind) (while_no_else w ((sign signs.OpenParenthesis, q) ∷ behind)))) (inner_read b room d (close_ends r ((sign signs.Semicolon, o) ∷ left)))
+  stmt_read (for {p = p} {q = q} {r = r} {from = from} {second = second} {third = third} {behind = behind} {left = left} {f = f} {s = s} {c = c} {es = es} i j l b) room d k =
+      for_again (below_at room) (nested_at room) p q r from second third behind left f s c es (first_read i room d) (test_read j room d) (exprs_read l room d (next_is_sign-again signs.CloseParenthesis r behind)) (nested_read b room d k)
+  stmt_read (switch {p = p} {q = q} {r = r} {o = o} {z = w} {from = from} {behind = behind} {left = left} {e = e} {cs = cs} a b) room d k =
       let v = brace_rests w left in
-      switch_again (below_at room) (nested_at room) p q r o w from behind left e cs (inner_read a room z d (close_ends r ((sign signs.OpenBrace, o) ∷ behind))) (cases_read b room z d v.0 (v.1, v.2))
-  stmt_read (break {p = p} {q = q} {left = left}) room z d k = break_again (below_at room) (nested_at room) p q left
-  stmt_read (continue {p = p} {q = q} {left = left}) room z d k = continue_again (below_at room) (nested_at room) p q left
-  stmt_read (return {p = p} {from = from} {left = left} {c = c} a) room z d k = return_again (below_at room) (nested_at room) p from left c (result_read a room z d)
+      switch_again (below_at room) (nested_at room) p q r o w from behind left e cs (inner_read a room d (close_ends r ((sign signs.OpenBrace, o) ∷ behind))) (cases_read b room d v.0 (v.1, v.2))
+  stmt_read (break {p = p} {q = q} {left = left}) room d k = as_read (break_again (below_at room) (nested_at room) p q left)
+  stmt_read (continue {p = p} {q = q} {left = left}) room d k = as_read (continue_again (below_at room) (nested_at room) p q left)
+  stmt_read (return {p = p} {from = from} {left = left} {c = c} a) room d k = return_again (below_at room) (nested_at room) p from left c (result_read a room d)
 
-  cases_read : {free depth : ℕ} {from left : Tokens} {cs : List Case} → AreCases free depth from cs left → (room : ℕ) → free ≡ 0 → depth + room ≡ 64 → goes_on left ≡ false → Rests left → ReadsAll goes_on (case_with (nested_at room)) from cs left
-  cases_read (no_cases {left = left}) room z d g n = none_again goes_on (case_with (nested_at room)) left g
-  cases_read (more_cases {p = p} {from = from} {first = first} {behind = behind} {left = left} {l = l} {ss = ss} {cs = cs} i a b) room z d g n =
+  cases_read : {free depth : ℕ} {from left : Tokens} {cs : List Case} → AreCases free depth from cs left → (room : ℕ) → depth + room ≡ DEPTH → goes_on left ≡ false → Rests left → ReadsAll free goes_on (case_with (nested_at room)) from cs left
+  cases_read (no_cases {left = left}) room d g n = none_again _ goes_on (case_with (nested_at room)) left g
+  cases_read (more_cases {p = p} {from = from} {first = first} {behind = behind} {left = left} {l = l} {ss = ss} {cs = cs} i a b) room d g n =
       let x = label_shorter i in let y = stmts_shorter a in
-      one_again goes_on (case_with (nested_at room)) from behind left (labelled p l (stmts ss)) cs (label_begins i).0 (case_again (below_at room) (nested_at room) from first behind p l ss (label_read i) (stmts_read a room z d (cases_rest b n))) (omega arith) (cases_read b room z d g n)
+      one_again _ goes_on (case_with (nested_at room)) from behind left (labelled p l (stmts ss)) cs (label_begins i).0 (case_again (below_at room) (nested_at room) from first behind p l ss (label_read i) (stmts_read a room d (cases_rest b n))) (omega arith) (cases_read b room d g n)
 
-  stmts_read : {free depth : ℕ} {from left : Tokens} {ss : List Stmt} → AreStmts free depth from ss left → (room : ℕ) → free ≡ 0 → depth + room ≡ 64 → Rests left → ReadsAll case_goes_on (nested_at room) from ss left
-  stmts_read (no_stmts {left = left}) room z d n = none_again case_goes_on (nested_at room) left n.0
-  stmts_read (more_stmts {from = from} {behind = behind} {left = left} {s = s} {ss = ss} a b) room z d n =
-      one_again case_goes_on (nested_at room) from behind left s ss (goes_further from (nested_begins a)).1 (nested_read a room z d (closes_where s behind (stmts_no_else b n.1))) (nested_shorter a) (stmts_read b room z d n)
+  stmts_read : {free depth : ℕ} {from left : Tokens} {ss : List Stmt} → AreStmts free depth from ss left → (room : ℕ) → depth + room ≡ DEPTH → Rests left → ReadsAll free case_goes_on (nested_at room) from ss left
+  stmts_read (no_stmts {left = left}) room d n = none_again _ case_goes_on (nested_at room) left n.0
+  stmts_read (more_stmts {from = from} {behind = behind} {left = left} {s = s} {ss = ss} a b) room d n =
+      one_again _ case_goes_on (nested_at room) from behind left s ss (goes_further from (nested_begins a)).1 (nested_read a room d (closes_where s behind (stmts_no_else b n.1))) (nested_shorter a) (stmts_read b room d n)

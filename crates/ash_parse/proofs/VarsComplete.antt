@@ -1,4 +1,5 @@
--- What is in the grammar of types and of declarations of variables is read, and no expression begins as they do.
+-- What is in the grammar of types and of declarations of variables is read, or reading is cut where a token stands too
+-- deep, and no expression begins as they do.
 use Rattle.std.proofs.Common.{◌≡◌, ℕ, ◌+◌, List, [], ◌∷◌, length, Bool, true, false, Some, None, Ok, refl, arith}
 use Rattle.ash_lex.specs.Tokens.{Meaning, name, sign, reserved}
 use Rattle.ash_lex.specs.declared.signs.Sign.TheVariants as signs
@@ -10,7 +11,7 @@ use Rattle.ash_tree.specs.declared.tree.operators.AssignOp.{AssignOp}
 use Rattle.ash_tree.specs.Tree.{Named, Prim, Expr, Suffix, Operation, Default, Value, Arguments, Decl, Vars}
 use Rattle.ash_tree.specs.Tokens.{Tokens}
 use Rattle.ash_tree.specs.Operators.{primitive, unary_operator, binary_operator, assign_operator}
-use Rattle.ash_tree.specs.Expressions.{IsInner, inner, args, IsAssign, no_assign, assign, IsCond, no_branch, branches, IsBinary, operand, joined, AreLinks, no_links, more_links, IsUnary, applied, postfix, AreSuffixes, no_suffixes, more_suffixes, field, method, increment, decrement, IsPrimary, numeral, yes, no, null, this, named, call, brackets, convert}
+use Rattle.ash_tree.specs.Expressions.{DEPTH, IsInner, inner, args, IsAssign, no_assign, assign, IsCond, no_branch, branches, IsBinary, operand, joined, AreLinks, no_links, more_links, IsUnary, applied, postfix, AreSuffixes, no_suffixes, more_suffixes, field, method, increment, decrement, IsPrimary, numeral, yes, no, null, this, named, call, brackets, convert}
 use Rattle.ash_tree.specs.Statements.{IsType, prim, object, handle, IsDecl, bare, valued, made, AreMoreDecls, no_more_decls, more_decls, IsVars, vars}
 use Rattle.ash_parse.specs.Signs.{is_sign, same_sign}
 use Rattle.ash_parse.specs.Reading.{next_is, next_is_sign}
@@ -18,7 +19,7 @@ use Rattle.ash_parse.specs.ExpressionReader.{Below, begins, arguments_with, assi
 use Rattle.ash_parse.specs.StatementReader.{is_name, next_is_name, type_at, is_vars, initializer_with, decl_with, next_decl_with, more_decls_with, decls_with, vars_with, declared_with}
 use Rattle.ash_parse.proofs.Readings.{expect_again, next_is_sign-again, name_again}
 use Rattle.ash_parse.proofs.StatementShorter.{decl_shorter}
-use Rattle.ash_parse.proofs.Rereading.{no_some, no_true, ReadsAll, none_again, one_again}
+use Rattle.ash_parse.proofs.Rereading.{no_some, no_true, Reads, whole, as_read, then_reads, put_reads, ReadsAll, none_again, one_again}
 use Rattle.ash_parse.proofs.ExpressionComplete.{ends_expr, Ends, primitive_begins, args_read, assign_read}
 
 -- what stands in front is no type: neither a name nor a handle follows
@@ -182,41 +183,41 @@ module _ (below : Below) where
   unfolding decl_with initializer_with
   bare_again p text left s = let q = next_ends left s in rw (name_again text p left, q.1, q.2) refl
 
-  valued_again : (p q : Place) (text : List ℕ) (from left : Tokens) (e : Expr) → assign_with below from ≡ Ok (e, left) → decl_with below ((name text, p) ∷ (sign signs.Assign, q) ∷ from) ≡ Ok (record { place = p; name = text; initializer = Value e }, left)
+  valued_again : {free : ℕ} (p q : Place) (text : List ℕ) (from left : Tokens) (e : Expr) → Reads Expr free (assign_with below from) (e, left) → Reads Decl free (decl_with below ((name text, p) ∷ (sign signs.Assign, q) ∷ from)) (record { place = p; name = text; initializer = Value e }, left)
   unfolding decl_with initializer_with
-  valued_again p q text from left e h = rw (name_again text p ((sign signs.Assign, q) ∷ from), next_is_sign-again signs.Assign q from, expect_again signs.Assign q from, h) refl
+  valued_again p q text from left e h = rw (name_again text p ((sign signs.Assign, q) ∷ from), next_is_sign-again signs.Assign q from, expect_again signs.Assign q from) (then_reads _ (then_reads _ h whole) whole)
 
-  made_again : (p o : Place) (text : List ℕ) (from left : Tokens) (es : List Expr) → arguments_with below ((sign signs.OpenParenthesis, o) ∷ from) ≡ Ok (es, left) → decl_with below ((name text, p) ∷ (sign signs.OpenParenthesis, o) ∷ from) ≡ Ok (record { place = p; name = text; initializer = Arguments es }, left)
+  made_again : {free : ℕ} (p o : Place) (text : List ℕ) (from left : Tokens) (es : List Expr) → Reads (List Expr) free (arguments_with below ((sign signs.OpenParenthesis, o) ∷ from)) (es, left) → Reads Decl free (decl_with below ((name text, p) ∷ (sign signs.OpenParenthesis, o) ∷ from)) (record { place = p; name = text; initializer = Arguments es }, left)
   unfolding decl_with initializer_with next_is_sign is_sign same_sign
-  made_again p o text from left es h = rw (name_again text p ((sign signs.OpenParenthesis, o) ∷ from), h) refl
+  made_again p o text from left es h = rw (name_again text p ((sign signs.OpenParenthesis, o) ∷ from)) (then_reads _ (then_reads _ h whole) whole)
 
-  next_decl_again : (p : Place) (from behind : Tokens) (d : Decl) → decl_with below from ≡ Ok (d, behind) → next_decl_with below ((sign signs.Comma, p) ∷ from) ≡ Ok (d, behind)
+  next_decl_again : {free : ℕ} (p : Place) (from behind : Tokens) (d : Decl) → Reads Decl free (decl_with below from) (d, behind) → Reads Decl free (next_decl_with below ((sign signs.Comma, p) ∷ from)) (d, behind)
   unfolding next_decl_with
   next_decl_again p from behind d h = rw (expect_again signs.Comma p from) h
 
-  vars_again : (from first behind left : Tokens) (t : Named) (d : Decl) (ds : List Decl) → type_at from ≡ Ok (t, first) → decl_with below first ≡ Ok (d, behind) → ReadsAll (next_is_sign signs.Comma) (next_decl_with below) behind ds left → vars_with below from ≡ Ok (record { of = t; decls = d ∷ ds }, left)
+  vars_again : {free : ℕ} (from first behind left : Tokens) (t : Named) (d : Decl) (ds : List Decl) → type_at from ≡ Ok (t, first) → Reads Decl free (decl_with below first) (d, behind) → ReadsAll free (next_is_sign signs.Comma) (next_decl_with below) behind ds left → Reads Vars free (vars_with below from) (record { of = t; decls = d ∷ ds }, left)
   unfolding vars_with decls_with more_decls_with
-  vars_again from first behind left t d ds h i r = rw (h, i, r (length behind) (omega arith)) refl
+  vars_again from first behind left t d ds h i r = rw h (then_reads _ (then_reads _ i (put_reads d (r (length behind) (omega arith)))) whole)
 
-  declared_again : (p : Place) (from left : Tokens) (v : Vars) → vars_with below from ≡ Ok (v, (sign signs.Semicolon, p) ∷ left) → declared_with below from ≡ Ok (v, left)
+  declared_again : {free : ℕ} (p : Place) (from left : Tokens) (v : Vars) → Reads Vars free (vars_with below from) (v, (sign signs.Semicolon, p) ∷ left) → Reads Vars free (declared_with below from) (v, left)
   unfolding declared_with
-  declared_again p from left v h = rw (h, expect_again signs.Semicolon p left) refl
+  declared_again p from left v h = then_reads _ h (rw (expect_again signs.Semicolon p left) whole)
 
-decl_read : {free depth : ℕ} {from left : Tokens} {d : Decl} → IsDecl free depth from d left → (room : ℕ) → free ≡ 0 → depth + room ≡ 64 → Next left → decl_with (below_at room) from ≡ Ok (d, left)
-decl_read (bare {p = p} {text = text} {left = left}) room z d s = bare_again (below_at room) p text left s
-decl_read (valued {p = p} {q = q} {text = text} {from = from} {left = left} {e = e} a) room z d s = valued_again (below_at room) p q text from left e (assign_read a room z d (next_ends left s).0)
-decl_read (made {p = p} {text = text} {left = left} {es = es} (args {p = o} {q = c} {from = from} a)) room z d s = made_again (below_at room) p o text from left es (args_read (args {p = o} {q = c} {from = from} {left = left} {es = es} a) room z d)
+decl_read : {free depth : ℕ} {from left : Tokens} {d : Decl} → IsDecl free depth from d left → (room : ℕ) → depth + room ≡ DEPTH → Next left → Reads Decl free (decl_with (below_at room) from) (d, left)
+decl_read (bare {p = p} {text = text} {left = left}) room d s = as_read (bare_again (below_at room) p text left s)
+decl_read (valued {p = p} {q = q} {text = text} {from = from} {left = left} {e = e} a) room d s = valued_again (below_at room) p q text from left e (assign_read a room d (next_ends left s).0)
+decl_read (made {p = p} {text = text} {left = left} {es = es} (args {p = o} {q = c} {from = from} a)) room d s = made_again (below_at room) p o text from left es (args_read (args {p = o} {q = c} {from = from} {left = left} {es = es} a) room d)
 
-more_decls_read : {free depth : ℕ} {from left : Tokens} {ds : List Decl} → AreMoreDecls free depth from ds left → (room : ℕ) → free ≡ 0 → depth + room ≡ 64 → Done left → ReadsAll (next_is_sign signs.Comma) (next_decl_with (below_at room)) from ds left
-more_decls_read (no_more_decls {left = left}) room z d s = none_again (next_is_sign signs.Comma) (next_decl_with (below_at room)) left (done_next left s).1
-more_decls_read (more_decls {p = p} {from = from} {behind = behind} {left = left} {d = x} {ds = xs} a b) room z d s =
+more_decls_read : {free depth : ℕ} {from left : Tokens} {ds : List Decl} → AreMoreDecls free depth from ds left → (room : ℕ) → depth + room ≡ DEPTH → Done left → ReadsAll free (next_is_sign signs.Comma) (next_decl_with (below_at room)) from ds left
+more_decls_read (no_more_decls {left = left}) room d s = none_again _ (next_is_sign signs.Comma) (next_decl_with (below_at room)) left (done_next left s).1
+more_decls_read (more_decls {p = p} {from = from} {behind = behind} {left = left} {d = x} {ds = xs} a b) room d s =
     let l = decl_shorter a in
-    one_again (next_is_sign signs.Comma) (next_decl_with (below_at room)) ((sign signs.Comma, p) ∷ from) behind left x xs (next_is_sign-again signs.Comma p from) (next_decl_again (below_at room) p from behind x (decl_read a room z d (decls_next b s))) (omega arith) (more_decls_read b room z d s)
+    one_again _ (next_is_sign signs.Comma) (next_decl_with (below_at room)) ((sign signs.Comma, p) ∷ from) behind left x xs (next_is_sign-again signs.Comma p from) (next_decl_again (below_at room) p from behind x (decl_read a room d (decls_next b s))) (omega arith) (more_decls_read b room d s)
 
-vars_read : {free depth : ℕ} {from left : Tokens} {v : Vars} → IsVars free depth from v left → (room : ℕ) → free ≡ 0 → depth + room ≡ 64 → Done left → vars_with (below_at room) from ≡ Ok (v, left)
-vars_read (vars {from = from} {first = first} {behind = behind} {left = left} {t = t} {d = x} {ds = xs} a b c) room z d s =
-    vars_again (below_at room) from first behind left t x xs (type_read a (decl_begins b).1) (decl_read b room z d (decls_next c s)) (more_decls_read c room z d s)
+vars_read : {free depth : ℕ} {from left : Tokens} {v : Vars} → IsVars free depth from v left → (room : ℕ) → depth + room ≡ DEPTH → Done left → Reads Vars free (vars_with (below_at room) from) (v, left)
+vars_read (vars {from = from} {first = first} {behind = behind} {left = left} {t = t} {d = x} {ds = xs} a b c) room d s =
+    vars_again (below_at room) from first behind left t x xs (type_read a (decl_begins b).1) (decl_read b room d (decls_next c s)) (more_decls_read c room d s)
 
 -- variables with their ";"
-pub declared_read : {free depth : ℕ} {from : Tokens} {v : Vars} (p : Place) (left : Tokens) → IsVars free depth from v ((sign signs.Semicolon, p) ∷ left) → (room : ℕ) → free ≡ 0 → depth + room ≡ 64 → declared_with (below_at room) from ≡ Ok (v, left)
-declared_read {from = from} {v = v} p left a room z d = declared_again (below_at room) p from left v (vars_read a room z d (next_is_sign-again signs.Semicolon p left))
+pub declared_read : {free depth : ℕ} {from : Tokens} {v : Vars} (p : Place) (left : Tokens) → IsVars free depth from v ((sign signs.Semicolon, p) ∷ left) → (room : ℕ) → depth + room ≡ DEPTH → Reads Vars free (declared_with (below_at room) from) (v, left)
+declared_read {from = from} {v = v} p left a room d = declared_again (below_at room) p from left v (vars_read a room d (next_is_sign-again signs.Semicolon p left))

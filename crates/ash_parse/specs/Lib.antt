@@ -5,3 +5,4 @@ pub mod StatementReader
 pub mod ItemReader
 pub mod Faults
 pub mod Unique
+pub mod FirstFault

@@ -1,8 +1,10 @@
--- Tokens have one tree.
-use Rattle.std.specs.Prelude.{◌≡◌, List}
+-- Tokens have one tree, or one first fault.
+use Rattle.std.specs.Prelude.{◌≡◌, ◌⊎◌, List}
 use Rattle.ash_tree.specs.Tree.{Item, Declaration}
 use Rattle.ash_tree.specs.Tokens.{Tokens}
 use Rattle.ash_tree.specs.Grammar.{Derives, Declares}
+use Rattle.ash_parse.specs.Reading.{Halt}
+use Rattle.ash_parse.specs.FirstFault.{FirstFault, FirstDeclarationFault}
 
 -- two lists of items that these tokens derive are one
 abbrev pub HasOneModule : Tokens → Type 0
@@ -11,3 +13,27 @@ HasOneModule ts = (first second : List Item) → Derives 0 ts first → Derives 
 -- two declarations that these tokens derive are one
 abbrev pub HasOneDeclaration : Tokens → Type 0
 HasOneDeclaration ts = (first second : Declaration) → Declares ts first → Declares ts second → first ≡ second
+
+-- two first faults of these tokens are one
+abbrev pub HasOneFault : Tokens → Type 0
+HasOneFault ts = (first second : Halt) → FirstFault ts first → FirstFault ts second → first ≡ second
+
+-- these tokens derive a module within the depth, or have a first fault
+abbrev pub HasTreeOrFault : Tokens → Type 0
+HasTreeOrFault ts = ((items : List Item) × Derives 0 ts items) ⊎ ((halt : Halt) × FirstFault ts halt)
+
+-- and not both
+abbrev pub HasNotBoth : Tokens → Type 0
+HasNotBoth ts = (items : List Item) (halt : Halt) → Derives 0 ts items → FirstFault ts halt → ⊥
+
+-- two first faults of these tokens, as a declaration, are one
+abbrev pub HasOneDeclarationFault : Tokens → Type 0
+HasOneDeclarationFault ts = (first second : Halt) → FirstDeclarationFault ts first → FirstDeclarationFault ts second → first ≡ second
+
+-- these tokens derive a declaration, or have a first fault as one
+abbrev pub HasDeclarationOrFault : Tokens → Type 0
+HasDeclarationOrFault ts = ((declared : Declaration) × Declares ts declared) ⊎ ((halt : Halt) × FirstDeclarationFault ts halt)
+
+-- and not both
+abbrev pub HasNotBothDeclared : Tokens → Type 0
+HasNotBothDeclared ts = (declared : Declaration) (halt : Halt) → Declares ts declared → FirstDeclarationFault ts halt → ⊥

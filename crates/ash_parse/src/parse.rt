@@ -1,56 +1,67 @@
 //! The calls of the crate.
 
-ghost use Rattle.std.specs.Prelude.{◌≡◌, List, [], Ok, IfOk, MatchResult, option_map};
+ghost use Rattle.std.specs.Prelude.{◌≡◌, List, [], IfOk, IfErr, MatchResult};
 ghost use Rattle.ash_lex.specs.Tokens.{meaning_of};
 ghost use Rattle.ash_tree.specs.Tokens.{tokens_of};
 ghost use Rattle.ash_tree.specs.Tree.{Item, Declaration as DeclarationTree};
 ghost use Rattle.ash_tree.specs.Views.{module_of, declaration_of};
 ghost use Rattle.ash_tree.specs.Grammar.{Derives, Declares};
 ghost use Rattle.ash_parse.specs.Reading.{Unexpected, Gives};
-ghost use Rattle.ash_parse.specs.ItemReader.{module_at};
 ghost use Rattle.ash_parse.specs.declared.faults.ParseFault.TheVariants.{NoMemory};
-ghost use Rattle.ash_parse.specs.Unique.{HasOneModule, HasOneDeclaration};
-ghost use Rattle.ash_parse.specs.Faults.{Tells, word_of, end_of, start, IsTold, IsFault, whole_declaration_at};
+ghost use Rattle.ash_parse.specs.FirstFault.{FirstFault, FirstDeclarationFault, TellsFirst};
+ghost use Rattle.ash_parse.specs.Unique.{HasOneModule, HasOneDeclaration, HasOneFault, HasTreeOrFault, HasNotBoth, HasOneDeclarationFault, HasDeclarationOrFault, HasNotBothDeclared};
+ghost use Rattle.ash_parse.specs.Faults.{Tells, ends_in_class_head, part_behind, end_of, start, IsTold, whole_declaration_at};
 
-use crate::faults::ParseFault;
+use crate::faults::{ParseFault, UnsupportedPart};
 use crate::items::{declaration, is_left, items};
 use crate::stop::{Reading, Stop};
 use ash_lex::{ReservedWord, Sign, Token, TokenKind};
 use ash_tree::{Declaration, Module};
 use std::alloc::Global;
 
-/// The word to tell for a token that the profile does not have.
-#[tactic(auto, unfolding(crate::specs::Faults::word_of))]
-fn unsupported(kind: &TokenKind) -> Option<&'static str>
-    ensures { option_map (λ w. w.now) result ≡ word_of (meaning_of kind.now) }
+/// Whether the tokens end in the head of a class, `class NAME`.
+#[tactic(auto, using(crate::proofs::Told::ends_in), unfolding(crate::specs::Faults::ends_in_class_head))]
+fn ends_in_class_head(tokens: &[Token]) -> bool
+    ensures { result ≡ ends_in_class_head (tokens_of tokens.now) }
+{
+    let count = tokens.len();
+    let Some(first) = tokens.get(count.saturating_sub(2)) else {
+        return false;
+    };
+    let Some(last) = tokens.get(count.saturating_sub(1)) else {
+        return false;
+    };
+    matches!(&first.kind, TokenKind::Reserved(ReservedWord::Class))
+        && matches!(&last.kind, TokenKind::Name(_))
+}
+
+/// The part that a token behind these belongs to which the profile does not have.
+#[tactic(auto, unfolding(crate::specs::Faults::part_behind))]
+fn part_behind(front: &[Token], kind: &TokenKind) -> Option<UnsupportedPart>
+    ensures { result ≡ part_behind (tokens_of front.now) (meaning_of kind.now) }
 {
     match kind {
-        TokenKind::Unsupported(word) => Some(word.as_str()),
-        TokenKind::Sign(Sign::Power) => Some("**"),
-        TokenKind::Sign(Sign::Scope) => Some("::"),
-        TokenKind::Sign(Sign::OpenBracket) => Some("array"),
-        TokenKind::Reserved(ReservedWord::Array) => Some("array"),
-        TokenKind::Reserved(ReservedWord::Cast) => Some("cast"),
-        TokenKind::Reserved(ReservedWord::Interface) => Some("interface"),
+        TokenKind::Unsupported(word) => Some(UnsupportedPart::Word(*word)),
+        TokenKind::Sign(Sign::Power) => Some(UnsupportedPart::Power),
+        TokenKind::Sign(Sign::Scope) => Some(UnsupportedPart::Scope),
+        TokenKind::Sign(Sign::OpenBracket) => Some(UnsupportedPart::Array),
+        TokenKind::Sign(Sign::Colon) => {
+            if ends_in_class_head(front) {
+                Some(UnsupportedPart::Interface)
+            } else {
+                None
+            }
+        }
+        TokenKind::Reserved(ReservedWord::Array) => Some(UnsupportedPart::Array),
+        TokenKind::Reserved(ReservedWord::Cast) => Some(UnsupportedPart::Cast),
+        TokenKind::Reserved(ReservedWord::Interface) => Some(UnsupportedPart::Interface),
         _ => None,
     }
 }
 
-/// Whether the tokens end in the head of a class, `class NAME`.
-fn ends_in_class_name(tokens: &[Token]) -> bool {
-    let Some((last, front)) = tokens.split_last() else {
-        return false;
-    };
-    let Some((first, _)) = front.split_last() else {
-        return false;
-    };
-    matches!(&last.kind, TokenKind::Name(_))
-        && matches!(&first.kind, TokenKind::Reserved(ReservedWord::Class))
-}
-
 /// Where the first of the tokens from the fault on stands, or where all of the tokens end.
 fn offset(tokens: &[Token], rest: &[Token]) -> usize
-    ensures { result ≡ start tokens.now (tokens_of rest.now) }
+    ensures { result ≡ start (end_of tokens.now) (tokens_of rest.now) }
 {
     match rest.first() {
         Some(next) => next.from,
@@ -85,19 +96,17 @@ fn fault(tokens: &[Token], stop: Stop) -> ParseFault
 fn unexpected(tokens: &[Token], rest: &[Token]) -> ParseFault
     ensures { Tells tokens.now result (Unexpected (tokens_of rest.now)) }
 {
-    let at = offset(tokens, rest);
-    let Some((next, _)) = rest.split_first() else {
-        return ParseFault::Unexpected { at };
+    let Some(next) = rest.first() else {
+        return ParseFault::Unexpected { at: end(tokens) };
     };
-    if let Some(word) = unsupported(&next.kind) {
-        return ParseFault::Unsupported { word, at };
-    }
     let front = tokens.len().saturating_sub(rest.len());
-    if matches!(&next.kind, TokenKind::Sign(Sign::Colon)) && ends_in_class_name(&tokens[..front]) {
-        let word = "interface";
-        return ParseFault::Unsupported { word, at };
+    match part_behind(&tokens[..front], &next.kind) {
+        Some(word) => ParseFault::Unsupported {
+            word,
+            at: next.from,
+        },
+        None => ParseFault::Unexpected { at: next.from },
     }
-    ParseFault::Unexpected { at }
 }
 
 /// The tree of a script.
@@ -107,14 +116,14 @@ fn unexpected(tokens: &[Token], rest: &[Token]) -> ParseFault
 /// Tokens that have no tree within depth 64 are refused with a fault: [`ParseFault::Unexpected`] or
 /// [`ParseFault::Unsupported`] at the first token that fits nowhere, [`ParseFault::TooDeep`] at the first that stands too
 /// deep, whichever comes first. Where memory runs out the answer is [`ParseFault::NoMemory`].
-#[tactic(auto, using(crate::proofs::ItemSound::module_sound, crate::proofs::Told::told_is_fault, crate::proofs::ItemComplete::items_are_one, crate::proofs::ItemComplete::module_memory))]
+#[tactic(auto, using(crate::proofs::ItemSound::module_sound, crate::proofs::Told::told_is_fault, crate::proofs::ItemComplete::items_are_one, crate::proofs::ItemComplete::module_memory, crate::proofs::FirstFaults::module_told_first))]
 pub fn parse_module(alloc: Global, tokens: &[Token]) -> Result<Module, ParseFault>
     // What is answered is a tree that the tokens derive, all of them, within depth 64.
     ensures derived { IfOk result (λ tree. Derives 0 (tokens_of tokens.now) (module_of tree)) }
     // Whatever the tokens derive within depth 64 is what is answered, unless memory runs out.
     ensures only { (derived : List Item) → Derives 0 (tokens_of tokens.now) derived → MatchResult result (λ tree. module_of tree ≡ derived) (λ fault. fault ≡ NoMemory) }
-    // The answer is what reading the tokens once gives, and the fault stands where it stops.
-    ensures read { MatchResult result (λ tree. module_at (tokens_of tokens.now) ≡ Ok (module_of tree, [])) (λ fault. IsFault tokens.now fault (module_at (tokens_of tokens.now))) }
+    // A fault is the first by the grammar: what stands before it begins a module, and nothing that goes on with it is one.
+    ensures first { IfErr result (λ fault. TellsFirst FirstFault tokens.now fault) }
 {
     match items(alloc, tokens) {
         Ok((items, _)) => Ok(Module { items }),
@@ -127,14 +136,14 @@ pub fn parse_module(alloc: Global, tokens: &[Token]) -> Result<Module, ParseFaul
 /// # Errors
 ///
 /// As for [`parse_module`].
-#[tactic(auto, using(crate::proofs::ItemShorter::declaration_sound, crate::proofs::Told::told_is_fault, crate::proofs::ItemComplete::declarations_are_one, crate::proofs::ItemComplete::declaration_memory), unfolding(crate::specs::Faults::whole_declaration_at))]
+#[tactic(auto, using(crate::proofs::ItemShorter::declaration_sound, crate::proofs::Told::told_is_fault, crate::proofs::ItemComplete::declarations_are_one, crate::proofs::ItemComplete::declaration_memory, crate::proofs::FirstFaults::declaration_told_first), unfolding(crate::specs::Faults::whole_declaration_at))]
 pub fn parse_declaration(alloc: Global, tokens: &[Token]) -> Result<Declaration, ParseFault>
     // What is answered is a tree that the tokens derive, all of them.
     ensures derived { IfOk result (λ tree. Declares (tokens_of tokens.now) (declaration_of tree)) }
     // Whatever the tokens derive is what is answered, unless memory runs out.
     ensures only { (derived : DeclarationTree) → Declares (tokens_of tokens.now) derived → MatchResult result (λ tree. declaration_of tree ≡ derived) (λ fault. fault ≡ NoMemory) }
-    // The answer is what reading the tokens once gives, and the fault stands where it stops.
-    ensures read { MatchResult result (λ tree. whole_declaration_at (tokens_of tokens.now) ≡ Ok (declaration_of tree, [])) (λ fault. IsFault tokens.now fault (whole_declaration_at (tokens_of tokens.now))) }
+    // A fault is the first by the grammar: what stands before it begins a declaration, and nothing that goes on with it is one.
+    ensures first { IfErr result (λ fault. TellsFirst FirstDeclarationFault tokens.now fault) }
 {
     match whole_declaration(alloc, tokens) {
         Ok((declaration, _)) => Ok(declaration),
@@ -167,6 +176,28 @@ pub fn has_one_module(tokens: &[Token])
 #[tactic(auto, using(crate::proofs::ItemComplete::one_declaration))]
 pub fn has_one_declaration(tokens: &[Token])
     ensures { HasOneDeclaration (tokens_of tokens.now) }
+{
+    let _tokens = tokens;
+}
+
+/// That the tokens of a script have a tree or, if they have none, one first fault, by the grammar. It does nothing when it
+/// runs.
+#[tactic(auto, using(crate::proofs::OneFault::one_fault, crate::proofs::OneFault::not_both_had))]
+pub fn has_one_fault(tokens: &[Token])
+    ensures one { HasOneFault (tokens_of tokens.now) }
+    ensures either { HasTreeOrFault (tokens_of tokens.now) }
+    ensures not_both { HasNotBoth (tokens_of tokens.now) }
+{
+    let _tokens = tokens;
+}
+
+/// That the tokens of a registered declaration have a tree or, if they have none, one first fault. It does nothing when it
+/// runs.
+#[tactic(auto, using(crate::proofs::OneFault::one_declaration_fault, crate::proofs::OneFault::not_both_declared))]
+pub fn has_one_declaration_fault(tokens: &[Token])
+    ensures one { HasOneDeclarationFault (tokens_of tokens.now) }
+    ensures either { HasDeclarationOrFault (tokens_of tokens.now) }
+    ensures not_both { HasNotBothDeclared (tokens_of tokens.now) }
 {
     let _tokens = tokens;
 }

@@ -1,4 +1,14 @@
-use super::{has_one_declaration, has_one_module, parse_declaration, parse_module};
+//! What is told of scripts and of registered declarations.
+
+mod depth;
+mod largest;
+mod trees;
+mod truncated;
+
+use super::{
+    has_one_declaration, has_one_declaration_fault, has_one_fault, has_one_module,
+    parse_declaration, parse_module,
+};
 use ash_lex::lex;
 use std::alloc::Global;
 use std::test::*;
@@ -7,6 +17,7 @@ use std::test::*;
 fn told(alloc: Global, source: &str) -> Result<String, Fail> {
     let tokens = lex(alloc, source).ok().ok_or("no tokens")?;
     has_one_module(tokens.as_slice());
+    has_one_fault(tokens.as_slice());
     match parse_module(alloc, tokens.as_slice()) {
         Ok(_) => Ok(String::from_str(alloc, "ok")?),
         Err(fault) => Ok(format!(in alloc; "{fault}").ok().ok_or("memory ran out")?),
@@ -17,24 +28,11 @@ fn told(alloc: Global, source: &str) -> Result<String, Fail> {
 fn told_declared(alloc: Global, source: &str) -> Result<String, Fail> {
     let tokens = lex(alloc, source).ok().ok_or("no tokens")?;
     has_one_declaration(tokens.as_slice());
+    has_one_declaration_fault(tokens.as_slice());
     match parse_declaration(alloc, tokens.as_slice()) {
         Ok(_) => Ok(String::from_str(alloc, "ok")?),
         Err(fault) => Ok(format!(in alloc; "{fault}").ok().ok_or("memory ran out")?),
     }
-}
-
-/// `int f() { return ((..1..)); }` with so many brackets.
-fn bracketed(alloc: Global, brackets: usize) -> Result<String, Fail> {
-    let mut source = String::from_str(alloc, "int f() { return ")?;
-    for _ in 0..brackets {
-        source.push_str("(")?;
-    }
-    source.push_str("1")?;
-    for _ in 0..brackets {
-        source.push_str(")")?;
-    }
-    source.push_str("; }")?;
-    Ok(source)
 }
 
 #[test]
@@ -43,6 +41,7 @@ fn tells_the_first_fault(rt: HostRuntime) -> Result<(), Fail> {
         ("int f( {", "104 Unexpected 7"),
         ("float x;", "105 Unsupported float 0"),
         ("class A : I { }", "105 Unsupported interface 8"),
+        ("class A { } A : I { }", "104 Unexpected 14"),
         ("", "ok"),
         (";;", "ok"),
         ("int", "104 Unexpected 3"),
@@ -66,15 +65,6 @@ fn tells_the_first_fault(rt: HostRuntime) -> Result<(), Fail> {
         let found = told(rt.alloc(), source)?;
         assert_eq!(rt; found.as_str(), wanted, "{source}");
     }
-    Ok(())
-}
-
-#[test]
-fn tells_the_depth(rt: HostRuntime) -> Result<(), Fail> {
-    let found = told(rt.alloc(), bracketed(rt.alloc(), 63)?.as_str())?;
-    assert_eq!(rt; found.as_str(), "ok");
-    let found = told(rt.alloc(), bracketed(rt.alloc(), 64)?.as_str())?;
-    assert_eq!(rt; found.as_str(), "106 TooDeep 81");
     Ok(())
 }
 
@@ -148,14 +138,4 @@ fn printed(alloc: Global, source: &str) -> Result<String, Fail> {
         .ok()
         .ok_or("no tree")?;
     Ok(format!(in alloc; "{tree:?}").ok().ok_or("memory ran out")?)
-}
-
-#[test]
-fn makes_the_tree(rt: HostRuntime) -> Result<(), Fail> {
-    let tree = printed(rt.alloc(), "int a = 1 - 2 - 3;")?;
-    assert_eq!(rt;
-        tree.as_str(),
-        "Module { items: [Vars(Vars { of: Type { place: Place { at: 0, line: 1 }, kind: Primitive(Int) }, decls: [Decl { place: Place { at: 4, line: 1 }, name: \"a\", initializer: Value(Expr { place: Place { at: 8, line: 1 }, kind: Binary { first: Expr { place: Place { at: 8, line: 1 }, kind: Number(1) }, links: [Link { operator: Subtract, operand: Expr { place: Place { at: 12, line: 1 }, kind: Number(2) } }, Link { operator: Subtract, operand: Expr { place: Place { at: 16, line: 1 }, kind: Number(3) } }] } }) }] })] }"
-    );
-    Ok(())
 }

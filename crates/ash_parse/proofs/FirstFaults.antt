@@ -1,0 +1,114 @@
+-- Where reading stops is the first fault by the grammar: what is proved of the tokens in front of it, and of those up to it.
+use Rattle.std.proofs.Common.{◌≡◌, suc, ◌≤◌, ◌⊎◌, inl, inr, List, [], ◌∷◌, ◌++◌, length, Ok, Err, sym, ap, subst, ◌∙◌, refl, append_assoc, arith}
+use Rattle.ash_lex.specs.Tokens.{Meaning}
+use Rattle.ash_lex.specs.declared.tokens.Token.{Token}
+use Rattle.ash_tree.specs.declared.tree.places.Place.{Place}
+use Rattle.ash_tree.specs.Tree.{Item, Declaration}
+use Rattle.ash_tree.specs.Tokens.{Tokens, tokens_of}
+use Rattle.ash_tree.specs.Grammar.{Derives}
+use Rattle.ash_parse.specs.declared.faults.ParseFault.{ParseFault}
+use Rattle.ash_parse.specs.declared.faults.ParseFault.TheVariants as faults
+use Rattle.ash_parse.specs.Reading.{Halt, Unexpected, TooDeep, Reading}
+use Rattle.ash_parse.specs.ItemReader.{module_at}
+use Rattle.ash_parse.specs.Faults.{IsFault, whole_declaration_at}
+use Rattle.ash_parse.specs.Unique.{HasTreeOrFault, HasDeclarationOrFault}
+use Rattle.ash_parse.specs.FirstFault.{NoneWithin, NoneLeftDeep, FirstFault, FirstDeclarationFault, TellsFirst}
+use Rattle.ash_parse.proofs.NoneGoesOn.{goes_too_deep, none_goes_on, none_within, no_declaration_goes_on}
+use Rattle.ash_parse.proofs.BeginItems.{begun, begun_deep, some_token_deep}
+use Rattle.ash_parse.proofs.BeginDeclarations.{begun_declaration}
+use Rattle.ash_parse.proofs.NeverDeep.{declaration_never_deep}
+use Rattle.ash_parse.proofs.ItemComplete.{module_cut}
+use Rattle.ash_parse.proofs.WholeModules.{module_derived, declaration_derived}
+use Rattle.ash_parse.proofs.KeepsItems.{keeps_not_deep}
+use Rattle.ash_parse.proofs.OneFault.{heads, tails, split, same_place, by_place, within_later, whole_within, one_fault, no_module}
+
+-- where reading stops, each fault is such a one
+abbrev pub StopsFirst : {A : Type 0} → (Tokens → Halt → Type 0) → Tokens → Reading A → Type 0
+StopsFirst {A} IsFirst ts read = (h : Halt) → read ≡ Err h → IsFirst ts h
+
+-- what is told is the first fault
+told_first_at : {A : Type 0} (IsFirst : Tokens → Halt → Type 0) (all : List Token) (f : ParseFault) (read : Reading A) → StopsFirst IsFirst (tokens_of all) read → IsFault all f read → TellsFirst IsFirst all f
+told_first_at IsFirst all faults.NoMemory read first h = tt
+told_first_at IsFirst all (faults.Unexpected at) (Ok x) first h = absurd h
+told_first_at IsFirst all (faults.Unexpected at) (Err e) first h = (e, h, first e refl)
+told_first_at IsFirst all (faults.Unsupported word at) (Ok x) first h = absurd h
+told_first_at IsFirst all (faults.Unsupported word at) (Err e) first h = (e, h, first e refl)
+told_first_at IsFirst all (faults.TooDeep at) (Ok x) first h = absurd h
+told_first_at IsFirst all (faults.TooDeep at) (Err e) first h = (e, h, first e refl)
+
+-- where only `t` and what is behind it are free, and `t` is too deep, reading is cut there
+cut_there : (less tail : Tokens) (t : Meaning × Place) (items : List Item) → Derives (suc (length tail)) (less ++ t ∷ tail) items → NoneWithin less t tail → (module_at (less ++ t ∷ tail) ≡ Ok (items, [])) ⊎ ((rest : Tokens) × (module_at (less ++ t ∷ tail) ≡ Err (TooDeep rest)) × (length rest ≤ suc (length tail))) → module_at (less ++ t ∷ tail) ≡ Err (TooDeep (t ∷ tail))
+cut_there less tail t items d none (inl e) = absurd (whole_within less t tail items none (module_derived (less ++ t ∷ tail) items [] e))
+cut_there less tail t items d none (inr ([], e, l)) = absurd (some_token_deep (less ++ t ∷ tail) e)
+cut_there less tail t items d none (inr (u ∷ rest, e, l)) =
+    let b = begun_deep (less ++ t ∷ tail) rest u e in
+    by_place (module_at (less ++ t ∷ tail) ≡ Err (TooDeep (t ∷ tail))) (t ∷ tail) (u ∷ rest)
+    (λ k. let q = split less (t ∷ tail) b.0 (u ∷ rest) b.3 k in
+    let same : t ≡ q.0 = heads t q.0 tail (q.1 ++ u ∷ rest) q.3 in
+    let behind : tail ≡ q.1 ++ u ∷ rest = tails t q.0 tail (q.1 ++ u ∷ rest) q.3 in
+    let f : b.0 ≡ less ++ t ∷ q.1 = q.2 ∙ ap (λ (a : Meaning × Place). less ++ a ∷ q.1) (sym same) in
+    let g : Derives (suc (length b.1)) ((less ++ t ∷ q.1) ++ u ∷ b.1) b.2 = subst (λ (l : Tokens). Derives (suc (length b.1)) (l ++ u ∷ b.1) b.2) f b.5 in
+    absurd (within_later less t q.1 b.1 rest u (suc (length b.1)) b.2 (subst (NoneWithin less t) behind none) (subst (λ (l : Tokens). Derives (suc (length b.1)) l b.2) (append_assoc less (t ∷ q.1) (u ∷ b.1)) g) (omega arith)))
+    (λ k. e ∙ ap (λ (l : Tokens). Err (TooDeep l)) (sym (same_place less (t ∷ tail) b.0 (u ∷ rest) b.3 k).1))
+    (λ k. absurd (omega arith))
+
+-- right behind a token that could be too deep, nothing is unexpected
+none_left_deep : (front rest : Tokens) → module_at (front ++ rest) ≡ Err (Unexpected rest) → NoneLeftDeep front
+none_left_deep front rest h less t e deep =
+    let is : (less ++ t ∷ []) ++ rest ≡ less ++ t ∷ rest = append_assoc less (t ∷ []) rest in
+    let here : module_at (less ++ t ∷ rest) ≡ Err (Unexpected rest) = ap module_at (sym is) ∙ ap (λ (l : Tokens). module_at (l ++ rest)) (sym e) ∙ h in
+    keeps_not_deep less rest deep.0 t here (cut_there less deep.0 t deep.1 deep.2 deep.3 (module_cut (suc (length deep.0)) (less ++ t ∷ deep.0) deep.1 deep.2))
+
+at_unexpected : (ts rest : Tokens) → module_at ts ≡ Err (Unexpected rest) → FirstFault ts (Unexpected rest)
+at_unexpected ts rest h =
+    let b = begun ts rest h in
+    let e : module_at (b.0 ++ rest) ≡ Err (Unexpected rest) = ap module_at (sym b.1) ∙ h in
+    (b.0, b.1, b.2, none_goes_on b.0 rest e, none_left_deep b.0 rest e)
+
+at_too_deep : (ts rest : Tokens) → module_at ts ≡ Err (TooDeep rest) → FirstFault ts (TooDeep rest)
+at_too_deep ts [] h = some_token_deep ts h
+at_too_deep ts (t ∷ rest) h =
+    let b = begun_deep ts rest t h in
+    let e : module_at (b.0 ++ t ∷ rest) ≡ Err (TooDeep (t ∷ rest)) = ap module_at (sym b.3) ∙ h in
+    (b.0, b.3, (t ∷ b.1, b.2, b.5), goes_too_deep b.0 rest b.1 t b.2 b.4 e b.5, none_within b.0 rest t e)
+
+-- where reading a module stops is its first fault
+pub module_stops_first : (ts : Tokens) → StopsFirst FirstFault ts (module_at ts)
+module_stops_first ts (Unexpected rest) h = at_unexpected ts rest h
+module_stops_first ts (TooDeep rest) h = at_too_deep ts rest h
+
+stops_there : (ts : Tokens) (h : Halt) → FirstFault ts h → (o : Reading (List Item)) → module_at ts ≡ o → o ≡ Err h
+stops_there ts h first (Ok x) e = absurd (no_module ts h x.0 first (module_derived ts x.0 x.1 e))
+stops_there ts h first (Err k) e = ap (λ (f : Halt). Err f) (one_fault ts k h (module_stops_first ts k e) first)
+
+-- and reading stops at the first fault
+pub first_is_stop : (ts : Tokens) (h : Halt) → FirstFault ts h → module_at ts ≡ Err h
+first_is_stop ts h first = stops_there ts h first (module_at ts) refl
+
+found : (ts : Tokens) (o : Reading (List Item)) → module_at ts ≡ o → HasTreeOrFault ts
+found ts (Ok x) e = inl (x.0, module_derived ts x.0 x.1 e)
+found ts (Err h) e = inr (h, module_stops_first ts h e)
+
+pub tree_or_fault : (ts : Tokens) → HasTreeOrFault ts
+tree_or_fault ts = found ts (module_at ts) refl
+
+pub module_told_first : (all : List Token) (f : ParseFault) → IsFault all f (module_at (tokens_of all)) → TellsFirst FirstFault all f
+module_told_first all f h = told_first_at FirstFault all f (module_at (tokens_of all)) (module_stops_first (tokens_of all)) h
+
+declared_unexpected : (ts rest : Tokens) → whole_declaration_at ts ≡ Err (Unexpected rest) → FirstDeclarationFault ts (Unexpected rest)
+declared_unexpected ts rest h = let b = begun_declaration ts rest h in (b.0, b.1, b.2, no_declaration_goes_on b.0 rest (ap whole_declaration_at (sym b.1) ∙ h))
+
+-- where reading a declaration stops is its first fault
+declaration_stops_first : (ts : Tokens) → StopsFirst FirstDeclarationFault ts (whole_declaration_at ts)
+declaration_stops_first ts (Unexpected rest) h = declared_unexpected ts rest h
+declaration_stops_first ts (TooDeep rest) h = declaration_never_deep ts rest h
+
+found_declared : (ts : Tokens) (o : Reading Declaration) → whole_declaration_at ts ≡ o → HasDeclarationOrFault ts
+found_declared ts (Ok x) e = inl (x.0, declaration_derived ts x.0 x.1 e)
+found_declared ts (Err h) e = inr (h, declaration_stops_first ts h e)
+
+pub declaration_or_fault : (ts : Tokens) → HasDeclarationOrFault ts
+declaration_or_fault ts = found_declared ts (whole_declaration_at ts) refl
+
+pub declaration_told_first : (all : List Token) (f : ParseFault) → IsFault all f (whole_declaration_at (tokens_of all)) → TellsFirst FirstDeclarationFault all f
+declaration_told_first all f h = told_first_at FirstDeclarationFault all f (whole_declaration_at (tokens_of all)) (declaration_stops_first (tokens_of all)) h

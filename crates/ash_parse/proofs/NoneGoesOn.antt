@@ -1,0 +1,59 @@
+-- No module, and no declaration, goes on where reading stops.
+use Rattle.std.proofs.Common.{false, ◌≡◌, ℕ, suc, ◌≤◌, List, [], ◌∷◌, ◌++◌, length, Ok, Err, sym, ap, ◌∙◌, arith}
+use Rattle.std.proofs.lemmas.List.{append-nil}
+use Rattle.ash_lex.specs.Tokens.{Meaning}
+use Rattle.ash_tree.specs.declared.tree.places.Place.{Place}
+use Rattle.ash_tree.specs.Tree.{Item, Declaration}
+use Rattle.ash_tree.specs.Tokens.{Tokens}
+use Rattle.ash_tree.specs.Grammar.{Derives, Declares}
+use Rattle.ash_parse.specs.Reading.{Halt, Unexpected, TooDeep, Reading}
+use Rattle.ash_parse.specs.StatementReader.{is_vars}
+use Rattle.ash_parse.specs.ItemReader.{module_at}
+use Rattle.ash_parse.specs.Faults.{whole_declaration_at}
+use Rattle.ash_parse.specs.FirstFault.{NoneGoesOn, GoesTooDeep, NoneWithin, NoDeclarationGoesOn}
+use Rattle.ash_parse.proofs.Rereading.{Reads, whole, cut}
+use Rattle.ash_parse.proofs.ItemComplete.{module_reads, whole_read}
+use Rattle.ash_parse.proofs.KeepsItems.{keeps_unexpected, keeps_too_deep, keeps_deep, keeps_unexpected_declaration}
+
+pub no_ok : {A : Type 0} (x : A × Tokens) (e : Halt) → ◌≡◌ {A = Reading A} (Ok x) (Err e) → ⊥
+no_ok x e h = cc
+
+pub deep_expected : {A : Type 0} (some rest : Tokens) → ◌≡◌ {A = Reading A} (Err (TooDeep some)) (Err (Unexpected rest)) → ⊥
+deep_expected some rest h = cc
+
+deep_is : {A : Type 0} (some rest : Tokens) → ◌≡◌ {A = Reading A} (Err (TooDeep some)) (Err (TooDeep rest)) → some ≡ rest
+deep_is some rest h = cc
+
+-- what is read, or cut, is not unexpected
+reads_expected : {A : Type 0} {free : ℕ} {read : Reading A} {x : A × Tokens} (rest : Tokens) → Reads A free read x → read ≡ Err (Unexpected rest) → ⊥
+reads_expected rest (whole {x = x}) h = no_ok x (Unexpected rest) h
+reads_expected rest (cut {t = t} {more = more} l) h = deep_expected (t ∷ more) rest h
+
+-- what is read, or cut within the last `free` tokens, is not cut before them
+reads_later : {A : Type 0} {free : ℕ} {read : Reading A} {x : A × Tokens} (rest : Tokens) → Reads A free read x → read ≡ Err (TooDeep rest) → length rest ≤ free
+reads_later rest (whole {x = x}) h = absurd (no_ok x (TooDeep rest) h)
+reads_later {A} {free} rest (cut {t = t} {more = more} l) h = let e : length (t ∷ more) ≡ length rest = ap length (deep_is {A = A} (t ∷ more) rest h) in omega arith
+
+-- where reading is cut, fewer tokens are free in no derivation
+pub not_shallower : (free : ℕ) (ts rest : Tokens) (items : List Item) → module_at ts ≡ Err (TooDeep rest) → suc free ≤ length rest → Derives free ts items → ⊥
+not_shallower free ts rest items h l d = let k = reads_later rest (module_reads free ts items d) h in omega arith
+
+pub none_goes_on : (front rest : Tokens) → module_at (front ++ rest) ≡ Err (Unexpected rest) → NoneGoesOn front rest
+none_goes_on front [] h = λ free items d. reads_expected [] (module_reads free front items d) (ap module_at (sym (append-nil front)) ∙ h)
+none_goes_on front (t ∷ rest) h = λ free tail items d. reads_expected (t ∷ tail) (module_reads free (front ++ t ∷ tail) items d) (keeps_unexpected front rest tail t h)
+
+pub none_within : (front rest : Tokens) (t : Meaning × Place) → module_at (front ++ t ∷ rest) ≡ Err (TooDeep (t ∷ rest)) → NoneWithin front t rest
+none_within front [] t h = λ items d. not_shallower 0 (front ++ t ∷ []) (t ∷ []) items h (omega arith) d
+none_within front (u ∷ rest) t h = λ tail items d. not_shallower (suc (length tail)) (front ++ t ∷ u ∷ tail) (t ∷ u ∷ tail) items (keeps_too_deep front rest tail t u h) (omega arith) d
+
+-- a module that has only `t` and what is behind it free has `t` too deep
+pub goes_too_deep : (front rest tail : Tokens) (t : Meaning × Place) (items : List Item) → is_vars (t ∷ tail) ≡ false → module_at (front ++ t ∷ rest) ≡ Err (TooDeep (t ∷ rest)) → Derives (suc (length tail)) (front ++ t ∷ tail) items → GoesTooDeep front t
+goes_too_deep front rest tail t items v h d = (tail, items, d, none_within front tail t (keeps_deep front rest tail t v h))
+
+-- what is a declaration is read
+declares_read : (ts rest : Tokens) (declared : Declaration) → whole_declaration_at ts ≡ Err (Unexpected rest) → Declares ts declared → ⊥
+declares_read ts rest declared h d = no_ok (declared, []) (Unexpected rest) (sym (whole_read ts declared d) ∙ h)
+
+pub no_declaration_goes_on : (front rest : Tokens) → whole_declaration_at (front ++ rest) ≡ Err (Unexpected rest) → NoDeclarationGoesOn front rest
+no_declaration_goes_on front [] h = λ declared d. declares_read front [] declared (ap whole_declaration_at (sym (append-nil front)) ∙ h) d
+no_declaration_goes_on front (t ∷ rest) h = λ tail declared d. declares_read (front ++ t ∷ tail) (t ∷ tail) declared (keeps_unexpected_declaration front rest tail t h) d

@@ -1,0 +1,64 @@
+-- Where tokens first go wrong, by the grammar alone: what stands before the fault begins a module, and what stands up to
+-- it and with it does not, or has it too deep. In what follows `front` is what stands before the fault.
+use Rattle.std.specs.Prelude.{◌≡◌, ℕ, suc, List, [], ◌∷◌, ◌++◌, length}
+use Rattle.ash_lex.specs.Tokens.{Meaning}
+use Rattle.ash_lex.specs.declared.tokens.Token.{Token}
+use Rattle.ash_tree.specs.declared.tree.places.Place.{Place}
+use Rattle.ash_tree.specs.Tree.{Item, Declaration}
+use Rattle.ash_tree.specs.Tokens.{Tokens, tokens_of}
+use Rattle.ash_tree.specs.Grammar.{Derives, Declares}
+use Rattle.ash_parse.specs.declared.faults.ParseFault.{ParseFault}
+use Rattle.ash_parse.specs.declared.faults.ParseFault.TheVariants as faults
+use Rattle.ash_parse.specs.Reading.{Halt, Unexpected, TooDeep}
+use Rattle.ash_parse.specs.Faults.{Tells}
+
+-- these tokens begin a module in which none of them stands too deep
+abbrev pub Begun : Tokens → Type 0
+Begun front = (tail : Tokens) × (items : List Item) × Derives (length tail) (front ++ tail) items
+
+-- no module, however deep, begins with these tokens and the first of `rest`; or is these tokens, where none is left
+abbrev pub NoneGoesOn : Tokens → Tokens → Type 0
+NoneGoesOn front [] = (free : ℕ) (items : List Item) → Derives free front items → ⊥
+NoneGoesOn front (t ∷ rest) = (free : ℕ) (tail : Tokens) (items : List Item) → Derives free (front ++ t ∷ tail) items → ⊥
+
+-- no module that begins with these tokens, `t` and the token behind it keeps `t` within the depth; or that is these tokens
+-- and `t`, where nothing is left. The token behind `t` counts, since a name or a primitive type alone leaves open whether
+-- a declaration begins, or an expression, which stands one deeper.
+abbrev pub NoneWithin : Tokens → Meaning × Place → Tokens → Type 0
+NoneWithin front t [] = (items : List Item) → Derives 0 (front ++ t ∷ []) items → ⊥
+NoneWithin front t (u ∷ rest) = (tail : Tokens) (items : List Item) → Derives (suc (length tail)) (front ++ t ∷ u ∷ tail) items → ⊥
+
+-- some module begins with these tokens and `t`, and has no token before `t` too deep; and `t` is too deep in each that has
+-- the same token behind it
+abbrev pub GoesTooDeep : Tokens → Meaning × Place → Type 0
+GoesTooDeep front t = (tail : Tokens) × (items : List Item) × Derives (suc (length tail)) (front ++ t ∷ tail) items × NoneWithin front t tail
+
+-- The last of these tokens is too deep in no module. Where it could be, being a name or a primitive type that leaves open
+-- what begins, and what is behind it fits nowhere, the fault is this token's, which then counts as an expression's.
+abbrev pub NoneLeftDeep : Tokens → Type 0
+NoneLeftDeep front = (less : Tokens) (t : Meaning × Place) → front ≡ less ++ t ∷ [] → GoesTooDeep less t → ⊥
+
+-- The first fault of tokens that are no module within the depth. Tokens have one such fault at most.
+abbrev pub FirstFault : Tokens → Halt → Type 0
+FirstFault all (Unexpected rest) = (front : Tokens) × (all ≡ front ++ rest) × Begun front × NoneGoesOn front rest × NoneLeftDeep front
+FirstFault all (TooDeep []) = ⊥
+FirstFault all (TooDeep (t ∷ rest)) = (front : Tokens) × (all ≡ front ++ t ∷ rest) × Begun front × GoesTooDeep front t × NoneWithin front t rest
+
+-- these tokens begin a declaration
+abbrev pub DeclarationBegun : Tokens → Type 0
+DeclarationBegun front = (tail : Tokens) × (declared : Declaration) × Declares (front ++ tail) declared
+
+-- no declaration begins with these tokens and the first of `rest`; or is these tokens, where none is left
+abbrev pub NoDeclarationGoesOn : Tokens → Tokens → Type 0
+NoDeclarationGoesOn front [] = (declared : Declaration) → Declares front declared → ⊥
+NoDeclarationGoesOn front (t ∷ rest) = (tail : Tokens) (declared : Declaration) → Declares (front ++ t ∷ tail) declared → ⊥
+
+-- the first fault of tokens that are no declaration; nothing in a declaration is deep
+abbrev pub FirstDeclarationFault : Tokens → Halt → Type 0
+FirstDeclarationFault all (Unexpected rest) = (front : Tokens) × (all ≡ front ++ rest) × DeclarationBegun front × NoDeclarationGoesOn front rest
+FirstDeclarationFault all (TooDeep rest) = ⊥
+
+-- what is told is such a fault, or memory ran out
+abbrev pub TellsFirst : (Tokens → Halt → Type 0) → List Token → ParseFault → Type 0
+TellsFirst IsFirst all faults.NoMemory = Unit {0}
+TellsFirst IsFirst all fault = (halt : Halt) × Tells all fault halt × IsFirst (tokens_of all) halt
