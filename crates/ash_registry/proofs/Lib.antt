@@ -1,2 +1,5 @@
 pub mod Parameters
 pub mod Mapped
+pub mod Meanings
+pub mod Verdicts
+pub mod Places

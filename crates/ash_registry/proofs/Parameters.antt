@@ -5,7 +5,7 @@ use Rattle.std.specs.Prelude.{codes}
 use Rattle.std.specs.List.{flat_map}
 use Rattle.std.proofs.Math.Seq.{drop-cons}
 use Rattle.std.proofs.lemmas.List.Concat.{flat_map-cons}
-use Rattle.ash_registry.specs.declared.types.Primitive.{Primitive}
+use Rattle.ash_tree.specs.declared.tree.types.Primitive.{Primitive}
 use Rattle.ash_registry.specs.Text.{primitive_text, more_parameters}
 
 -- one more parameter is written

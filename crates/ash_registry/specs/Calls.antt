@@ -1,7 +1,7 @@
 -- The accepted calls, and what they take.
 use Rattle.std.specs.Prelude.{ℕ, Bool, true, false, List, Option, None, Some, string_bytes, nat_eq, ◌&&◌}
 use Rattle.std.specs.Str.{bytes_eq}
-use Rattle.ash_registry.specs.declared.types.Primitive.{Primitive}
+use Rattle.ash_tree.specs.declared.tree.types.Primitive.{Primitive}
 use Rattle.ash_registry.specs.declared.call.Call as calls
 use Rattle.ash_registry.specs.declared.call.Call.TheVariants as the_calls
 use Rattle.ash_registry.specs.declared.call.Operation as operations

@@ -1,5 +1,7 @@
-pub mod Trees
+pub mod Texts
+pub mod Spelled
 pub mod Calls
+pub mod Names
 pub mod Text
 pub mod Refusals
 pub mod Registered

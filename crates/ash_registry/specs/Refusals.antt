@@ -1,14 +1,15 @@
 -- Which registrations are refused, with the first cause in the order in which they are tested, and what an
 -- accepted one adds.
-use Rattle.std.specs.Prelude.{◌≡◌, ◌⊎◌, ◌+◌, ℕ, Bool, true, false, not, ◌||◌, List, [], ◌∷◌, ◌++◌, Option, None, Some, Result, OnOk, OnErr, IfErr, length, nat_le, nat_lt, count_by}
+use Rattle.std.specs.Prelude.{◌≡◌, ◌⊎◌, ◌+◌, ℕ, Bool, true, false, not, ◌||◌, List, [], ◌∷◌, ◌++◌, Option, None, Some, Result, Err, OnOk, OnErr, IfErr, length, nat_le, nat_lt, count_by}
 use Rattle.std.specs.List.{list_any, filter_map}
 use Rattle.std.specs.Option.{is_none, option_and_then, option_to_list}
 use Rattle.std.specs.Str.{bytes_eq}
-use Rattle.ash_registry.specs.declared.types.Primitive.{Primitive}
+use Rattle.ash_tree.specs.declared.tree.types.Primitive.{Primitive}
 use Rattle.ash_registry.specs.declared.fault.RegistryFault.{RegistryFault}
 use Rattle.ash_registry.specs.declared.fault.RegistryFault.TheVariants.{UnknownType, NoService, BadDeclaration, ReservedName, NotPrimitive, NameTaken, FactoryTaken, TooMany, NoMemory}
-use Rattle.ash_registry.specs.Trees.{Named, Prim, Object, Handle, Signature, Declaration, Spelling, AName, AReserved, ANoName, primitive_of}
-use Rattle.ash_registry.specs.Trees as trees
+use Rattle.ash_tree.specs.Tree.{Named, Prim, Object, Handle, Signature, Property, Declaration, ASignature}
+use Rattle.ash_tree.specs.Tree as tree
+use Rattle.ash_registry.specs.Texts.{Spelling, AName, AReserved, ANoName}
 use Rattle.ash_registry.specs.Calls.{Operation, Call, AType, AFactory, AMethod, AProperty, AService, AFunction, is_type, names_type, takes_kind, takes_name, is_factory_of, is_member_of, takes_member, takes_method, takes_property, takes_function, is_service, is_function}
 use Rattle.ash_registry.specs.Text.{line_of, text_of}
 
@@ -23,9 +24,14 @@ is_known calls name = list_any (names_type name) calls
 
 -- whether a declared type is an object type that isn't registered
 abbrev pub is_unknown : List Call → Named → Bool
-is_unknown calls (Prim _) = false
-is_unknown calls (Object name) = not (is_known calls name)
-is_unknown calls (Handle name) = not (is_known calls name)
+is_unknown calls (Prim _ _) = false
+is_unknown calls (Object _ name) = not (is_known calls name)
+is_unknown calls (Handle _ name) = not (is_known calls name)
+
+-- a declared type, where it is a primitive
+abbrev pub primitive_of : Named → Option Primitive
+primitive_of (Prim _ primitive) = Some primitive
+primitive_of _ = None
 
 -- whether a declared type is no primitive
 abbrev pub is_object : Named → Bool
@@ -51,18 +57,6 @@ types_of s = option_to_list s.result ++ s.parameters
 abbrev pub primitive_operation : Signature → Operation
 primitive_operation s = record { name = s.name; result = option_and_then primitive_of s.result; parameters = filter_map primitive_of s.parameters }
 
--- A type has a name and a kind of its own, and there are at most 256.
-abbrev pub refusal_of_type : List Call → Spelling → ℕ → Option RegistryFault
-refusal_of_type calls ANoName kind = Some BadDeclaration
-refusal_of_type calls AReserved kind = Some ReservedName
-refusal_of_type calls (AName name) kind =
-    cause (list_any (takes_name name) calls || list_any (takes_kind kind) calls) NameTaken (cause_of_many (nat_le 256 (count_by is_type calls)) calls (AType name kind))
-
--- A service has a kind of its own, and there are at most 16.
-abbrev pub refusal_of_service : List Call → ℕ → Option RegistryFault
-refusal_of_service calls kind =
-    cause (list_any (takes_kind kind) calls) NameTaken (cause_of_many (nat_le 16 (count_by is_service calls)) calls (AService kind))
-
 -- A call is accepted where no cause speaks against it, and is then added; else its cause is told, or that memory
 -- ran out, and nothing changes.
 pub record RegisteredIf {A : Type 0} (refusal : Option RegistryFault) (call : List Call) (result : Result A RegistryFault) (old new : List Call) : Type 0 where
@@ -71,10 +65,21 @@ pub record RegisteredIf {A : Type 0} (refusal : Option RegistryFault) (call : Li
   pub refused : IfErr result (λ fault. (refusal ≡ Some fault) ⊎ (fault ≡ NoMemory))
   pub unchanged : OnErr result (new ≡ old)
 
--- the call of a type
-abbrev pub type_call : Spelling → ℕ → List Call
-type_call (AName name) kind = AType name kind ∷ []
-type_call _ _ = []
+-- Where the first test of a call speaks against it that is told, whether memory is there or not.
+abbrev pub TellsAtOnce : {A : Type 0} → Bool → RegistryFault → Result A RegistryFault → Type 0
+TellsAtOnce test fault result = test ≡ true → result ≡ Err fault
+
+-- A type has a name and a kind of its own, and there are at most 256.
+abbrev pub refusal_of_type : List Call → List ℕ → Spelling → ℕ → Option RegistryFault
+refusal_of_type calls name ANoName kind = Some BadDeclaration
+refusal_of_type calls name AReserved kind = Some ReservedName
+refusal_of_type calls name AName kind =
+    cause (list_any (takes_name name) calls || list_any (takes_kind kind) calls) NameTaken (cause_of_many (nat_le 256 (count_by is_type calls)) calls (AType name kind))
+
+-- A service has a kind of its own, and there are at most 16.
+abbrev pub refusal_of_service : List Call → ℕ → Option RegistryFault
+refusal_of_service calls kind =
+    cause (list_any (takes_kind kind) calls) NameTaken (cause_of_many (nat_le 16 (count_by is_service calls)) calls (AService kind))
 
 -- What a method declares: a function of primitives. A type's methods and properties have names of their own, its
 -- methods numbers of their own, and there are at most 32 of both.
@@ -82,14 +87,16 @@ abbrev pub refusal_of_signature : List Call → List ℕ → ℕ → Signature �
 refusal_of_signature calls of id s =
     cause_in calls (types_of s) (cause (list_any (takes_member of s.name) calls || list_any (takes_method of id) calls) NameTaken (cause_of_many (nat_le 32 (count_by (is_member_of of) calls)) calls (AMethod of id (primitive_operation s))))
 
-abbrev pub refusal_of_method : List Call → List ℕ → Option Declaration → ℕ → Option RegistryFault
-refusal_of_method calls of None id = cause (not (is_known calls of)) UnknownType (Some BadDeclaration)
-refusal_of_method calls of (Some (trees.AProperty _ _)) id = cause (not (is_known calls of)) UnknownType (Some BadDeclaration)
-refusal_of_method calls of (Some (trees.AFunction s)) id = cause (not (is_known calls of)) UnknownType (refusal_of_signature calls of id s)
+abbrev pub refusal_of_declared_method : List Call → List ℕ → ℕ → Option Declaration → Option RegistryFault
+refusal_of_declared_method calls of id (Some (ASignature s)) = refusal_of_signature calls of id s
+refusal_of_declared_method calls of id _ = Some BadDeclaration
+
+abbrev pub refusal_of_method : List Call → List ℕ → ℕ → Option Declaration → Option RegistryFault
+refusal_of_method calls of id declared = cause (not (is_known calls of)) UnknownType (refusal_of_declared_method calls of id declared)
 
 -- the call of a method
-abbrev pub method_call : List ℕ → Option Declaration → ℕ → List Call
-method_call of (Some (trees.AFunction s)) id = AMethod of id (primitive_operation s) ∷ []
+abbrev pub method_call : List ℕ → ℕ → Option Declaration → List Call
+method_call of id (Some (ASignature s)) = AMethod of id (primitive_operation s) ∷ []
 method_call _ _ _ = []
 
 -- A property is of a primitive type; its number is its own among the type's properties.
@@ -98,38 +105,44 @@ refusal_of_primitive calls of id value name =
     cause (list_any (takes_member of name) calls || list_any (takes_property of id) calls) NameTaken (cause_of_many (nat_le 32 (count_by (is_member_of of) calls)) calls (AProperty of id value name))
 
 abbrev pub refusal_of_value : List Call → List ℕ → ℕ → Named → List ℕ → Option RegistryFault
-refusal_of_value calls of id (Prim value) name = refusal_of_primitive calls of id value name
-refusal_of_value calls of id (Object other) name = cause (not (is_known calls other)) UnknownType (Some NotPrimitive)
-refusal_of_value calls of id (Handle other) name = cause (not (is_known calls other)) UnknownType (Some NotPrimitive)
+refusal_of_value calls of id (Prim _ value) name = refusal_of_primitive calls of id value name
+refusal_of_value calls of id (Object _ other) name = cause (not (is_known calls other)) UnknownType (Some NotPrimitive)
+refusal_of_value calls of id (Handle _ other) name = cause (not (is_known calls other)) UnknownType (Some NotPrimitive)
 
-abbrev pub refusal_of_property : List Call → List ℕ → Option Declaration → ℕ → Option RegistryFault
-refusal_of_property calls of (Some (trees.AProperty value name)) id = cause (not (is_known calls of)) UnknownType (refusal_of_value calls of id value name)
-refusal_of_property calls of _ id = cause (not (is_known calls of)) UnknownType (Some BadDeclaration)
+abbrev pub refusal_of_declared_property : List Call → List ℕ → ℕ → Option Declaration → Option RegistryFault
+refusal_of_declared_property calls of id (Some (tree.AProperty p)) = refusal_of_value calls of id p.of p.name
+refusal_of_declared_property calls of id _ = Some BadDeclaration
+
+abbrev pub refusal_of_property : List Call → List ℕ → ℕ → Option Declaration → Option RegistryFault
+refusal_of_property calls of id declared = cause (not (is_known calls of)) UnknownType (refusal_of_declared_property calls of id declared)
 
 -- the call of a property
 abbrev pub value_call : List ℕ → ℕ → Named → List ℕ → List Call
-value_call of id (Prim value) name = AProperty of id value name ∷ []
+value_call of id (Prim _ value) name = AProperty of id value name ∷ []
 value_call _ _ _ _ = []
 
-abbrev pub property_call : List ℕ → Option Declaration → ℕ → List Call
-property_call of (Some (trees.AProperty value name)) id = value_call of id value name
+abbrev pub property_call : List ℕ → ℕ → Option Declaration → List Call
+property_call of id (Some (tree.AProperty p)) = value_call of id p.of p.name
 property_call _ _ _ = []
 
 -- A factory gives a handle of its own type, whatever its name, and a type has one.
 abbrev pub gives_handle_of : List ℕ → Option Named → Bool
-gives_handle_of of (Some (Handle name)) = bytes_eq of name
+gives_handle_of of (Some (Handle _ name)) = bytes_eq of name
 gives_handle_of _ _ = false
 
 abbrev pub refusal_of_constructor : List Call → List ℕ → List Named → Option RegistryFault
 refusal_of_constructor calls of parameters =
     cause_in calls parameters (cause (list_any (is_factory_of of) calls) FactoryTaken (cause_of_many false calls (AFactory of (filter_map primitive_of parameters))))
 
+abbrev pub refusal_of_declared_factory : List Call → List ℕ → Option Declaration → Option RegistryFault
+refusal_of_declared_factory calls of (Some (ASignature s)) = cause (not (gives_handle_of of s.result)) BadDeclaration (refusal_of_constructor calls of s.parameters)
+refusal_of_declared_factory calls of _ = Some BadDeclaration
+
 abbrev pub refusal_of_factory : List Call → List ℕ → Option Declaration → Option RegistryFault
-refusal_of_factory calls of (Some (trees.AFunction s)) = cause (not (is_known calls of)) UnknownType (cause (not (gives_handle_of of s.result)) BadDeclaration (refusal_of_constructor calls of s.parameters))
-refusal_of_factory calls of _ = cause (not (is_known calls of)) UnknownType (Some BadDeclaration)
+refusal_of_factory calls of declared = cause (not (is_known calls of)) UnknownType (refusal_of_declared_factory calls of declared)
 
 abbrev pub factory_call : List ℕ → Option Declaration → List Call
-factory_call of (Some (trees.AFunction s)) = AFactory of (filter_map primitive_of s.parameters) ∷ []
+factory_call of (Some (ASignature s)) = AFactory of (filter_map primitive_of s.parameters) ∷ []
 factory_call _ _ = []
 
 -- A function of a service has a name of its own among types and functions and a number of its own in its service,
@@ -138,10 +151,13 @@ abbrev pub refusal_of_operation : List Call → ℕ → ℕ → Signature → Op
 refusal_of_operation calls service id s =
     cause_in calls (types_of s) (cause (list_any (takes_name s.name) calls || list_any (takes_function service id) calls) NameTaken (cause_of_many (nat_le 256 (count_by is_function calls)) calls (AFunction service id (primitive_operation s))))
 
-abbrev pub refusal_of_function : List Call → ℕ → Option Declaration → ℕ → Option RegistryFault
-refusal_of_function calls service (Some (trees.AFunction s)) id = cause (nat_le (count_by is_service calls) service) NoService (refusal_of_operation calls service id s)
-refusal_of_function calls service _ id = cause (nat_le (count_by is_service calls) service) NoService (Some BadDeclaration)
+abbrev pub refusal_of_declared_function : List Call → ℕ → ℕ → Option Declaration → Option RegistryFault
+refusal_of_declared_function calls service id (Some (ASignature s)) = refusal_of_operation calls service id s
+refusal_of_declared_function calls service id _ = Some BadDeclaration
 
-abbrev pub function_call : ℕ → Option Declaration → ℕ → List Call
-function_call service (Some (trees.AFunction s)) id = AFunction service id (primitive_operation s) ∷ []
+abbrev pub refusal_of_function : List Call → ℕ → ℕ → Option Declaration → Option RegistryFault
+refusal_of_function calls service id declared = cause (nat_le (count_by is_service calls) service) NoService (refusal_of_declared_function calls service id declared)
+
+abbrev pub function_call : ℕ → ℕ → Option Declaration → List Call
+function_call service id (Some (ASignature s)) = AFunction service id (primitive_operation s) ∷ []
 function_call _ _ _ = []

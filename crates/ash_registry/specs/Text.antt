@@ -2,8 +2,8 @@
 use Rattle.std.specs.Prelude.{ℕ, List, [], ◌∷◌, ◌++◌, Option, None, Some, codes}
 use Rattle.std.specs.List.{flat_map, concat}
 use Rattle.std.specs.Fmt.{decimal}
-use Rattle.ash_registry.specs.declared.types.Primitive.{Primitive}
-use Rattle.ash_registry.specs.declared.types.Primitive.TheVariants.{Bool, Int, Int64, Uint, Uint64}
+use Rattle.ash_tree.specs.declared.tree.types.Primitive.{Primitive}
+use Rattle.ash_tree.specs.declared.tree.types.Primitive.TheVariants.{Bool, Int, Int64, Uint, Uint64}
 use Rattle.ash_registry.specs.Calls.{Operation, Call, AType, AFactory, AMethod, AProperty, AService, AFunction}
 
 abbrev pub primitive_text : Primitive → List ℕ

@@ -3,7 +3,7 @@ ghost use Rattle.std.specs.Prelude.{◌≡◌};
 ghost use Rattle.ash_registry.specs.Calls.{call_of};
 ghost use Rattle.ash_registry.specs.Calls as spec;
 
-use crate::Primitive;
+use ash_tree::Primitive;
 
 /// A function of primitives: a method of a type or a function of a service. Without a result it is `void`.
 #[derive(Debug, PartialEq, Eq, Drop)]

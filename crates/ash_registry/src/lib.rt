@@ -1,15 +1,16 @@
-//! What the embedding program offers to scripts: types with their factories, methods and properties, services and
-//! their functions. It promises that a registration is accepted exactly where no refusal stands, that a refusal
-//! changes nothing, and that each look-up is that of the list of accepted calls.
+//! What an embedding program offers to scripts: types with their factories, methods and properties, services and
+//! their functions. Declarations are texts in script syntax. It stands on `ash_lex`, `ash_tree` and `ash_parse`, which
+//! cut and parse them. It promises that a registration is accepted exactly where no refusal stands and memory is there,
+//! that a refusal changes nothing, and that each look-up is that of the list of accepted calls.
 //!
-//! In reading order: `types` and `declaration` (what is declared), `call` (one accepted call), `fault` (why one is
-//! refused), `registry` (the calls).
+//! In reading order: `reading` (what the texts say), `call` (one accepted call), `fault` (why one is refused),
+//! `registry` (what is kept), `registration` (the calls that register), `queries` (look-ups), `text`.
 #![tactic(auto)]
 
 mod call;
-mod declaration;
 mod fault;
 mod queries;
+mod reading;
 mod registration;
 mod registry;
 mod searches;
@@ -17,10 +18,8 @@ mod signatures;
 #[cfg(test)]
 mod tests;
 mod text;
-mod types;
 
 pub use call::{Call, Operation};
-pub use declaration::{Declaration, Property, Signature, Spelled};
 pub use fault::RegistryFault;
+pub use reading::one_meaning;
 pub use registry::Registry;
-pub use types::{Primitive, TypeKind};

@@ -1,5 +1,5 @@
 //! What a registry tells.
-ghost use Rattle.std.specs.Prelude.{◌≡◌, [], count_by, find, IfOk};
+ghost use Rattle.std.specs.Prelude.{◌≡◌, ◌≤◌, ◌||◌, [], count_by, find, length, IfOk};
 ghost use Rattle.std.specs.List.{list_any, filter_map};
 ghost use Rattle.std.specs.Option.{option_copied, option_map};
 ghost use Rattle.ash_registry.specs.Calls.{call_of};
@@ -9,10 +9,11 @@ ghost use Rattle.ash_registry.specs.Text.{text_of};
 
 use crate::searches::{
     any_is_factory_of, any_names_type, any_takes_function, any_takes_kind, any_takes_member,
-    any_takes_method, any_takes_name, any_takes_property, find_factory, find_member, find_name,
+    any_takes_method, any_takes_property, call_at, find_factory, find_kind, find_member,
     kinds_of_services,
 };
 use crate::{Call, Registry};
+use indexmap::IndexMap;
 use std::alloc::{AllocError, Global};
 
 impl Registry {
@@ -23,24 +24,26 @@ impl Registry {
         Registry {
             alloc,
             calls: Vec::new(alloc),
+            names: IndexMap::new(alloc),
             text: String::new(alloc),
         }
     }
 
-    /// One line for each accepted call, in order.
+    /// One line for each accepted call, in order: 1,048,576 bytes at most.
     pub fn text(&self) -> &str
-        ensures { result.now ≡ text_of (registered self.now) }
+        ensures lines { result.now ≡ text_of (registered self.now) }
+        ensures short { length result.now ≤ 1048576 }
     {
         self.text.as_str()
     }
 
     /// The type or function of a name, as it was registered.
-    #[tactic(auto, using(crate::proofs::Mapped::find_mapped))]
     pub fn named(&self, name: &str) -> Option<&Call>
         ensures { option_map call_of (option_copied result)
             ≡ find (spec.takes_name name.now) (registered self.now) }
     {
-        find_name(&self.calls, name)
+        let at = self.names.get(name)?;
+        call_at(&self.calls, *at)
     }
 
     /// The method or property of a type by its name, as it was registered.
@@ -61,6 +64,15 @@ impl Registry {
         find_factory(&self.calls, of)
     }
 
+    /// The type or service of a kind, as it was registered.
+    #[tactic(auto, using(crate::proofs::Mapped::find_mapped))]
+    pub fn of_kind(&self, kind: u16) -> Option<&Call>
+        ensures { option_map call_of (option_copied result)
+            ≡ find (spec.takes_kind kind) (registered self.now) }
+    {
+        find_kind(&self.calls, kind)
+    }
+
     /// The kinds of the services, in order of registration.
     #[tactic(auto, using(crate::proofs::Mapped::filter_mapped))]
     pub fn service_kinds(&self) -> Result<Vec<u16>, AllocError>
@@ -79,11 +91,10 @@ impl Registry {
     }
 
     // Whether a name is taken among types and functions.
-    #[tactic(auto, using(crate::proofs::Mapped::any_mapped))]
     pub(crate) fn takes_name(&self, name: &str) -> bool
         ensures { result ≡ list_any (spec.takes_name name.now) (registered self.now) }
     {
-        any_takes_name(&self.calls, name)
+        self.names.contains_key(name)
     }
 
     // Whether a type or a service has this kind.
@@ -116,6 +127,14 @@ impl Registry {
         ensures { result ≡ list_any (spec.takes_method of.now id) (registered self.now) }
     {
         any_takes_method(&self.calls, of, id)
+    }
+
+    // Whether a name is taken among the members of a type, or a number among its methods.
+    pub(crate) fn takes_method_or_name(&self, of: &str, name: &str, id: u16) -> bool
+        ensures { result ≡ (list_any (spec.takes_member of.now name.now) (registered self.now)
+            || list_any (spec.takes_method of.now id) (registered self.now)) }
+    {
+        self.takes_member(of, name) || self.takes_method(of, id)
     }
 
     // Whether a number is taken among the properties of a type.

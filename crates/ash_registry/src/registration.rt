@@ -1,18 +1,22 @@
 //! The calls that register.
-ghost use Rattle.std.specs.Prelude.{◌≡◌, [], ◌∷◌, Some, count_by, map, nat_le, not, string_bytes, IfOk};
-ghost use Rattle.std.specs.List.{filter_map};
+ghost use Rattle.std.specs.Prelude.{◌≡◌, ℕ, List, false, [], ◌∷◌, Option, Some, count_by, map, nat_le, not, string_bytes, IfOk};
+ghost use Rattle.std.specs.List.{filter_map, list_any};
 ghost use Rattle.std.specs.Option.{option_map};
-ghost use Rattle.ash_registry.specs.Calls.{call_of, AType, AFactory, AMethod, AProperty, AService, AFunction, is_member_of, is_service, is_function};
-ghost use Rattle.ash_registry.specs.declared.fault.RegistryFault.TheVariants.{BadDeclaration, UnknownType, NotPrimitive};
+ghost use Rattle.ash_tree.specs.Tree.{Declaration as DeclarationTree};
+ghost use Rattle.ash_tree.specs.Views.{declaration_of, signature_of, type_of};
+ghost use Rattle.ash_registry.specs.Calls.{call_of, AType, AFactory, AMethod, AProperty, AService, AFunction, is_member_of, is_service, is_function, takes_kind, takes_name};
+ghost use Rattle.std.specs.Str.{bytes_eq};
+ghost use Rattle.ash_registry.specs.declared.fault.RegistryFault.TheVariants.{BadDeclaration, NameTaken, NoService, UnknownType, NotPrimitive};
 ghost use Rattle.ash_registry.specs.Registered.{registered};
-ghost use Rattle.ash_registry.specs.Refusals.{RegisteredIf, cause, cause_of_many, refusal_of_type, refusal_of_service, refusal_of_method, refusal_of_signature, refusal_of_property, refusal_of_primitive, refusal_of_value, is_known, value_call, refusal_of_factory, refusal_of_constructor, refusal_of_function, refusal_of_operation, gives_handle_of, primitive_operation, type_call, method_call, property_call, factory_call, function_call};
-ghost use Rattle.ash_registry.specs.Trees.{AName, spelling_of, declaration_of, signature_of, named_of, primitive_of};
+ghost use Rattle.ash_registry.specs.Refusals.{RegisteredIf, TellsAtOnce, cause, cause_of_many, refusal_of_type, refusal_of_service, refusal_of_method, refusal_of_declared_method, refusal_of_signature, refusal_of_property, refusal_of_declared_property, refusal_of_primitive, refusal_of_value, is_known, primitive_of, value_call, refusal_of_factory, refusal_of_declared_factory, refusal_of_constructor, refusal_of_function, refusal_of_declared_function, refusal_of_operation, gives_handle_of, primitive_operation, method_call, property_call, factory_call, function_call};
+ghost use Rattle.ash_registry.specs.Spelled.{spelling_of};
+ghost use Rattle.ash_registry.specs.Texts.{Spelling, AName, IsSpelled, IsDeclared};
 
+use crate::reading::{Spelled, read_declaration, read_name};
 use crate::signatures::{gives_handle, has_object, names_object, operation, primitives};
 use crate::text::line;
-use crate::{
-    Call, Declaration, Primitive, Property, Registry, RegistryFault, Signature, Spelled, TypeKind,
-};
+use crate::{Call, Registry, RegistryFault};
+use ash_tree::{Declaration, Primitive, Property, Signature, Type, TypeKind};
 
 /// The most bytes of the text.
 const MAX_TEXT: usize = 1_048_576;
@@ -30,27 +34,38 @@ const MAX_FUNCTIONS: usize = 256;
 const MAX_SERVICES: usize = 16;
 
 impl Registry {
-    /// Registers a type of host objects: `name` as a text spells it, and the number of its kind.
-    pub fn object_type(&mut self, name: Spelled, kind: u16) -> Result<(), RegistryFault>
-        ensures { RegisteredIf (refusal_of_type (registered self.old) (spelling_of name) kind)
-            (type_call (spelling_of name) kind) result (registered self.old) (registered self.new) }
+    /// Registers a type of host objects by its name and the number of its kind.
+    pub fn object_type(&mut self, name: &str, kind: u16) -> Result<(), RegistryFault>
+        ensures { (spelling : Spelling) → IsSpelled name.now spelling
+            → RegisteredIf (refusal_of_type (registered self.old) name.now spelling kind)
+            (AType name.now kind ∷ []) result (registered self.old) (registered self.new) }
     {
-        match name {
-            Spelled::Name(name) => self.named_type(name, kind),
+        let spelled = read_name(self.alloc, name)?;
+        self.spelled_type(name, spelled, kind)
+    }
+
+    fn spelled_type(&mut self, name: &str, spelled: Spelled, kind: u16) -> Result<(), RegistryFault>
+        ensures { RegisteredIf (refusal_of_type (registered self.old) name.now (spelling_of spelled) kind)
+            (AType name.now kind ∷ []) result (registered self.old) (registered self.new) }
+    {
+        match spelled {
+            Spelled::Name => self.named_type(name, kind),
             Spelled::Reserved => Err(RegistryFault::ReservedName),
             Spelled::Other => Err(RegistryFault::BadDeclaration),
         }
     }
 
-    fn named_type(&mut self, name: String, kind: u16) -> Result<(), RegistryFault>
-        ensures { RegisteredIf (refusal_of_type (registered self.old) (AName (string_bytes name)) kind)
-            (AType (string_bytes name) kind ∷ []) result (registered self.old) (registered self.new) }
+    fn named_type(&mut self, name: &str, kind: u16) -> Result<(), RegistryFault>
+        ensures { RegisteredIf (refusal_of_type (registered self.old) name.now AName kind)
+            (AType name.now kind ∷ []) result (registered self.old) (registered self.new) }
     {
-        if self.takes_name(name.as_str()) || self.takes_kind(kind) {
+        if self.takes_name(name) || self.takes_kind(kind) {
             return Err(RegistryFault::NameTaken);
         }
+        let key = name.to_string(self.alloc)?;
+        let name = name.to_string(self.alloc)?;
         let many = self.types() >= MAX_TYPES;
-        self.accept(Call::Type { name, kind }, many)
+        self.accept_named(Call::Type { name, kind }, key, many)
     }
 
     /// Registers a service of a kind. The answer is its index.
@@ -58,6 +73,7 @@ impl Registry {
         ensures index { IfOk result (λ index. index ≡ count_by is_service (registered self.old)) }
         ensures registers { RegisteredIf (refusal_of_service (registered self.old) kind)
             (AService kind ∷ []) result (registered self.old) (registered self.new) }
+        ensures at_once { TellsAtOnce (list_any (takes_kind kind) (registered self.old)) NameTaken result }
     {
         if self.takes_kind(kind) {
             return Err(RegistryFault::NameTaken);
@@ -67,21 +83,31 @@ impl Registry {
         Ok(index)
     }
 
-    /// Registers a method of a type: what its declaration was parsed as, if it is one, and its number.
-    pub fn method(
+    /// Registers a method of a type, as `int add(int)`, by its number.
+    pub fn method(&mut self, of: &str, decl: &str, id: u16) -> Result<(), RegistryFault>
+        ensures registers { (declared : Option DeclarationTree) → IsDeclared decl.now declared
+            → RegisteredIf (refusal_of_method (registered self.old) of.now id declared)
+            (method_call of.now id declared) result (registered self.old) (registered self.new) }
+        ensures at_once { TellsAtOnce (not (is_known (registered self.old) of.now)) UnknownType result }
+    {
+        if !self.knows(of) {
+            return Err(RegistryFault::UnknownType);
+        }
+        let declared = read_declaration(self.alloc, decl)?;
+        self.declared_method(of, declared, id)
+    }
+
+    fn declared_method(
         &mut self,
         of: &str,
         declared: Option<Declaration>,
         id: u16,
     ) -> Result<(), RegistryFault>
         ensures { RegisteredIf
-            (refusal_of_method (registered self.old) of.now (option_map declaration_of declared) id)
-            (method_call of.now (option_map declaration_of declared) id)
+            (refusal_of_declared_method (registered self.old) of.now id (option_map declaration_of declared))
+            (method_call of.now id (option_map declaration_of declared))
             result (registered self.old) (registered self.new) }
     {
-        if !self.knows(of) {
-            return Err(RegistryFault::UnknownType);
-        }
         match declared {
             Some(Declaration::Function(signature)) => self.signed_method(of, signature, id),
             _ => Err(RegistryFault::BadDeclaration),
@@ -105,7 +131,7 @@ impl Registry {
         if names_object(&signature) {
             return Err(RegistryFault::NotPrimitive);
         }
-        if self.takes_member(of, signature.name.as_str()) || self.takes_method(of, id) {
+        if self.takes_method_or_name(of, signature.name.as_str(), id) {
             return Err(RegistryFault::NameTaken);
         }
         self.add_method(of, signature, id)
@@ -124,21 +150,31 @@ impl Registry {
         self.accept(Call::Method { of, id, operation }, many)
     }
 
-    /// Registers a property of a type: what its declaration was parsed as, if it is one, and its number.
-    pub fn property(
+    /// Registers a property of a type, as `int value`, by its number.
+    pub fn property(&mut self, of: &str, decl: &str, id: u16) -> Result<(), RegistryFault>
+        ensures registers { (declared : Option DeclarationTree) → IsDeclared decl.now declared
+            → RegisteredIf (refusal_of_property (registered self.old) of.now id declared)
+            (property_call of.now id declared) result (registered self.old) (registered self.new) }
+        ensures at_once { TellsAtOnce (not (is_known (registered self.old) of.now)) UnknownType result }
+    {
+        if !self.knows(of) {
+            return Err(RegistryFault::UnknownType);
+        }
+        let declared = read_declaration(self.alloc, decl)?;
+        self.declared_property(of, declared, id)
+    }
+
+    fn declared_property(
         &mut self,
         of: &str,
         declared: Option<Declaration>,
         id: u16,
     ) -> Result<(), RegistryFault>
         ensures { RegisteredIf
-            (refusal_of_property (registered self.old) of.now (option_map declaration_of declared) id)
-            (property_call of.now (option_map declaration_of declared) id)
+            (refusal_of_declared_property (registered self.old) of.now id (option_map declaration_of declared))
+            (property_call of.now id (option_map declaration_of declared))
             result (registered self.old) (registered self.new) }
     {
-        if !self.knows(of) {
-            return Err(RegistryFault::UnknownType);
-        }
         match declared {
             Some(Declaration::Property(property)) => self.valued_property(of, property, id),
             _ => Err(RegistryFault::BadDeclaration),
@@ -152,12 +188,16 @@ impl Registry {
         id: u16,
     ) -> Result<(), RegistryFault>
         ensures { RegisteredIf
-            (refusal_of_value (registered self.old) of.now id (named_of property.of) (string_bytes property.name))
-            (value_call of.now id (named_of property.of) (string_bytes property.name))
+            (refusal_of_value (registered self.old) of.now id (type_of property.of) (string_bytes property.name))
+            (value_call of.now id (type_of property.of) (string_bytes property.name))
             result (registered self.old) (registered self.new) }
     {
-        let Property { of: value, name } = property;
-        match value {
+        let Property {
+            place: _,
+            of: Type { place: _, kind },
+            name,
+        } = property;
+        match kind {
             TypeKind::Primitive(value) => self.primitive_property(of, value, name, id),
             TypeKind::Object(other) => Err(self.fault_of_object(other.as_str())),
             TypeKind::Handle(other) => Err(self.fault_of_object(other.as_str())),
@@ -203,16 +243,30 @@ impl Registry {
         )
     }
 
-    /// Registers the factory of a type: what its declaration was parsed as, if it is one. Its name is ignored.
-    pub fn factory(&mut self, of: &str, declared: Option<Declaration>) -> Result<(), RegistryFault>
-        ensures { RegisteredIf
-            (refusal_of_factory (registered self.old) of.now (option_map declaration_of declared))
-            (factory_call of.now (option_map declaration_of declared))
-            result (registered self.old) (registered self.new) }
+    /// Registers the factory of a type, as `T@ make(int)`. Its name is ignored.
+    pub fn factory(&mut self, of: &str, decl: &str) -> Result<(), RegistryFault>
+        ensures registers { (declared : Option DeclarationTree) → IsDeclared decl.now declared
+            → RegisteredIf (refusal_of_factory (registered self.old) of.now declared)
+            (factory_call of.now declared) result (registered self.old) (registered self.new) }
+        ensures at_once { TellsAtOnce (not (is_known (registered self.old) of.now)) UnknownType result }
     {
         if !self.knows(of) {
             return Err(RegistryFault::UnknownType);
         }
+        let declared = read_declaration(self.alloc, decl)?;
+        self.declared_factory(of, declared)
+    }
+
+    fn declared_factory(
+        &mut self,
+        of: &str,
+        declared: Option<Declaration>,
+    ) -> Result<(), RegistryFault>
+        ensures { RegisteredIf
+            (refusal_of_declared_factory (registered self.old) of.now (option_map declaration_of declared))
+            (factory_call of.now (option_map declaration_of declared))
+            result (registered self.old) (registered self.new) }
+    {
         match declared {
             Some(Declaration::Function(signature)) => self.signed_factory(of, signature),
             _ => Err(RegistryFault::BadDeclaration),
@@ -233,10 +287,10 @@ impl Registry {
     }
 
     #[tactic(auto, using(crate::proofs::Mapped::any_mapped, crate::proofs::Mapped::filter_mapped))]
-    fn constructor(&mut self, of: &str, parameters: &[TypeKind]) -> Result<(), RegistryFault>
+    fn constructor(&mut self, of: &str, parameters: &[Type]) -> Result<(), RegistryFault>
         ensures { RegisteredIf
-            (refusal_of_constructor (registered self.old) of.now (map named_of parameters.now))
-            (AFactory of.now (filter_map primitive_of (map named_of parameters.now)) ∷ [])
+            (refusal_of_constructor (registered self.old) of.now (map type_of parameters.now))
+            (AFactory of.now (filter_map primitive_of (map type_of parameters.now)) ∷ [])
             result (registered self.old) (registered self.new) }
     {
         if self.misses_one(parameters) {
@@ -253,22 +307,31 @@ impl Registry {
         self.accept(Call::Factory { of, parameters }, false)
     }
 
-    /// Registers a function of a service, by the service's index: what its declaration was parsed as, if it is
-    /// one, and its number.
-    pub fn function(
+    /// Registers a function of a service, as `int tally(int)`, by the service's index and the function's number.
+    pub fn function(&mut self, service: u16, decl: &str, id: u16) -> Result<(), RegistryFault>
+        ensures registers { (declared : Option DeclarationTree) → IsDeclared decl.now declared
+            → RegisteredIf (refusal_of_function (registered self.old) service id declared)
+            (function_call service id declared) result (registered self.old) (registered self.new) }
+        ensures at_once { TellsAtOnce (nat_le (count_by is_service (registered self.old)) service) NoService result }
+    {
+        if self.services() <= service as usize {
+            return Err(RegistryFault::NoService);
+        }
+        let declared = read_declaration(self.alloc, decl)?;
+        self.declared_function(service, declared, id)
+    }
+
+    fn declared_function(
         &mut self,
         service: u16,
         declared: Option<Declaration>,
         id: u16,
     ) -> Result<(), RegistryFault>
         ensures { RegisteredIf
-            (refusal_of_function (registered self.old) service (option_map declaration_of declared) id)
-            (function_call service (option_map declaration_of declared) id)
+            (refusal_of_declared_function (registered self.old) service id (option_map declaration_of declared))
+            (function_call service id (option_map declaration_of declared))
             result (registered self.old) (registered self.new) }
     {
-        if self.services() <= service as usize {
-            return Err(RegistryFault::NoService);
-        }
         match declared {
             Some(Declaration::Function(signature)) => self.signed_function(service, signature, id),
             _ => Err(RegistryFault::BadDeclaration),
@@ -304,26 +367,46 @@ impl Registry {
         signature: Signature,
         id: u16,
     ) -> Result<(), RegistryFault>
+        requires { list_any (takes_name (string_bytes signature.name)) (registered self.old) ≡ false }
         ensures { RegisteredIf
             (cause_of_many (nat_le 256 (count_by is_function (registered self.old))) (registered self.old)
             (AFunction service id (primitive_operation (signature_of signature))))
             (AFunction service id (primitive_operation (signature_of signature)) ∷ [])
             result (registered self.old) (registered self.new) }
     {
+        let key = signature.name.clone()?;
         let operation = operation(self.alloc, signature)?;
         let many = self.functions() >= MAX_FUNCTIONS;
-        self.accept(
-            Call::Function {
-                service,
-                id,
-                operation,
-            },
-            many,
-        )
+        let call = Call::Function {
+            service,
+            id,
+            operation,
+        };
+        self.accept_named(call, key, many)
     }
 
-    // Adds a call against which nothing else speaks.
+    // Adds a type or a function against which nothing else speaks, with its name.
+    fn accept_named(&mut self, call: Call, key: String, many: bool) -> Result<(), RegistryFault>
+        requires named { (name : List ℕ) → takes_name name (call_of call) ≡ bytes_eq name (string_bytes key) }
+        requires free { list_any (takes_name (string_bytes key)) (registered self.old) ≡ false }
+        ensures { RegisteredIf (cause_of_many many (registered self.old) (call_of call)) (call_of call ∷ [])
+            result (registered self.old) (registered self.new) }
+    {
+        let added = line(self.alloc, &call)?;
+        if many || self.text.len() + added.len() > MAX_TEXT {
+            return Err(RegistryFault::TooMany);
+        }
+        self.text.reserve(added.len())?;
+        self.calls.reserve(1)?;
+        self.names.insert(key, self.calls.len())?;
+        self.calls.push(call).unwrap();
+        self.text.push_str(added.as_str()).unwrap();
+        Ok(())
+    }
+
+    // Adds a call against which nothing else speaks, and which takes no name of a type or function.
     fn accept(&mut self, call: Call, many: bool) -> Result<(), RegistryFault>
+        requires { (name : List ℕ) → takes_name name (call_of call) ≡ false }
         ensures { RegisteredIf (cause_of_many many (registered self.old) (call_of call)) (call_of call ∷ [])
             result (registered self.old) (registered self.new) }
     {

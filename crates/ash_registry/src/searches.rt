@@ -1,5 +1,5 @@
 //! Tests over accepted calls.
-ghost use Rattle.std.specs.Prelude.{◌≡◌, find, IfOk};
+ghost use Rattle.std.specs.Prelude.{◌≡◌, find, slice_get, IfOk};
 ghost use Rattle.std.specs.List.{list_any, filter_map};
 ghost use Rattle.std.specs.Option.{option_copied};
 ghost use Rattle.ash_registry.specs.Calls.{call_of};
@@ -12,12 +12,6 @@ pub(crate) fn any_names_type(calls: &[Call], name: &str) -> bool
     ensures { result ≡ list_any (λ call. spec.names_type name.now (call_of call)) calls.now }
 {
     calls.iter().any(|call| call.names_type(name))
-}
-
-pub(crate) fn any_takes_name(calls: &[Call], name: &str) -> bool
-    ensures { result ≡ list_any (λ call. spec.takes_name name.now (call_of call)) calls.now }
-{
-    calls.iter().any(|call| call.takes_name(name))
 }
 
 pub(crate) fn any_takes_kind(calls: &[Call], kind: u16) -> bool
@@ -56,10 +50,15 @@ pub(crate) fn any_takes_function(calls: &[Call], service: u16, id: u16) -> bool
     calls.iter().any(|call| call.takes_function(service, id))
 }
 
-pub(crate) fn find_name<'a>(calls: &'a [Call], name: &str) -> Option<&'a Call>
-    ensures { option_copied result ≡ find (λ call. spec.takes_name name.now (call_of call)) calls.now }
+/// The call at a place, if there is one.
+pub(crate) fn call_at(calls: &[Call], at: usize) -> Option<&Call>
+    ensures { option_copied result ≡ slice_get calls.now at }
 {
-    calls.iter().find(|call| call.takes_name(name))
+    if at < calls.len() {
+        Some(&calls[at])
+    } else {
+        None
+    }
 }
 
 pub(crate) fn find_member<'a>(calls: &'a [Call], of: &str, name: &str) -> Option<&'a Call>
@@ -72,6 +71,12 @@ pub(crate) fn find_factory<'a>(calls: &'a [Call], of: &str) -> Option<&'a Call>
     ensures { option_copied result ≡ find (λ call. spec.is_factory_of of.now (call_of call)) calls.now }
 {
     calls.iter().find(|call| call.is_factory_of(of))
+}
+
+pub(crate) fn find_kind(calls: &[Call], kind: u16) -> Option<&Call>
+    ensures { option_copied result ≡ find (λ call. spec.takes_kind kind (call_of call)) calls.now }
+{
+    calls.iter().find(|call| call.takes_kind(kind))
 }
 
 pub(crate) fn kinds_of_services(alloc: Global, calls: &[Call]) -> Result<Vec<u16>, AllocError>

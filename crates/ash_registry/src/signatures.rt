@@ -1,20 +1,31 @@
 //! Signatures as they are tested and kept.
-ghost use Rattle.std.specs.Prelude.{◌≡◌, IfOk, map};
+ghost use Rattle.std.specs.Prelude.{◌≡◌, IfOk, Some, map};
 ghost use Rattle.std.specs.List.{list_any, filter_map};
 ghost use Rattle.ash_registry.specs.Calls.{operation_of};
-ghost use Rattle.ash_registry.specs.Refusals.{is_unknown, is_object, primitive_operation, types_of, gives_handle_of};
+ghost use Rattle.ash_registry.specs.Refusals.{is_unknown, is_object, primitive_of, primitive_operation, types_of, gives_handle_of};
 ghost use Rattle.std.specs.Option.{option_map};
 ghost use Rattle.ash_registry.specs.Registered.{registered};
-ghost use Rattle.ash_registry.specs.Trees.{primitive_of, named_of, signature_of};
+ghost use Rattle.ash_tree.specs.Views.{type_of, signature_of};
 
-use crate::{Operation, Primitive, Registry, Signature, TypeKind};
+use crate::{Operation, Registry};
+use ash_tree::{Primitive, Signature, Type, TypeKind};
 use std::alloc::{AllocError, Global};
 
-// The primitives among types.
-pub(crate) fn primitives(alloc: Global, types: &[TypeKind]) -> Result<Vec<Primitive>, AllocError>
-    ensures { IfOk result (λ kept. kept.items ≡ filter_map (λ t. primitive_of (named_of t)) types.now) }
+// The type, where it is a primitive.
+fn primitive(of: &Type) -> Option<Primitive>
+    ensures { result ≡ primitive_of (type_of of.now) }
 {
-    types.iter().filter_map(|t| t.primitive()).collect(alloc)
+    match &of.kind {
+        TypeKind::Primitive(primitive) => Some(*primitive),
+        _ => None,
+    }
+}
+
+// The primitives among types.
+pub(crate) fn primitives(alloc: Global, types: &[Type]) -> Result<Vec<Primitive>, AllocError>
+    ensures { IfOk result (λ kept. kept.items ≡ filter_map (λ t. primitive_of (type_of t)) types.now) }
+{
+    types.iter().filter_map(|t| primitive(t)).collect(alloc)
 }
 
 /// A signature whose types are primitive.
@@ -23,14 +34,15 @@ pub(crate) fn operation(alloc: Global, signature: Signature) -> Result<Operation
     ensures { IfOk result (λ kept. operation_of kept ≡ primitive_operation (signature_of signature)) }
 {
     let Signature {
+        place: _,
         result: of,
         name,
         parameters,
     } = signature;
     let parameters = primitives(alloc, &parameters)?;
-    let of = match of {
-        Some(TypeKind::Primitive(primitive)) => Some(primitive),
-        _ => None,
+    let of = match &of {
+        Some(of) => primitive(of),
+        None => None,
     };
     Ok(Operation {
         name,
@@ -41,18 +53,18 @@ pub(crate) fn operation(alloc: Global, signature: Signature) -> Result<Operation
 
 impl Registry {
     // Whether a type is an object type that isn't registered.
-    pub(crate) fn misses(&self, of: &TypeKind) -> bool
-        ensures { result ≡ is_unknown (registered self.now) (named_of of.now) }
+    pub(crate) fn misses(&self, of: &Type) -> bool
+        ensures { result ≡ is_unknown (registered self.now) (type_of of.now) }
     {
-        match of {
+        match &of.kind {
             TypeKind::Primitive(_) => false,
             TypeKind::Object(name) | TypeKind::Handle(name) => !self.knows(name.as_str()),
         }
     }
 
     // Whether one of these types is an object type that isn't registered.
-    pub(crate) fn misses_one(&self, types: &[TypeKind]) -> bool
-        ensures { result ≡ list_any (λ t. is_unknown (registered self.now) (named_of t)) types.now }
+    pub(crate) fn misses_one(&self, types: &[Type]) -> bool
+        ensures { result ≡ list_any (λ t. is_unknown (registered self.now) (type_of t)) types.now }
     {
         types.iter().any(|t| self.misses(t))
     }
@@ -70,10 +82,10 @@ impl Registry {
 }
 
 // Whether a type is no primitive.
-fn is_no_primitive(of: &TypeKind) -> bool
-    ensures { result ≡ is_object (named_of of.now) }
+fn is_no_primitive(of: &Type) -> bool
+    ensures { result ≡ is_object (type_of of.now) }
 {
-    of.primitive().is_none()
+    primitive(of).is_none()
 }
 
 /// Whether a signature names a type that is no primitive.
@@ -88,18 +100,28 @@ pub(crate) fn names_object(signature: &Signature) -> bool
 }
 
 // Whether one of these types is no primitive.
-pub(crate) fn has_object(types: &[TypeKind]) -> bool
-    ensures { result ≡ list_any (λ t. is_object (named_of t)) types.now }
+pub(crate) fn has_object(types: &[Type]) -> bool
+    ensures { result ≡ list_any (λ t. is_object (type_of t)) types.now }
 {
     types.iter().any(|t| is_no_primitive(t))
 }
 
 /// Whether a result is a handle of a type.
-pub(crate) fn gives_handle(given: &Option<TypeKind>, of: &str) -> bool
-    ensures { result ≡ gives_handle_of of.now (option_map named_of given.now) }
+pub(crate) fn gives_handle(given: &Option<Type>, of: &str) -> bool
+    ensures { result ≡ gives_handle_of of.now (option_map type_of given.now) }
 {
     match given {
-        Some(TypeKind::Handle(name)) => of == name.as_str(),
+        Some(given) => is_handle(given, of),
+        None => false,
+    }
+}
+
+// Whether a type is a handle of a type of this name.
+fn is_handle(given: &Type, of: &str) -> bool
+    ensures { result ≡ gives_handle_of of.now (Some (type_of given.now)) }
+{
+    match &given.kind {
+        TypeKind::Handle(name) => of == name.as_str(),
         _ => false,
     }
 }

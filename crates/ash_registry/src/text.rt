@@ -4,7 +4,8 @@ ghost use Rattle.ash_registry.specs.Calls.{call_of, operation_of, AType, AFactor
 ghost use Rattle.std.specs.List.{concat};
 ghost use Rattle.ash_registry.specs.Text.{primitive_text, result_text, more_parameters, parameters_text, operation_text, line_of};
 
-use crate::{Call, Operation, Primitive};
+use crate::{Call, Operation};
+use ash_tree::Primitive;
 use std::alloc::{AllocError, Global};
 
 fn primitive_name(primitive: Primitive) -> &'static str
