@@ -5,6 +5,7 @@ use Rattle.std.specs.List.{AllByRecursion}
 use Rattle.std.specs.Option.{option_to_list}
 use Rattle.ash_host.specs.declared.word.Word.{Word}
 use Rattle.ash_host.specs.declared.word.Word.TheVariants.{Int}
+use Rattle.ash_registry.specs.Calls.{Call as Registration}
 use Rattle.ash_meaning.specs.declared.kept.StoredModule.{StoredModule}
 use Rattle.ash_meaning.specs.declared.kept.ModuleParts.{ModuleParts}
 use Rattle.ash_meaning.specs.Tree.{Module}
@@ -17,19 +18,19 @@ abbrev pub IsInt : Word → Type 0
 IsInt (Int number) = Unit {0}
 IsInt _ = ⊥
 
--- A module that a host may keep: it has a module's name, its source spells a module, and it has a word for each of
--- that module's globals, of their type.
-pub record IsAdmitted (script : Script) : Type 0 where
+-- A module that a host with these registrations may keep: it has a module's name, its source spells a module, and it
+-- has a word for each of that module's globals, of their type.
+pub record IsAdmitted (registered : List Registration) (script : Script) : Type 0 where
   pub tree : Module
   pub name : IsTrue (is_module_name script.name)
-  pub read : module_read script.source ≡ Some tree
+  pub read : module_read registered script.source ≡ Some tree
   pub count : length script.globals ≡ length tree.globals
   pub ints : AllByRecursion IsInt script.globals
 
 -- a state that a host may keep
 pub record Admits (state : State) : Type 0 where
   pub count : length state.modules ≤ most_modules
-  pub modules : AllByRecursion IsAdmitted state.modules
+  pub modules : AllByRecursion (IsAdmitted state.registered) state.modules
 
 -- a module that was stored
 abbrev pub script_of : StoredModule → Script
@@ -40,8 +41,8 @@ abbrev pub scripts_of : Option StoredModule → List Script
 scripts_of m = option_to_list (option_map script_of m)
 
 -- a state that was stored
-abbrev pub state_of : Option StoredModule → ℕ → State
-state_of m seq = record { modules = scripts_of m; seq = seq }
+abbrev pub state_of : List Registration → Option StoredModule → ℕ → State
+state_of registered m seq = record { registered = registered; modules = scripts_of m; seq = seq }
 
 -- a module by its parts
 abbrev pub script_in : ModuleParts → Script
@@ -52,5 +53,5 @@ abbrev pub scripts_in : Option ModuleParts → List Script
 scripts_in m = option_to_list (option_map script_in m)
 
 -- a state by its parts
-abbrev pub state_in : Option ModuleParts → ℕ → State
-state_in m seq = record { modules = scripts_in m; seq = seq }
+abbrev pub state_in : List Registration → Option ModuleParts → ℕ → State
+state_in registered m seq = record { registered = registered; modules = scripts_in m; seq = seq }

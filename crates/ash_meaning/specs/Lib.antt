@@ -2,7 +2,6 @@ pub mod Tree
 pub mod Activity
 pub mod Meaning
 pub mod State
-pub mod small
 pub mod subset
 pub mod Lexing
 pub mod Scanning

@@ -1,6 +1,7 @@
 -- What outlives a request, and what is asked and replied.
 use Rattle.std.specs.Prelude.{ℕ, List, [], string_bytes, Result, Ok, Err}
 use Rattle.ash_host.specs.declared.word.Word.{Word}
+use Rattle.ash_registry.specs.Calls.{Call as Registration}
 use Rattle.ash_meaning.specs.declared.refusal.Refusal.{Refusal}
 use Rattle.ash_meaning.specs.declared.request.Argument as argument
 use Rattle.ash_meaning.specs.declared.request.Request as request
@@ -18,13 +19,16 @@ pub record Script : Type 0 where
   pub source : List ℕ
   pub globals : List Word
 
--- the modules that are kept, and how many requests have been answered
+-- what the embedding program has registered, which no request changes, the modules that are kept, and how many requests
+-- have been answered
 pub record State : Type 0 where
+  pub registered : List Registration
   pub modules : List Script
   pub seq : ℕ
 
-abbrev pub empty : State
-empty = record { modules = []; seq = 0 }
+-- before any request
+abbrev pub empty : List Registration → State
+empty registered = record { registered = registered; modules = []; seq = 0 }
 
 pub data Request : Type 0 where
   Load : (name : List ℕ) → (source : List ℕ) → Request

@@ -4,6 +4,7 @@ use Rattle.std.specs.List.{list_all}
 use Rattle.std.specs.Str.{bytes_eq}
 use Rattle.ash_host.specs.declared.word.Word.{Word}
 use Rattle.ash_host.specs.declared.word.Word.TheVariants.{Int}
+use Rattle.ash_registry.specs.Calls.{Call as Registration}
 use Rattle.ash_meaning.specs.declared.request.Argument.{Argument}
 use Rattle.ash_meaning.specs.declared.request.Argument.TheVariants as arguments
 use Rattle.ash_meaning.specs.declared.refusal.Refusal.{Refusal}
@@ -53,8 +54,8 @@ abbrev pub refuse : Refusal → State → Reply × State
 refuse refusal state = (Refused refusal, state)
 
 -- an answer raises the sequence number by one
-abbrev pub answer : End → List Script → ℕ → Reply × State
-answer end modules seq = (Answered end (seq + 1), record { modules = modules; seq = seq + 1 })
+abbrev pub answer : End → List Script → State → Reply × State
+answer end modules state = (Answered end (state.seq + 1), record { registered = state.registered; modules = modules; seq = state.seq + 1 })
 
 -- A module is kept only where its initializers come to their end.
 abbrev pub kept : End → Script → List Script → List Script
@@ -65,7 +66,7 @@ abbrev pub load_read : ℕ → List ℕ → List ℕ → Reading → State → R
 load_read budget name source (Err refusal) state = refuse refusal state
 load_read budget name source (Ok tree) state =
     let run = load_globals tree budget in
-    answer run.0 (kept run.0 (record { name = name; source = source; globals = run.1 }) state.modules) state.seq
+    answer run.0 (kept run.0 (record { name = name; source = source; globals = run.1 }) state.modules) state
 
 abbrev pub load : ℕ → List ℕ → List ℕ → State → Reply × State
 load budget name source state =
@@ -73,7 +74,7 @@ load budget name source state =
     else if not (is_module_name name) then refuse refusals.BadName state
     else if is_some (find_script name state) then refuse refusals.ModuleTaken state
     else if nat_le most_modules (length state.modules) then refuse refusals.TooManyModules state
-    else load_read budget name source (read_source source) state
+    else load_read budget name source (read_source state.registered source) state
 
 -- An argument becomes an `int` where it is a number in its range.
 abbrev pub int_argument : Argument → Option Word
@@ -94,8 +95,8 @@ abbrev pub words_for : ℕ → List Argument → Option (List Word)
 words_for parameters arguments = if length arguments == parameters then int_arguments arguments else None
 
 -- the typed tree of a module that is kept
-abbrev pub tree_of : Script → Module
-tree_of script = unwrap_or (module_read script.source) (record { globals = []; functions = [] })
+abbrev pub tree_of : List Registration → Script → Module
+tree_of registered script = unwrap_or (module_read registered script.source) (record { globals = []; functions = [] })
 
 abbrev pub find_function : List ℕ → Module → Option Function
 find_function name tree = first_where (λ function. bytes_eq function.name name) tree.functions
@@ -108,7 +109,7 @@ abbrev pub call_with : ℕ → Script → Function → Option (List Word) → St
 call_with budget script function None state = refuse refusals.BadArguments state
 call_with budget script function (Some words) state =
     let run = call function words script.globals budget in
-    answer run.0 (with_globals script run.1 state.modules) state.seq
+    answer run.0 (with_globals script run.1 state.modules) state
 
 abbrev pub call_function : ℕ → Script → Option Function → List Argument → State → Reply × State
 call_function budget script None arguments state = refuse refusals.NoFunction state
@@ -116,7 +117,7 @@ call_function budget script (Some function) arguments state = call_with budget s
 
 abbrev pub call_in : ℕ → Option Script → List ℕ → List Argument → State → Reply × State
 call_in budget None name arguments state = refuse refusals.NoModule state
-call_in budget (Some script) name arguments state = call_function budget script (find_function name (tree_of script)) arguments state
+call_in budget (Some script) name arguments state = call_function budget script (find_function name (tree_of state.registered script)) arguments state
 
 abbrev pub names_of : Module → List (List ℕ)
 names_of tree = map (λ (global : Variable). global.name) tree.globals
@@ -138,9 +139,9 @@ abbrev pub told : Option Word → Reply
 told None = Refused refusals.NoGlobal
 told (Some word) = Value word
 
-abbrev pub value_in : Option Script → List ℕ → Reply
-value_in None name = Refused refusals.NoModule
-value_in (Some script) name = told (word_named name (tree_of script) script.globals)
+abbrev pub value_in : List Registration → Option Script → List ℕ → Reply
+value_in registered None name = Refused refusals.NoModule
+value_in registered (Some script) name = told (word_named name (tree_of registered script) script.globals)
 
 -- The step of one request. Refusals are tested in this order, and keep the state.
 abbrev pub step : ℕ → Request → State → Reply × State
@@ -148,7 +149,7 @@ step budget (Load name source) state = load budget name source state
 step budget (Call script function arguments) state =
     if is_spent state then refuse refusals.SequenceSpent state
     else call_in budget (find_script script state) function arguments state
-step budget (Global script name) state = (value_in (find_script script state) name, state)
+step budget (Global script name) state = (value_in state.registered (find_script script state) name, state)
 step budget Seq state = (Number state.seq, state)
 
 -- the replies that were made by reading a source or running a function, for which memory is taken

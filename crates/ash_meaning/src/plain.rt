@@ -1,8 +1,10 @@
 // The state of a host, and its steps by the plain evaluator.
 
-ghost use Rattle.std.specs.Prelude.{◌≡◌, ◌↔◌, option_map, SomeIff, IfOk, IfErr, OnErr};
+ghost use Rattle.std.specs.Prelude.{◌≡◌, ◌↔◌, List, option_map, SomeIff, IfOk, IfErr, OnErr};
 ghost use Rattle.std.specs.Bool.{IsTrue};
 ghost use Rattle.std.specs.List.{AllByRecursion};
+ghost use Rattle.ash_registry.specs.Calls.{Call as Registration};
+ghost use Rattle.ash_registry.specs.Registered.{registered};
 ghost use Rattle.ash_meaning.specs.Kept.{IsInt, IsAdmitted, Admits, script_of as stored_script, state_of as stored_state, scripts_in};
 ghost use Rattle.ash_meaning.specs.Plain.{script_of, IsKept, AreKept, IsLoaded, RefusesLoad, IsCalled, RefusesCall};
 ghost use Rattle.ash_meaning.specs.State.{empty, Load, Call, answer_of, word_of, end_of, request_of, reply_of};
@@ -19,6 +21,7 @@ use crate::refusal::Refusal;
 use crate::request::{Answer, Argument, Reply, Request};
 use crate::tree::{Function, Module};
 use ash_host::Word;
+use ash_registry::Registry;
 use std::alloc::{AllocError, Global};
 use std::marker::Model;
 
@@ -31,10 +34,11 @@ struct Script {
     globals: Vec<Word>,
 }
 
-/// What a host keeps: so far one module at the most, and how many requests have been answered.
+/// What a host keeps: what is registered, so far one module at the most, and how many requests have been answered.
 #[derive(Drop)]
 pub struct PlainState {
     alloc: Global,
+    registry: Registry,
     script: Option<Script>,
     seq: u64,
 }
@@ -45,10 +49,12 @@ impl Model for PlainState {
 
     ghost Value = { State };
 
-    ghost view = { λ s. state_of s.script s.seq };
+    ghost use Rattle.ash_registry.specs.Registered.{registered};
+
+    ghost view = { λ s. state_of (registered s.registry) s.script s.seq };
 
     // The tree is that of the source, and the module is one that a host may keep.
-    ghost invariant = { λ s. AreKept s.script };
+    ghost invariant = { λ s. AreKept (registered s.registry) s.script };
 }
 
 /// The function of this name.
@@ -66,16 +72,17 @@ fn find_function<'a>(tree: &'a Module, name: &str) -> Option<&'a Function>
 /// A source that is read and initialized, and how its initializers ended.
 fn loaded(
     alloc: Global,
+    registry: &Registry,
     name: &str,
     source: &[u8],
     budget: u64,
 ) -> Result<(Outcome, Script), Refusal>
     requires { IsTrue (is_module_name name.now) }
-    ensures run { IfOk result (λ r. IsLoaded budget name.now source.now (end_of r.0) r.1) }
-    ensures kept { IfOk result (λ r. IsKept r.1) }
-    ensures refused { IfErr result (λ e. RefusesLoad source.now e) }
+    ensures run { IfOk result (λ r. IsLoaded (registered registry.now) budget name.now source.now (end_of r.0) r.1) }
+    ensures kept { IfOk result (λ r. IsKept (registered registry.now) r.1) }
+    ensures refused { IfErr result (λ e. RefusesLoad (registered registry.now) source.now e) }
 {
-    let tree = read_source(alloc, source)?;
+    let tree = read_source(alloc, registry, source)?;
     let name = String::from_str(alloc, name)?;
     let source = Vec::from_slice(alloc, source)?;
     let (outcome, globals) = evaluator::load_globals(alloc, &tree, budget)?;
@@ -101,11 +108,15 @@ fn are_ints(words: &[Word]) -> bool
 }
 
 /// A module that was stored, with the tree of its source, if a host may keep it.
-fn restored_script(alloc: Global, stored: StoredModule) -> Result<Option<Script>, AllocError>
-    ensures exact { IfOk result (λ found. SomeIff (option_map script_of found) (IsAdmitted (stored_script stored)) (stored_script stored)) }
-    ensures kept { IfOk result (λ found. AreKept found) }
+fn restored_script(
+    alloc: Global,
+    registry: &Registry,
+    stored: StoredModule,
+) -> Result<Option<Script>, AllocError>
+    ensures exact { IfOk result (λ found. SomeIff (option_map script_of found) (IsAdmitted (registered registry.now) (stored_script stored)) (stored_script stored)) }
+    ensures kept { IfOk result (λ found. AreKept (registered registry.now) found) }
 {
-    let Some(tree) = module_read(alloc, &stored.source)? else {
+    let Some(tree) = module_read(alloc, registry, &stored.source)? else {
         return Ok(None);
     };
     if !is_module_name(stored.name.as_bytes())
@@ -133,7 +144,7 @@ impl Script {
         ensures run { IfOk result (λ outcome. IsCalled budget function.now arguments.now self.old (end_of outcome) self.new) }
         ensures refused { IfErr result (λ e. RefusesCall function.now arguments.now self.old e) }
         ensures unchanged { OnErr result (self.new ≡ self.old) }
-        ensures kept { IsKept self.old → IsKept self.new }
+        ensures kept { (registered : List Registration) → IsKept registered self.old → IsKept registered self.new }
     {
         let Some(function) = find_function(&self.tree, function) else {
             return Err(Refusal::NoFunction);
@@ -169,34 +180,55 @@ fn place_of(tree: &Module, name: &str) -> Option<usize>
 }
 
 impl PlainState {
-    /// A state with no module, before any request.
-    pub fn new(alloc: Global) -> Self
-        ensures { result ≡ empty }
+    /// A state with no module, before any request, with what is registered.
+    pub fn new(alloc: Global, registry: Registry) -> Self
+        ensures { result ≡ empty (registered registry) }
     {
         PlainState {
             alloc,
+            registry,
             script: None,
             seq: 0,
         }
     }
 
     /// The state that was stored: how many requests had been answered, and the module that was kept. Its source is
-    /// read again. `None` where a host keeps no such module. An `Err` says that memory was refused.
+    /// read again, with what is registered. `None` where a host keeps no such module. An `Err` says that memory was refused.
     pub fn restored(
         alloc: Global,
+        registry: Registry,
         seq: u64,
         stored: Option<StoredModule>,
     ) -> Result<Option<PlainState>, AllocError>
-        ensures { IfOk result (λ found. SomeIff found (Admits (stored_state stored seq)) (stored_state stored seq)) }
+        ensures { IfOk result (λ found. SomeIff found (Admits (stored_state (registered registry) stored seq)) (stored_state (registered registry) stored seq)) }
     {
         let script = match stored {
-            Some(stored) => match restored_script(alloc, stored)? {
+            Some(stored) => match restored_script(alloc, &registry, stored)? {
                 Some(script) => Some(script),
                 None => return Ok(None),
             },
             None => None,
         };
-        Ok(Some(PlainState { alloc, script, seq }))
+        Ok(Some(PlainState {
+            alloc,
+            registry,
+            script,
+            seq,
+        }))
+    }
+
+    /// What is registered.
+    pub fn registry(&self) -> &Registry
+        ensures { registered result.now ≡ self.now.registered }
+    {
+        &self.registry
+    }
+
+    /// What is registered, taken out of the state.
+    pub fn into_registry(self) -> Registry
+        ensures { registered result ≡ self.registered }
+    {
+        self.registry
     }
 
     /// The parts of the module that is kept.
@@ -235,7 +267,7 @@ impl PlainState {
                 Refusal::TooManyModules
             });
         }
-        let (outcome, script) = loaded(self.alloc, name, source, budget)?;
+        let (outcome, script) = loaded(self.alloc, &self.registry, name, source, budget)?;
         if let Outcome::Finished(_) = &outcome {
             self.script = Some(script);
         }
@@ -274,7 +306,7 @@ impl PlainState {
 
     /// What a global of a module holds.
     pub fn global(&self, script: &str, name: &str) -> Result<Word, Refusal>
-        ensures { word_of result ≡ value_in (find_script script.now self.now) name.now }
+        ensures { word_of result ≡ value_in self.now.registered (find_script script.now self.now) name.now }
     {
         match &self.script {
             Some(kept) if kept.name.as_str() == script => kept.global(name),

@@ -3,6 +3,7 @@
 ghost use Rattle.std.specs.Prelude.{◌≡◌};
 
 use ash_lex::LexFault;
+use ash_parse::{ParseFault, UnsupportedPart};
 use std::alloc::AllocError;
 
 /// Why a request is refused.
@@ -17,7 +18,14 @@ pub enum Refusal {
     UnclosedComment { at: usize },
     /// A number in the source, at this offset, is 2^64 or more.
     NumberTooLarge { at: usize },
-    /// The source is not of the part of the language that can be run so far.
+    /// No script begins with the tokens of the source up to the one at this offset; or they end too early, and the last
+    /// of them ends at this offset.
+    Unexpected { at: usize },
+    /// The same, where that token belongs to a part of AngelScript that the profile does not have.
+    Unsupported { word: UnsupportedPart, at: usize },
+    /// The token at this offset is the first that stands deeper than 64.
+    TooDeep { at: usize },
+    /// The source is a script, but not of the part of the language that can be run so far.
     NotYet,
     /// There is no module of this name.
     NoModule,
@@ -65,6 +73,21 @@ impl From<LexFault> for Refusal {
             LexFault::NumberTooLarge { at } => Refusal::NumberTooLarge { at },
             LexFault::SourceTooLong => Refusal::SourceTooLong,
             LexFault::NoMemory => Refusal::NoMemory,
+        }
+    }
+}
+
+impl From<ParseFault> for Refusal {
+    ghost use Rattle.ash_meaning.specs.Reading.{syntactic};
+
+    ghost from_gives = { λ fault refusal. refusal ≡ syntactic fault };
+
+    fn from(fault: ParseFault) -> Self {
+        match fault {
+            ParseFault::Unexpected { at } => Refusal::Unexpected { at },
+            ParseFault::Unsupported { word, at } => Refusal::Unsupported { word, at },
+            ParseFault::TooDeep { at } => Refusal::TooDeep { at },
+            ParseFault::NoMemory => Refusal::NoMemory,
         }
     }
 }

@@ -1,11 +1,13 @@
 // Sources, and what they are refused for.
 
 use super::*;
+use ash_lex::UnsupportedWord;
+use ash_parse::UnsupportedPart;
 use std::test::Fail;
 
 /// What a source is refused for, or `None` where it is read.
 fn refusal_of(alloc: Global, source: &[u8]) -> Option<Refusal> {
-    match read_source(alloc, source) {
+    match read_source(alloc, &Registry::new(alloc), source) {
         Ok(_) => None,
         Err(refusal) => Some(refusal),
     }
@@ -13,6 +15,17 @@ fn refusal_of(alloc: Global, source: &[u8]) -> Option<Refusal> {
 
 fn spaces(alloc: Global, count: usize) -> Result<Vec<u8>, AllocError> {
     Ok(vec![in alloc; b' '; count]?)
+}
+
+/// `int f() { return 1; }` with so many brackets round the number.
+fn bracketed(alloc: Global, count: usize) -> Result<Vec<u8>, AllocError> {
+    let mut source = Vec::new(alloc);
+    source.extend_from_slice(b"int f() { return ")?;
+    source.extend_from_slice(&vec![in alloc; b'('; count]?)?;
+    source.extend_from_slice(b"1")?;
+    source.extend_from_slice(&vec![in alloc; b')'; count]?)?;
+    source.extend_from_slice(b"; }")?;
+    Ok(source)
 }
 
 #[test]
@@ -40,6 +53,7 @@ fn refused_for_bytes(rt: HostRuntime) -> Result<(), Fail> {
         (b"// \xe2\x82", 3),
         (b"int \xc3\xa4;", 4),
         (b" \xef\xbb\xbf", 1),
+        (b"int f( { \"", 9),
     ] {
         let refusal = refusal_of(alloc, source);
         assert!(rt; matches!(refusal, Some(Refusal::BadCharacter { at }) if at == place));
@@ -60,17 +74,107 @@ fn refused_for_comments_and_numbers(rt: HostRuntime) -> Result<(), Fail> {
 }
 
 #[test]
-fn read_or_not_yet(rt: HostRuntime) -> Result<(), Fail> {
+fn refused_for_the_first_token_that_fits_nowhere(rt: HostRuntime) -> Result<(), Fail> {
     let alloc = rt.alloc();
-    assert!(rt; refusal_of(alloc, b"int n = 2; int f(int k) { n += k; return n; }").is_none());
-    assert!(rt;
-        matches!(
-            refusal_of(alloc, b"int f() { return x; }"),
-            Some(Refusal::NotYet)
-        )
-    );
-    assert!(rt; matches!(refusal_of(alloc, b"class A { }"), Some(Refusal::NotYet)));
-    assert!(rt; module_read(alloc, b"class A { }")?.is_none());
-    assert!(rt; module_read(alloc, b"int n;")?.is_some());
+    for (source, place) in [
+        (b"int f( {".as_slice(), 7),
+        (b"int f()", 7),
+        (b"class A { } int f( {", 19),
+        (b"int int;", 4),
+        (b"int f(int a,) { }", 12),
+        (b"int f() { a + = 1; }", 14),
+        (b"int f() { return 1 }", 19),
+        (b"int n = 1 2;", 10),
+        (b"int n = 1)", 9),
+        (b"int 1n;", 4),
+        (b"n = 1;", 2),
+    ] {
+        assert_eq!(rt;
+            refusal_of(alloc, source),
+            Some(Refusal::Unexpected { at: place })
+        );
+    }
+    Ok(())
+}
+
+#[test]
+fn refused_for_what_the_profile_does_not_have(rt: HostRuntime) -> Result<(), Fail> {
+    let alloc = rt.alloc();
+    for (source, word, at) in [
+        (
+            b"float x;".as_slice(),
+            UnsupportedPart::Word(UnsupportedWord::Float),
+            0,
+        ),
+        (b"class A : I { }", UnsupportedPart::Interface, 8),
+        (b"int n; int[] a;", UnsupportedPart::Array, 10),
+        (b"int n = a ** b;", UnsupportedPart::Power, 10),
+        (
+            b"int auto;",
+            UnsupportedPart::Word(UnsupportedWord::Auto),
+            4,
+        ),
+    ] {
+        assert_eq!(rt;
+            refusal_of(alloc, source),
+            Some(Refusal::Unsupported { word, at })
+        );
+    }
+    Ok(())
+}
+
+#[test]
+fn refused_for_depth(rt: HostRuntime) -> Result<(), Fail> {
+    let alloc = rt.alloc();
+    assert!(rt; refusal_of(alloc, &bracketed(alloc, 16)?).is_none());
+    for count in [17, 63] {
+        let refusal = refusal_of(alloc, &bracketed(alloc, count)?);
+        assert!(rt; matches!(refusal, Some(Refusal::NotYet)));
+    }
+    let refusal = refusal_of(alloc, &bracketed(alloc, 64)?);
+    assert!(rt; matches!(refusal, Some(Refusal::TooDeep { at: 81 })));
+    Ok(())
+}
+
+#[test]
+fn read_what_can_be_run(rt: HostRuntime) -> Result<(), Fail> {
+    let alloc = rt.alloc();
+    for source in [
+        b"".as_slice(),
+        b"\xef\xbb\xbf",
+        b" \t\r\n",
+        b";;",
+        b"int n = 2; int f(int k) { n += k; return n; }",
+        b"int n = 2147483647;",
+        b"int n = 00000000000002147483647;",
+        b"int n = 0x7fffffff; // the greatest\n",
+        b"/* none */ int n; /* more */",
+        b"int integer; int returns; int _; int in_; int f(int a, int b) { a=1; a+=0+1; return b; }",
+    ] {
+        assert!(rt; refusal_of(alloc, source).is_none());
+    }
+    Ok(())
+}
+
+#[test]
+fn not_yet_what_cannot_be_run(rt: HostRuntime) -> Result<(), Fail> {
+    let alloc = rt.alloc();
+    for source in [
+        b"int f() { return x; }".as_slice(),
+        b"class A { }",
+        b"int n = 2147483648;",
+        b"int n = 0x80000000;",
+        b"int f(a b) { return 1; }",
+        b"int f() { }",
+        b"int f() { return; }",
+        b"int f() { int a; return a; }",
+        b"int n; int f() { n++; return n; }",
+        b"int n = -1;",
+    ] {
+        assert!(rt; matches!(refusal_of(alloc, source), Some(Refusal::NotYet)));
+    }
+    let registry = Registry::new(alloc);
+    assert!(rt; module_read(alloc, &registry, b"class A { }")?.is_none());
+    assert!(rt; module_read(alloc, &registry, b"int n;")?.is_some());
     Ok(())
 }
