@@ -8,13 +8,14 @@ use Rattle.std.proofs.lemmas.Int.{of_z-to_z, to_z-of_z}
 use Rattle.std.proofs.Math.Facts.{sfits_to_z, Fits-of_z}
 use Rattle.ash_host.specs.declared.word.Word.{Word}
 use Rattle.ash_host.specs.declared.word.Word.TheVariants as words
-use Rattle.ash_meaning.specs.State.{Script, State}
+use Rattle.ash_meaning.specs.State.{Script}
 use Rattle.ash_meaning.specs.Step.{is_module_name, most_modules}
 use Rattle.ash_image.specs.Fields.{number, text, items, ◌>>=◌, as_at, number_at, whole}
-use Rattle.ash_image.specs.Image.{word, script, image_of, FitsWord, FitsModule, Fits, Depicts, version, open_gate, shut_gate, magic, generation, file_of, FitsFile, IsFile, IsClosed}
-use Rattle.ash_image.specs.ImageReading.{value_at, word_at, name_at, globals_at, module_at, modules_at, image_at, file_at}
+use Rattle.ash_image.specs.Image.{Snapshot, word, script, image_of, FitsWord, FitsModule, FitsText, Fits, Depicts, version, most_text, most_source, most_globals, open_gate, shut_gate, magic, generation, file_of, FitsFile, IsFile, IsClosed}
+use Rattle.ash_image.specs.ImageReading.{value_at, word_at, name_at, source_at, count_at, globals_at, module_at, modules_at, is_text, registered_at, image_at, file_at}
 use Rattle.ash_image.proofs.Numbers.{IsBytes}
 use Rattle.ash_image.proofs.Names.{name_short}
+use Rattle.ash_image.proofs.Texts.{text_fits, some_text}
 use Rattle.ash_image.proofs.Field_laws.{bind_some, some_is, Takes, Takes-then, IsField, number_field, text_field, checked_field, pair_field, as_field, refit_field, after_number-field, before_number-field, after_bytes-field, items_field, within_field, whole_takes, whole_again}
 
 -- ---- words
@@ -100,35 +101,51 @@ name_field : IsField (text 1) (λ name. (length name < 256 ^ 1) × IsTrue (is_mo
 unfolding name_at
 name_field = checked_field is_module_name (text_field 1)
 
-globals_field : IsField (items 2 word) (λ globals. (length globals < 256 ^ 2) × AllByRecursion FitsWord globals) globals_at
+source_field : IsField (text 4) (λ source. (length source < 256 ^ 4) × IsTrue (leb (length source) most_source)) source_at
+unfolding source_at
+source_field = checked_field (λ source. leb (length source) most_source) (text_field 4)
+
+count_field : IsField (number 2) (λ n. (n < 256 ^ 2) × IsTrue (leb n most_globals)) count_at
+unfolding count_at
+count_field = checked_field (λ n. leb n most_globals) (number_field 2)
+
+globals_field : IsField (items 2 word) (λ globals. ((length globals < 256 ^ 2) × IsTrue (leb (length globals) most_globals)) × AllByRecursion FitsWord globals) globals_at
 unfolding globals_at
-globals_field = items_field 2 (number_field 2) word_field
+globals_field = items_field 2 count_field word_field
 
 pub module_field : IsField script FitsModule module_at
 unfolding module_at
 module_field =
     as_field
-    (pair_field name_field (pair_field (text_field 4) globals_field))
+    (pair_field name_field (pair_field source_field globals_field))
     (λ (x : List ℕ × (List ℕ × List Word)). record { name = x.0; source = x.1.0; globals = x.1.1 }) (λ (m : Script). (m.name, (m.source, m.globals))) script FitsModule
     (λ m h. refl)
     (λ x h. refl)
-    (λ x h. record { sizes = record { name = h.0.1; source = h.1.0; globals = h.1.1.0 }; words = h.1.1.1 })
-    (λ m h. ((omega (arith, name_short m.name h.sizes.name), h.sizes.name), (h.sizes.source, (h.sizes.globals, h.words))))
+    (λ x h. record { limits = record { name = h.0.1; source = leb-true _ _ h.1.0.1; globals = leb-true _ _ h.1.1.0.1 }; words = h.1.1.1 })
+    (λ m h. ((omega (arith, name_short m.name h.limits.name), h.limits.name), ((omega (arith, h.limits.source), le-leb _ _ h.limits.source), ((omega (arith, h.limits.globals), le-leb _ _ h.limits.globals), h.words))))
 
 modules_field : IsField (items 1 script) (λ modules. ((length modules < 256 ^ 1) × IsTrue (leb (length modules) most_modules)) × AllByRecursion FitsModule modules) modules_at
 unfolding modules_at
 modules_field = items_field 1 (checked_field (λ n. leb n most_modules) (number_field 1)) module_field
 
+registered_field : IsField (text 4) FitsText registered_at
+unfolding registered_at
+registered_field =
+    refit_field (checked_field is_text (text_field 4)) (text 4) FitsText
+    (λ bytes. refl)
+    (λ bytes h. text_fits bytes h.1)
+    (λ bytes h. (omega (arith, h.short), some_text bytes h.short h.utf8))
+
 pub image_field : IsField image_of Fits image_at
 unfolding image_at
 image_field =
     as_field
-    (after_number-field 2 version (omega arith) (after_number-field 4 0 (omega arith) (pair_field (number_field 8) (after_number-field 8 0 (omega arith) (after_number-field 2 0 (omega arith) (before_number-field 4 0 (omega arith) modules_field))))))
-    (λ (x : ℕ × List Script). record { modules = x.1; seq = x.0 }) (λ (state : State). (state.seq, state.modules)) image_of Fits
-    (λ state h. refl)
+    (after_number-field 2 version (omega arith) (pair_field registered_field (pair_field (number_field 8) (after_number-field 8 0 (omega arith) (after_number-field 2 0 (omega arith) (before_number-field 4 0 (omega arith) modules_field))))))
+    (λ (x : List ℕ × (ℕ × List Script)). record { registered = x.0; modules = x.1.1; seq = x.1.0 }) (λ (s : Snapshot). (s.registered, (s.seq, s.modules))) image_of Fits
+    (λ s h. refl)
     (λ x h. refl)
-    (λ x h. record { seq = h.0; count = leb-true _ _ h.1.0.1; modules = h.1.1 })
-    (λ state h. (h.seq, ((omega (arith, h.count), le-leb _ _ h.count), h.modules)))
+    (λ x h. record { registered = h.0; seq = h.1.0; count = leb-true _ _ h.1.1.0.1; modules = h.1.1.1 })
+    (λ s h. (h.registered, (h.seq, ((omega (arith, h.count), le-leb _ _ h.count), h.modules))))
 
 pub file_field : IsField file_of FitsFile file_at
 unfolding file_at
@@ -136,53 +153,53 @@ file_field =
     refit_field
     (after_number-field 1 open_gate (omega arith) (after_bytes-field magic (after_number-field 8 generation (omega arith) (before_number-field 1 shut_gate (omega arith) (within_field 4 image_field)))))
     file_of FitsFile
-    (λ state. refl)
-    (λ state h. record { image = h.0; room = h.1 })
-    (λ state h. (h.image, h.room))
+    (λ s. refl)
+    (λ s h. record { image = h.0; room = h.1 })
+    (λ s h. (h.image, h.room))
 
 -- ---- what the readers promise
 
-pub is_depicted : (bytes : List ℕ) (state : State) → IsBytes bytes → whole image_at bytes ≡ Some state → Depicts bytes state
-is_depicted bytes state ok e = whole_takes image_field bytes state ok e
+pub is_depicted : (bytes : List ℕ) (s : Snapshot) → IsBytes bytes → whole image_at bytes ≡ Some s → Depicts bytes s
+is_depicted bytes s ok e = whole_takes image_field bytes s ok e
 
-pub is_read : (bytes : List ℕ) (state : State) → Depicts bytes state → whole image_at bytes ≡ Some state
-is_read bytes state h = ap (whole image_at) h.1 ∙ whole_again image_field state h.0
+pub is_read : (bytes : List ℕ) (s : Snapshot) → Depicts bytes s → whole image_at bytes ≡ Some s
+is_read bytes s h = ap (whole image_at) h.1 ∙ whole_again image_field s h.0
 
 pub not_some : {A : Type 0} (x : A) → None ≡ Some x → ⊥
 not_some x e = absurd cc
 
--- bytes depict one state
-pub depicts_one : (bytes : List ℕ) (a b : State) → Depicts bytes a → Depicts bytes b → a ≡ b
+-- bytes depict one snapshot
+pub depicts_one : (bytes : List ℕ) (a b : Snapshot) → Depicts bytes a → Depicts bytes b → a ≡ b
 depicts_one bytes a b h g = some_is a b (sym (is_read bytes a h) ∙ is_read bytes b g)
 
-pub is_file : (bytes : List ℕ) (x : State × List ℕ) → IsBytes bytes → file_at bytes ≡ Some x → IsFile bytes x.0
+pub is_file : (bytes : List ℕ) (x : Snapshot × List ℕ) → IsBytes bytes → file_at bytes ≡ Some x → IsFile bytes x.0
 is_file bytes x ok e =
     let t = file_field.takes bytes x ok e in
     (t.1, x.1, t.0.parts)
 
-pub is_file_read : (bytes : List ℕ) (state : State) (h : IsFile bytes state) → file_at bytes ≡ Some (state, h.1)
-is_file_read bytes state h = ap file_at h.2 ∙ file_field.again state h.1 h.0
+pub is_file_read : (bytes : List ℕ) (s : Snapshot) (h : IsFile bytes s) → file_at bytes ≡ Some (s, h.1)
+is_file_read bytes s h = ap file_at h.2 ∙ file_field.again s h.1 h.0
 
--- bytes are the file of one state
-pub file_of_one : (bytes : List ℕ) (a b : State) → IsFile bytes a → IsFile bytes b → a ≡ b
+-- bytes are the file of one snapshot
+pub file_of_one : (bytes : List ℕ) (a b : Snapshot) → IsFile bytes a → IsFile bytes b → a ≡ b
 file_of_one bytes a b h g =
     let same = some_is (a, h.1) (b, g.1) (sym (is_file_read bytes a h) ∙ is_file_read bytes b g) in
-    ap (λ (x : State × List ℕ). x.0) same
+    ap (λ (x : Snapshot × List ℕ). x.0) same
 
--- a file of a state is open
-pub is_open : (bytes : List ℕ) (state : State) → IsFile bytes state → IsClosed bytes → ⊥
-is_open bytes state h (inl short) = omega (arith, ap length h.2)
-is_open bytes state h (inr other) = other (ap (λ (bs : List ℕ). get_or bs 0 0) h.2)
+-- a file of a snapshot is open
+pub is_open : (bytes : List ℕ) (s : Snapshot) → IsFile bytes s → IsClosed bytes → ⊥
+is_open bytes s h (inl short) = omega (arith, ap length h.2)
+is_open bytes s h (inr other) = other (ap (λ (bs : List ℕ). get_or bs 0 0) h.2)
 
--- what is read is no other state's file
-pub is_damaged : (bytes : List ℕ) → file_at bytes ≡ None → (state : State) → IsFile bytes state → ⊥
-is_damaged bytes none state h = not_some (state, h.1) (sym none ∙ is_file_read bytes state h)
+-- what is not read is no snapshot's file
+pub is_damaged : (bytes : List ℕ) → file_at bytes ≡ None → (s : Snapshot) → IsFile bytes s → ⊥
+is_damaged bytes none s h = not_some (s, h.1) (sym none ∙ is_file_read bytes s h)
 
 -- a file that is read is open
-pub is_read_open : (bytes : List ℕ) (x : State × List ℕ) → IsBytes bytes → file_at bytes ≡ Some x → IsClosed bytes → ⊥
+pub is_read_open : (bytes : List ℕ) (x : Snapshot × List ℕ) → IsBytes bytes → file_at bytes ≡ Some x → IsClosed bytes → ⊥
 is_read_open bytes x ok e = is_open bytes x.0 (is_file bytes x ok e)
 
-pub only_file : (bytes : List ℕ) (x : State × List ℕ) → file_at bytes ≡ Some x → (state : State) → IsFile bytes state → Some x.0 ≡ Some state
-only_file bytes x e state h =
-    let same = some_is x (state, h.1) (sym e ∙ is_file_read bytes state h) in
-    ap (λ (y : State × List ℕ). Some y.0) same
+pub only_file : (bytes : List ℕ) (x : Snapshot × List ℕ) → file_at bytes ≡ Some x → (s : Snapshot) → IsFile bytes s → Some x.0 ≡ Some s
+only_file bytes x e s h =
+    let same = some_is x (s, h.1) (sym e ∙ is_file_read bytes s h) in
+    ap (λ (y : Snapshot × List ℕ). Some y.0) same

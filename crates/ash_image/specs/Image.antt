@@ -1,17 +1,26 @@
--- The image of a host's state, byte for byte, and the file round it.
-use Rattle.std.specs.Prelude.{◌≡◌, ◌⊎◌, ℕ, ◌<◌, ◌≤◌, ◌^◌, Bool, true, false, List, ◌++◌, length, Option, Some, None, slice_index, codes, ⊤, FitsSigned}
+-- The image of a host's state with the text of what is registered, byte for byte, and the file round it.
+use Rattle.std.specs.Prelude.{◌≡◌, ◌⊎◌, ℕ, ◌<◌, ◌≤◌, ◌^◌, Bool, true, false, List, ◌++◌, length, string_bytes, Option, Some, None, slice_index, codes, ⊤, FitsSigned}
 use Rattle.std.specs.Bool.{IsTrue}
+use Rattle.std.specs.Str.{IsUtf8}
 use Rattle.std.specs.Int.{w32, w64, cast_unsigned}
 use Rattle.std.specs.List.{AllByRecursion}
 use Rattle.ash_host.specs.declared.word.Word.{Word}
 use Rattle.ash_host.specs.declared.word.Word.TheVariants as words
-use Rattle.ash_meaning.specs.Kept.{state_of}
-use Rattle.ash_meaning.specs.State.{Script, State}
+use Rattle.ash_meaning.specs.Kept.{scripts_in, scripts_of}
+use Rattle.ash_meaning.specs.State.{Script}
+use Rattle.ash_meaning.specs.declared.kept.ModuleParts.{ModuleParts}
 use Rattle.ash_meaning.specs.Step.{is_module_name, most_modules}
 use Rattle.ash_image.specs.declared.image.Stored.{Stored}
 use Rattle.ash_image.specs.declared.image.FileContent.{FileContent}
 use Rattle.ash_image.specs.declared.image.FileContent.TheVariants as contents
 use Rattle.ash_image.specs.Fields.{number, text, items}
+
+-- what an image is of: the text of what was registered, the modules that were kept, and how many requests had been
+-- answered
+pub record Snapshot : Type 0 where
+  pub registered : List ℕ
+  pub modules : List Script
+  pub seq : ℕ
 
 -- ---- the spelling
 
@@ -38,15 +47,11 @@ script m = text 1 m.name ++ (text 4 m.source ++ items 2 word m.globals)
 abbrev pub version : ℕ
 version = 1
 
--- no services are registered: their text is empty
-abbrev pub registry : List ℕ
-registry = number 4 0
-
 -- no object has been made: the last number given is 0
 abbrev pub last_number : List ℕ
 last_number = number 8 0
 
--- no services are registered: none have a state
+-- no service has a state so far, whatever is registered
 abbrev pub services : List ℕ
 services = number 2 0
 
@@ -54,10 +59,10 @@ services = number 2 0
 abbrev pub objects : List ℕ
 objects = number 4 0
 
--- the version, what is registered, how many requests have been answered, the last number given, the states of services,
--- the modules, the objects
-abbrev pub image_of : State → List ℕ
-image_of state = number 2 version ++ (registry ++ (number 8 state.seq ++ (last_number ++ (services ++ (items 1 script state.modules ++ objects)))))
+-- the version, the text of what is registered, how many requests have been answered, the last number given, the states
+-- of services, the modules, the objects
+abbrev pub image_of : Snapshot → List ℕ
+image_of s = number 2 version ++ (text 4 s.registered ++ (number 8 s.seq ++ (last_number ++ (services ++ (items 1 script s.modules ++ objects)))))
 
 -- ---- what has a spelling
 
@@ -70,32 +75,44 @@ FitsWord (words.Uint64 value) = value < 2 ^ 64
 FitsWord (words.Object value) = value < 2 ^ 64
 FitsWord _ = ⊤
 
--- a module whose name is one, and whose lengths fit their sizes
-pub record HasSizes (m : Script) : Type 0 where
-  pub name : IsTrue (is_module_name m.name)
-  pub source : length m.source < 2 ^ 32
-  pub globals : length m.globals < 2 ^ 16
+-- the most bytes of the text of what is registered
+abbrev pub most_text : ℕ
+most_text = 1048576
 
--- a module within the limits of a host, which are far below what has a file
+-- the most bytes of a source
+abbrev pub most_source : ℕ
+most_source = 65536
+
+-- the most globals of a module
+abbrev pub most_globals : ℕ
+most_globals = 256
+
+-- a text of what is registered that is text, and within its limit
+pub record FitsText (registered : List ℕ) : Type 0 where
+  pub utf8 : IsUtf8 registered
+  pub short : length registered ≤ most_text
+
+-- a module whose name is one, within the limits of a host
 pub record IsWithinLimits (m : Script) : Type 0 where
   pub name : IsTrue (is_module_name m.name)
-  pub source : length m.source ≤ 65536
-  pub globals : length m.globals ≤ 256
+  pub source : length m.source ≤ most_source
+  pub globals : length m.globals ≤ most_globals
 
 -- a module that has a spelling
 pub record FitsModule (m : Script) : Type 0 where
-  pub sizes : HasSizes m
+  pub limits : IsWithinLimits m
   pub words : AllByRecursion FitsWord m.globals
 
--- a state that has a spelling: one module at the most
-pub record Fits (state : State) : Type 0 where
-  pub seq : state.seq < 2 ^ 64
-  pub count : length state.modules ≤ most_modules
-  pub modules : AllByRecursion FitsModule state.modules
+-- a snapshot that has a spelling: one module at the most
+pub record Fits (s : Snapshot) : Type 0 where
+  pub registered : FitsText s.registered
+  pub seq : s.seq < 2 ^ 64
+  pub count : length s.modules ≤ most_modules
+  pub modules : AllByRecursion FitsModule s.modules
 
--- The bytes are the one spelling of a state that has one.
-abbrev pub Depicts : List ℕ → State → Type 0
-Depicts bytes state = Fits state × (bytes ≡ image_of state)
+-- The bytes are the one spelling of a snapshot.
+abbrev pub Depicts : List ℕ → Snapshot → Type 0
+Depicts bytes snapshot = Fits snapshot × (bytes ≡ image_of snapshot)
 
 -- ---- the file
 
@@ -116,17 +133,17 @@ abbrev pub generation : ℕ
 generation = 1
 
 -- the gate, what the file is known by, its generation, the image and its length, and the next gate
-abbrev pub file_of : State → List ℕ
-file_of state = number 1 open_gate ++ (magic ++ (number 8 generation ++ (text 4 (image_of state) ++ number 1 shut_gate)))
+abbrev pub file_of : Snapshot → List ℕ
+file_of snapshot = number 1 open_gate ++ (magic ++ (number 8 generation ++ (text 4 (image_of snapshot) ++ number 1 shut_gate)))
 
--- a state whose image has a length that fits
-pub record FitsFile (state : State) : Type 0 where
-  pub image : Fits state
-  pub room : length (image_of state) < 2 ^ 32
+-- a snapshot whose image has a length that fits
+pub record FitsFile (snapshot : Snapshot) : Type 0 where
+  pub image : Fits snapshot
+  pub room : length (image_of snapshot) < 2 ^ 32
 
--- The file of a state, and after it anything: an older file's bytes may stay behind.
-abbrev pub IsFile : List ℕ → State → Type 0
-IsFile bytes state = FitsFile state × (rest : List ℕ) × (bytes ≡ file_of state ++ rest)
+-- The file of a snapshot, and after it anything: an older file's bytes may stay behind.
+abbrev pub IsFile : List ℕ → Snapshot → Type 0
+IsFile bytes snapshot = FitsFile snapshot × (rest : List ℕ) × (bytes ≡ file_of snapshot ++ rest)
 
 -- The first gate isn't open, or the file ends right behind it.
 abbrev pub IsClosed : List ℕ → Type 0
@@ -134,11 +151,15 @@ IsClosed bytes = (length bytes < 2) ⊎ (slice_index bytes 0 ≡ open_gate → �
 
 -- ---- what the code's types stand for
 
--- a state that was read
-abbrev pub stored_of : Stored → State
-stored_of s = state_of s.module s.seq
+-- what was read
+abbrev pub snapshot_read : Stored → Snapshot
+snapshot_read s = record { registered = string_bytes s.registered; modules = scripts_of s.module; seq = s.seq }
 
--- the state that a file holds
-abbrev pub held : FileContent → Option State
-held (contents.Holds s) = Some (stored_of s)
+-- what is written, by its parts
+abbrev pub snapshot_in : List ℕ → Option ModuleParts → ℕ → Snapshot
+snapshot_in registered m seq = record { registered = registered; modules = scripts_in m; seq = seq }
+
+-- what a file holds
+abbrev pub held : FileContent → Option Snapshot
+held (contents.Holds s) = Some (snapshot_read s)
 held _ = None

@@ -1,16 +1,16 @@
-// The image of a host's state, and the file round it.
+// The image of a host's state with the text of what is registered, and the file round it.
 //
 // An image, every number with its lowest byte first:
 //
 //     version        u16    1
-//     registry       u32    its text's length: 0, no services are registered
+//     registry       u32    the length of the text of what is registered, and the text: UTF-8, 1,048,576 bytes at most
 //     seq            u64    how many requests have been answered
 //     last number    u64    0, no object has been made
-//     services       u16    0
+//     services       u16    0, whatever is registered
 //     modules        u8     0 or 1, and each:
 //         name       u8     its length, and the bytes
-//         source     u32    its length, and the bytes
-//         globals    u16    how many, and each a word
+//         source     u32    its length, 65,536 at most, and the bytes
+//         globals    u16    how many, 256 at most, and each a word
 //     objects        u32    0
 //
 // A word is a tag and a value:
@@ -39,10 +39,9 @@ mod reading;
 mod tests;
 mod writing;
 
-ghost use Rattle.std.specs.Prelude.{◌≡◌, ◌<◌, ◌^◌, ◌↔◌, length, IsTrue, IfOk, OnOk, IfSome, Some, option_map};
-ghost use Rattle.ash_meaning.specs.State.{State};
-ghost use Rattle.ash_image.specs.Image.{Depicts, FitsFile, HasSizes, IsClosed, IsFile, file_of, held, image_of, stored_of};
-ghost use Rattle.ash_meaning.specs.Kept.{script_in, state_in};
+ghost use Rattle.std.specs.Prelude.{◌≡◌, ◌≤◌, ◌↔◌, length, IsTrue, IfOk, OnOk, IfSome, Some, option_map};
+ghost use Rattle.ash_image.specs.Image.{Depicts, FitsFile, IsClosed, IsFile, IsWithinLimits, Snapshot, file_of, held, most_text, snapshot_in, snapshot_read};
+ghost use Rattle.ash_meaning.specs.Kept.{script_in};
 ghost use Rattle.ash_image.specs.declared.image.FileContent.TheVariants.{Closed, Damaged};
 
 use crate::image::fields::Unread;
@@ -51,7 +50,14 @@ use std::alloc::{AllocError, Global};
 
 const VERSION: u16 = 1;
 
-const NO_REGISTRY: u32 = 0;
+/// The most bytes of the text of what is registered.
+const MOST_TEXT: usize = 1_048_576;
+
+/// The most bytes of a source.
+const MOST_SOURCE: usize = 65_536;
+
+/// The most globals of a module.
+const MOST_GLOBALS: u16 = 256;
 
 const LAST_NUMBER: u64 = 0;
 
@@ -73,6 +79,8 @@ const HEADER: usize = 1 + 8 + 8 + 4;
 /// A state as it was read.
 #[derive(Debug, Drop)]
 pub struct Stored {
+    /// The text of what was registered.
+    pub registered: String,
     /// How many requests have been answered.
     pub seq: u64,
     /// The module that is kept.
@@ -90,14 +98,15 @@ pub enum FileContent {
     Holds(Stored),
 }
 
-/// The state that the bytes depict, all of the bytes. `None` where they depict none.
+/// The state that the bytes depict, all of the bytes, and the text of what was registered. `None` where they depict
+/// none.
 pub fn read_image(alloc: Global, bytes: &[u8]) -> Result<Option<Stored>, AllocError>
     // What is read is depicted.
-    ensures found { IfOk result (λ found. IfSome found (λ s. Depicts bytes.now (stored_of s))) }
+    ensures found { IfOk result (λ found. IfSome found (λ s. Depicts bytes.now (snapshot_read s))) }
     // What is depicted is read, unless memory is refused.
-    ensures only { (state : State) → Depicts bytes.now state → IfOk result (λ found. option_map stored_of found ≡ Some state) }
-    // Bytes depict one state.
-    ensures one { (a b : State) → Depicts bytes.now a → Depicts bytes.now b → a ≡ b }
+    ensures only { (s : Snapshot) → Depicts bytes.now s → IfOk result (λ found. option_map snapshot_read found ≡ Some s) }
+    // Bytes depict one state and one text.
+    ensures one { (s t : Snapshot) → Depicts bytes.now s → Depicts bytes.now t → s ≡ t }
 {
     match reading::whole_image(alloc, bytes) {
         Ok(stored) => Ok(Some(stored)),
@@ -120,11 +129,11 @@ pub fn read_file(alloc: Global, bytes: &[u8]) -> Result<FileContent, AllocError>
     // What is held is what the file is of.
     ensures found { IfOk result (λ content. IfSome (held content) (IsFile bytes.now)) }
     // A file of a state is read, unless memory is refused.
-    ensures only { (state : State) → IsFile bytes.now state → IfOk result (λ content. held content ≡ Some state) }
+    ensures only { (s : Snapshot) → IsFile bytes.now s → IfOk result (λ content. held content ≡ Some s) }
     // Behind an open gate, what is no file of a state is damaged.
-    ensures damaged { IfOk result (λ content. (content ≡ Damaged) ↔ ((IsClosed bytes.now → ⊥) × ((state : State) → IsFile bytes.now state → ⊥))) }
-    // A file is of one state.
-    ensures one { (a b : State) → IsFile bytes.now a → IsFile bytes.now b → a ≡ b }
+    ensures damaged { IfOk result (λ content. (content ≡ Damaged) ↔ ((IsClosed bytes.now → ⊥) × ((s : Snapshot) → IsFile bytes.now s → ⊥))) }
+    // A file is of one state and one text.
+    ensures one { (s t : Snapshot) → IsFile bytes.now s → IsFile bytes.now t → s ≡ t }
 {
     if is_closed(bytes) {
         return Ok(FileContent::Closed);
@@ -136,28 +145,28 @@ pub fn read_file(alloc: Global, bytes: &[u8]) -> Result<FileContent, AllocError>
     }
 }
 
-/// The file of a state, given the module that it keeps and how many requests have been answered, in one buffer that
-/// is made with its exact capacity.
+/// The file of a state, given the text of what is registered, the module that it keeps and how many requests have been
+/// answered, in one buffer that is made with its exact capacity.
 pub fn write_file(
     alloc: Global,
+    registered: &str,
     parts: Option<ModuleParts<'_>>,
     seq: u64,
 ) -> Result<Vec<u8>, AllocError>
-    // The name is a module's name, and the lengths of source and globals fit their sizes.
-    requires sizes { IfSome parts (λ m. HasSizes (script_in m)) }
-    // The image's length fits its size.
-    requires room { length (image_of (state_in parts seq)) < 2 ^ 32 }
-    ensures written { IfOk result (λ file. file.items ≡ file_of (state_in parts.entry seq)) }
+    // The text is within its limit, and the module within those of a host.
+    requires text { length registered.now ≤ most_text }
+    requires limits { IfSome parts (λ m. IsWithinLimits (script_in m)) }
+    ensures written { IfOk result (λ file. file.items ≡ file_of (snapshot_in registered.now parts.entry seq)) }
     // So it is read again.
-    ensures fits { OnOk result (FitsFile (state_in parts.entry seq)) }
+    ensures fits { OnOk result (FitsFile (snapshot_in registered.now parts.entry seq)) }
 {
-    let image = writing::image_length(parts);
+    let image = writing::image_length(registered, parts);
     let mut file = Vec::with_capacity(alloc, HEADER + image + 1)?;
     writing::put_u8(&mut file, OPEN)?;
     file.extend_from_slice(MAGIC)?;
     writing::put_u64(&mut file, GENERATION)?;
     writing::put_u32(&mut file, image as u32)?;
-    writing::put_image(&mut file, parts, seq)?;
+    writing::put_image(&mut file, registered, parts, seq)?;
     writing::put_u8(&mut file, SHUT)?;
     Ok(file)
 }

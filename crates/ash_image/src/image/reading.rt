@@ -3,16 +3,16 @@
 ghost use Rattle.std.specs.Prelude.{◌≡◌, string_bytes, Some, None, if◌then◌else◌};
 ghost use Rattle.ash_meaning.specs.Step.{is_module_name};
 ghost use Rattle.ash_image.specs.Fields.{Gives, times_at, whole};
-ghost use Rattle.ash_image.specs.Image.{stored_of};
+ghost use Rattle.ash_image.specs.Image.{snapshot_read};
 ghost use Rattle.ash_meaning.specs.Kept.{script_of, scripts_of};
-ghost use Rattle.ash_image.specs.ImageReading.{file_at, globals_at, image_at, module_at, modules_at, name_at, word_at};
+ghost use Rattle.ash_image.specs.ImageReading.{count_at, file_at, globals_at, image_at, is_text, module_at, modules_at, name_at, registered_at, source_at, word_at};
 
 use crate::image::fields::{
     Unread, front, past, past_u8, past_u16, past_u32, past_u64, u8_at, u16_at, u32_at, u64_at,
 };
 use crate::image::{
-    GENERATION, LAST_NUMBER, MAGIC, NO_OBJECTS, NO_REGISTRY, NO_SERVICES, OPEN, SHUT, Stored,
-    VERSION,
+    GENERATION, LAST_NUMBER, MAGIC, MOST_GLOBALS, MOST_SOURCE, MOST_TEXT, NO_OBJECTS, NO_SERVICES,
+    OPEN, SHUT, Stored, VERSION,
 };
 use ash_host::Word;
 use ash_meaning::kept::StoredModule;
@@ -81,6 +81,31 @@ fn name_of(alloc: Global, bytes: &[u8]) -> Result<(String, &[u8]), Unread>
     Ok((name, rest))
 }
 
+/// The bytes of a source.
+#[tactic(auto, unfolding(crate::specs::ImageReading::source_at))]
+fn source_of(bytes: &[u8]) -> Result<(&[u8], &[u8]), Unread>
+    ensures { Gives (λ x. (x.0.now, x.1.now)) result (source_at bytes.now) }
+{
+    let (length, rest) = u32_at(bytes)?;
+    let (source, rest) = front(rest, length as usize)?;
+    if source.len() > MOST_SOURCE {
+        return Err(Unread::Damaged);
+    }
+    Ok((source, rest))
+}
+
+/// How many globals there are.
+#[tactic(auto, unfolding(crate::specs::ImageReading::count_at))]
+fn count_of(bytes: &[u8]) -> Result<(u16, &[u8]), Unread>
+    ensures { Gives (λ x. (x.0, x.1.now)) result (count_at bytes.now) }
+{
+    let (count, rest) = u16_at(bytes)?;
+    if count > MOST_GLOBALS {
+        return Err(Unread::Damaged);
+    }
+    Ok((count, rest))
+}
+
 fn words_of(alloc: Global, count: u16, bytes: &[u8]) -> Result<(Vec<Word>, &[u8]), Unread>
     ensures { Gives (λ x. (x.0.items, x.1.now)) result (times_at word_at count bytes.now) }
 {
@@ -99,9 +124,8 @@ fn module_of(alloc: Global, bytes: &[u8]) -> Result<(StoredModule, &[u8]), Unrea
     ensures { Gives (λ x. (script_of x.0, x.1.now)) result (module_at bytes.now) }
 {
     let (name, rest) = name_of(alloc, bytes)?;
-    let (length, rest) = u32_at(rest)?;
-    let (source, rest) = front(rest, length as usize)?;
-    let (count, rest) = u16_at(rest)?;
+    let (source, rest) = source_of(rest)?;
+    let (count, rest) = count_of(rest)?;
     let (globals, rest) = words_of(alloc, count, rest)?;
     let source = Vec::from_slice(alloc, source)?;
     let module = StoredModule {
@@ -127,23 +151,51 @@ fn modules_of(alloc: Global, bytes: &[u8]) -> Result<(Option<StoredModule>, &[u8
     }
 }
 
+/// The bytes as the text of what is registered.
+fn as_text(alloc: Global, bytes: &[u8]) -> Result<String, Unread>
+    ensures { Gives (λ text. string_bytes text) result (if is_text bytes.now then Some bytes.now else None) }
+{
+    if bytes.len() > MOST_TEXT {
+        return Err(Unread::Damaged);
+    }
+    let Ok(text) = str::from_utf8(bytes) else {
+        return Err(Unread::Damaged);
+    };
+    Ok(String::from_str(alloc, text)?)
+}
+
+#[tactic(auto, unfolding(crate::specs::ImageReading::registered_at))]
+fn registered_of(alloc: Global, bytes: &[u8]) -> Result<(String, &[u8]), Unread>
+    ensures { Gives (λ x. (string_bytes x.0, x.1.now)) result (registered_at bytes.now) }
+{
+    let (length, rest) = u32_at(bytes)?;
+    let (text, rest) = front(rest, length as usize)?;
+    let registered = as_text(alloc, text)?;
+    Ok((registered, rest))
+}
+
 #[tactic(auto, unfolding(crate::specs::ImageReading::image_at))]
 fn image_of(alloc: Global, bytes: &[u8]) -> Result<(Stored, &[u8]), Unread>
-    ensures { Gives (λ x. (stored_of x.0, x.1.now)) result (image_at bytes.now) }
+    ensures { Gives (λ x. (snapshot_read x.0, x.1.now)) result (image_at bytes.now) }
 {
     let rest = past_u16(bytes, VERSION)?;
-    let rest = past_u32(rest, NO_REGISTRY)?;
+    let (registered, rest) = registered_of(alloc, rest)?;
     let (seq, rest) = u64_at(rest)?;
     let rest = past_u64(rest, LAST_NUMBER)?;
     let rest = past_u16(rest, NO_SERVICES)?;
     let (module, rest) = modules_of(alloc, rest)?;
     let rest = past_u32(rest, NO_OBJECTS)?;
-    Ok((Stored { seq, module }, rest))
+    let stored = Stored {
+        registered,
+        seq,
+        module,
+    };
+    Ok((stored, rest))
 }
 
 /// The state that the bytes depict, all of the bytes.
 pub fn whole_image(alloc: Global, bytes: &[u8]) -> Result<Stored, Unread>
-    ensures { Gives (λ s. stored_of s) result (whole image_at bytes.now) }
+    ensures { Gives (λ s. snapshot_read s) result (whole image_at bytes.now) }
 {
     let (stored, rest) = image_of(alloc, bytes)?;
     if rest.is_empty() {
@@ -156,7 +208,7 @@ pub fn whole_image(alloc: Global, bytes: &[u8]) -> Result<Stored, Unread>
 /// The state whose file stands at the front of the bytes, and what is behind it.
 #[tactic(auto, unfolding(crate::specs::ImageReading::file_at))]
 pub fn file_of(alloc: Global, bytes: &[u8]) -> Result<(Stored, &[u8]), Unread>
-    ensures { Gives (λ x. (stored_of x.0, x.1.now)) result (file_at bytes.now) }
+    ensures { Gives (λ x. (snapshot_read x.0, x.1.now)) result (file_at bytes.now) }
 {
     let rest = past_u8(bytes, OPEN)?;
     let rest = past(rest, MAGIC)?;

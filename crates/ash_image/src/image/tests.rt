@@ -1,7 +1,3 @@
-ghost use Rattle.std.specs.Prelude.{◌≡◌, IfOk, IfSome};
-ghost use Rattle.ash_image.specs.Image.{IsWithinLimits, file_of};
-ghost use Rattle.ash_meaning.specs.Kept.{script_in, state_in};
-
 use super::*;
 use ash_host::Word;
 use std::test::*;
@@ -12,6 +8,14 @@ const EMPTY: [u8; 51] = [
     0x00, 0x1d, 0x00, 0x00, 0x00, 0x01, 0x00, 0x00, 0x00, 0x00, 0x00, 0x00, 0x00, 0x00, 0x00, 0x00,
     0x00, 0x00, 0x00, 0x00, 0x00, 0x00, 0x00, 0x00, 0x00, 0x00, 0x00, 0x00, 0x00, 0x00, 0x00, 0x00,
     0x00, 0x00, 0x00,
+];
+
+/// The file of such a host with one service of the kind 2.
+const ONE_SERVICE: [u8; 61] = [
+    0x01, 0x41, 0x53, 0x48, 0x4f, 0x53, 0x54, 0x30, 0x31, 0x01, 0x00, 0x00, 0x00, 0x00, 0x00, 0x00,
+    0x00, 0x27, 0x00, 0x00, 0x00, 0x01, 0x00, 0x0a, 0x00, 0x00, 0x00, 0x73, 0x65, 0x72, 0x76, 0x69,
+    0x63, 0x65, 0x20, 0x32, 0x0a, 0x00, 0x00, 0x00, 0x00, 0x00, 0x00, 0x00, 0x00, 0x00, 0x00, 0x00,
+    0x00, 0x00, 0x00, 0x00, 0x00, 0x00, 0x00, 0x00, 0x00, 0x00, 0x00, 0x00, 0x00,
 ];
 
 /// The file of a module `m` of the source `x`, whose one global holds -2, after three requests.
@@ -32,18 +36,6 @@ const EACH_WORD: [u8; 79] = [
     0x80, 0x05, 0x06, 0x09, 0x00, 0x00, 0x00, 0x00, 0x00, 0x00, 0x00, 0x00, 0x00, 0x00, 0x00,
 ];
 
-/// A host's limits are enough for a file to be written.
-fn within_limits(
-    alloc: Global,
-    parts: Option<ModuleParts<'_>>,
-    seq: u64,
-) -> Result<Vec<u8>, AllocError>
-    requires { IfSome parts (λ m. IsWithinLimits (script_in m)) }
-    ensures { IfOk result (λ file. file.items ≡ file_of (state_in parts.entry seq)) }
-{
-    write_file(alloc, parts, seq)
-}
-
 fn held(alloc: Global, file: &[u8]) -> Result<Option<Stored>, AllocError> {
     match read_file(alloc, file)? {
         FileContent::Holds(stored) => Ok(Some(stored)),
@@ -57,11 +49,50 @@ fn is_damaged(alloc: Global, file: &[u8]) -> Result<bool, AllocError> {
 
 #[test]
 fn an_empty_state(rt: HostRuntime) -> Result<(), Fail> {
-    let file = write_file(rt.alloc(), None, 0)?;
+    let file = write_file(rt.alloc(), "", None, 0)?;
     assert_eq!(rt; file.as_slice(), EMPTY.as_slice());
     let stored = held(rt.alloc(), &EMPTY)?.ok_or("the file holds a state")?;
+    assert_eq!(rt; stored.registered.as_str(), "");
     assert_eq!(rt; stored.seq, 0);
     assert!(rt; stored.module.is_none());
+    Ok(())
+}
+
+#[test]
+fn a_registration(rt: HostRuntime) -> Result<(), Fail> {
+    let file = write_file(rt.alloc(), "service 2\n", None, 0)?;
+    assert_eq!(rt; file.as_slice(), ONE_SERVICE.as_slice());
+    let stored = held(rt.alloc(), &ONE_SERVICE)?.ok_or("the file holds a state")?;
+    assert_eq!(rt; stored.registered.as_str(), "service 2\n");
+    // A byte that begins no character.
+    let mut file = ONE_SERVICE;
+    file[27] = 0xff;
+    assert!(rt; is_damaged(rt.alloc(), &file)?);
+    Ok(())
+}
+
+/// The image of a state with no module, before any request, whose text is so many spaces, with a length of its own.
+fn with_spaces(alloc: Global, length: u32, spaces: usize) -> Result<Vec<u8>, AllocError> {
+    let mut image = Vec::from_slice(alloc, &[1, 0])?;
+    image.extend_from_slice(&length.to_le_bytes())?;
+    for _ in 0..spaces {
+        image.push(b' ')?;
+    }
+    image.extend_from_slice(&[0; 23])?;
+    Ok(image)
+}
+
+#[test]
+fn a_text_at_its_limit(rt: HostRuntime) -> Result<(), Fail> {
+    let image = with_spaces(rt.alloc(), 1_048_576, 1_048_576)?;
+    let stored = read_image(rt.alloc(), &image)?.ok_or("the bytes depict a state")?;
+    assert_eq!(rt; stored.registered.len(), 1_048_576);
+    let image = with_spaces(rt.alloc(), 1_048_577, 1_048_577)?;
+    assert!(rt; read_image(rt.alloc(), &image)?.is_none());
+    // A length that is one byte more, and one less, than there is.
+    assert!(rt; read_image(rt.alloc(), &with_spaces(rt.alloc(), 4, 3)?)?.is_none());
+    assert!(rt; read_image(rt.alloc(), &with_spaces(rt.alloc(), 3, 4)?)?.is_none());
+    assert!(rt; read_image(rt.alloc(), &with_spaces(rt.alloc(), 3, 3)?)?.is_some());
     Ok(())
 }
 
@@ -73,7 +104,7 @@ fn a_module(rt: HostRuntime) -> Result<(), Fail> {
         source: b"x",
         globals: &globals,
     };
-    let file = within_limits(rt.alloc(), Some(parts), 3)?;
+    let file = write_file(rt.alloc(), "", Some(parts), 3)?;
     assert_eq!(rt; file.as_slice(), ONE_MODULE.as_slice());
     let stored = held(rt.alloc(), &ONE_MODULE)?.ok_or("the file holds a state")?;
     assert_eq!(rt; stored.seq, 3);

@@ -2,11 +2,11 @@
 
 ghost use Rattle.std.specs.Prelude.{◌≡◌, ◌<◌, ◌≤◌, ◌^◌, ◌*◌, ◌++◌, ℕ, length, OnOk, IfSome};
 ghost use Rattle.std.specs.List.{flat_map, AllByRecursion};
-ghost use Rattle.ash_image.specs.Fields.{items, number};
-ghost use Rattle.ash_image.specs.Image.{Fits, FitsModule, FitsWord, HasSizes, image_of, script, word};
-ghost use Rattle.ash_meaning.specs.Kept.{script_in, scripts_in, state_in};
+ghost use Rattle.ash_image.specs.Fields.{items, number, text};
+ghost use Rattle.ash_image.specs.Image.{Fits, FitsModule, FitsWord, IsWithinLimits, image_of, most_text, script, snapshot_in, word};
+ghost use Rattle.ash_meaning.specs.Kept.{script_in, scripts_in};
 
-use crate::image::{LAST_NUMBER, NO_OBJECTS, NO_REGISTRY, NO_SERVICES, VERSION};
+use crate::image::{LAST_NUMBER, NO_OBJECTS, NO_SERVICES, VERSION};
 use ash_host::Word;
 use ash_meaning::kept::ModuleParts;
 use byteorder::{ByteOrder, LittleEndian};
@@ -87,7 +87,7 @@ fn put_words(out: &mut Vec<u8>, words: &[Word]) -> Result<(), AllocError>
 }
 
 fn put_module(out: &mut Vec<u8>, parts: ModuleParts<'_>) -> Result<(), AllocError>
-    requires { HasSizes (script_in parts) }
+    requires { IsWithinLimits (script_in parts) }
     ensures written { OnOk result (out.new.items ≡ out.old.items ++ script (script_in parts.entry)) }
     ensures fits { OnOk result (FitsModule (script_in parts.entry)) }
 {
@@ -100,7 +100,7 @@ fn put_module(out: &mut Vec<u8>, parts: ModuleParts<'_>) -> Result<(), AllocErro
 }
 
 fn put_modules(out: &mut Vec<u8>, parts: Option<ModuleParts<'_>>) -> Result<(), AllocError>
-    requires { IfSome parts (λ m. HasSizes (script_in m)) }
+    requires { IfSome parts (λ m. IsWithinLimits (script_in m)) }
     ensures written { OnOk result (out.new.items ≡ out.old.items ++ items 1 script (scripts_in parts.entry)) }
     ensures fits { OnOk result (AllByRecursion FitsModule (scripts_in parts.entry)) }
 {
@@ -113,18 +113,29 @@ fn put_modules(out: &mut Vec<u8>, parts: Option<ModuleParts<'_>>) -> Result<(), 
     }
 }
 
-/// Writes the image of a state.
+/// A length, and the text of what is registered.
+fn put_registered(out: &mut Vec<u8>, registered: &str) -> Result<(), AllocError>
+    requires { length registered.now ≤ most_text }
+    ensures { OnOk result (out.new.items ≡ out.old.items ++ text 4 registered.now) }
+{
+    put_u32(out, registered.len() as u32)?;
+    out.extend_from_slice(registered.as_bytes())
+}
+
+/// Writes the image of a state with the text of what is registered.
 pub fn put_image(
     out: &mut Vec<u8>,
+    registered: &str,
     parts: Option<ModuleParts<'_>>,
     seq: u64,
 ) -> Result<(), AllocError>
-    requires { IfSome parts (λ m. HasSizes (script_in m)) }
-    ensures written { OnOk result (out.new.items ≡ out.old.items ++ image_of (state_in parts.entry seq)) }
-    ensures fits { OnOk result (Fits (state_in parts.entry seq)) }
+    requires text { length registered.now ≤ most_text }
+    requires limits { IfSome parts (λ m. IsWithinLimits (script_in m)) }
+    ensures written { OnOk result (out.new.items ≡ out.old.items ++ image_of (snapshot_in registered.now parts.entry seq)) }
+    ensures fits { OnOk result (Fits (snapshot_in registered.now parts.entry seq)) }
 {
     put_u16(out, VERSION)?;
-    put_u32(out, NO_REGISTRY)?;
+    put_registered(out, registered)?;
     put_u64(out, seq)?;
     put_u64(out, LAST_NUMBER)?;
     put_u16(out, NO_SERVICES)?;
@@ -157,20 +168,21 @@ fn words_length(words: &[Word]) -> usize
 }
 
 fn module_length(parts: ModuleParts<'_>) -> usize
-    requires { HasSizes (script_in parts) }
+    requires { IsWithinLimits (script_in parts) }
     ensures exact { result ≡ length (script (script_in parts.entry)) }
-    ensures most { result < 2 ^ 33 }
+    ensures most { result < 2 ^ 20 }
 {
     1 + parts.name.len() + 4 + parts.source.len() + 2 + words_length(parts.globals)
 }
 
-/// How long the image of a state is, whatever its sequence number.
-pub fn image_length(parts: Option<ModuleParts<'_>>) -> usize
-    requires { IfSome parts (λ m. HasSizes (script_in m)) }
-    ensures exact { (seq : ℕ) → result ≡ length (image_of (state_in parts.entry seq)) }
-    ensures most { result < 2 ^ 34 }
+/// How long the image of a state is with the text of what is registered, whatever its sequence number.
+pub fn image_length(registered: &str, parts: Option<ModuleParts<'_>>) -> usize
+    requires text { length registered.now ≤ most_text }
+    requires limits { IfSome parts (λ m. IsWithinLimits (script_in m)) }
+    ensures exact { (seq : ℕ) → result ≡ length (image_of (snapshot_in registered.now parts.entry seq)) }
+    ensures most { result < 2 ^ 22 }
 {
-    let fixed = 2 + 4 + 8 + 8 + 2 + 1 + 4;
+    let fixed = 2 + 4 + registered.len() + 8 + 8 + 2 + 1 + 4;
     match parts {
         None => fixed,
         Some(parts) => fixed + module_length(parts),

@@ -1,18 +1,18 @@
 use Rattle.std.proofs.Common.{sym, ◌∙◌, arith}
-use Rattle.ash_image.specs.Image.{stored_of}
+use Rattle.ash_image.specs.Image.{snapshot_read}
 use Rattle.ash_image.proofs.Image_laws.{is_depicted, is_read, depicts_one}
 use Rattle.ash_image.proofs.image.read_image.Goals as goal
 
 pub returns-in-Ok-clause-found : goal.returns-in-Ok-clause-found
-returns-in-Ok-clause-found c = is_depicted c.args.bytes.now (stored_of c.in-Ok.stored) (λ i. omega (arith, c.type_inv.bytes i)) c.in-Ok.ensures
+returns-in-Ok-clause-found c = is_depicted c.args.bytes.now (snapshot_read c.in-Ok.stored) (λ i. omega (arith, c.type_inv.bytes i)) c.in-Ok.ensures
 
 pub returns-in-Ok-clause-only : goal.returns-in-Ok-clause-only
-returns-in-Ok-clause-only c = λ state h. sym c.in-Ok.ensures ∙ is_read c.args.bytes.now state h
+returns-in-Ok-clause-only c = λ s h. sym c.in-Ok.ensures ∙ is_read c.args.bytes.now s h
 
 pub returns-in-Err-Damaged-clause-only : goal.returns-in-Err-Damaged-clause-only
 returns-in-Err-Damaged-clause-only c =
     let none = rw c.in-Err-Damaged.field-0-is at c.in-Err-Damaged.ensures in
-    λ state h. sym none ∙ is_read c.args.bytes.now state h
+    λ s h. sym none ∙ is_read c.args.bytes.now s h
 
 pub returns-in-Ok-clause-one : goal.returns-in-Ok-clause-one
 returns-in-Ok-clause-one c = λ a b h g. depicts_one c.args.bytes.now a b h g
