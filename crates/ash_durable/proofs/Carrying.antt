@@ -6,12 +6,12 @@ use Rattle.ash_meaning.specs.declared.request.Answer.{Answer}
 use Rattle.ash_meaning.specs.State.{State, Request, Reply, Answered, Value, Number, Refused, answered, answer_of}
 use Rattle.ash_meaning.specs.Step.{Steps, step}
 use Rattle.ash_durable.specs.Hosting.{Device, Hosted, state_unless, IsRunning, IsSaved, LeavesFilesOf, LeavesClosed, WroteFile, IsAnswer, WasLost, TellsFailures, Keeps, Carries}
-use Rattle.ash_durable.proofs.Answering.{LeavesState, steps-fine}
+use Rattle.ash_durable.proofs.Answering.{LeavesState, steps-fine, steps-registered}
 use Rattle.ash_durable.proofs.Opened.{runs_in, saved_in}
 
 -- a host as it is seen
 abbrev pub seen_host : {D : Type 0} → Option ℕ → State → D → D → Hosted D
-seen_host owed state first second = record { state = state_unless owed state; seq = unwrap_or owed state.seq; first = first; second = second }
+seen_host owed state first second = record { registered = state.registered; state = state_unless owed state; seq = unwrap_or owed state.seq; first = first; second = second }
 
 refused-same : (old : State) (refusal : Refusal) (new : State) → LeavesState old (Refused refusal) new → new ≡ old
 refused-same old refusals.DeviceFailed new h = absurd h
@@ -42,13 +42,14 @@ carries_untouched {D} device budget request None old new first second reply runs
     let same : new ≡ old = leaves-same old reply new not fine in
     let host_same : seen_host None new first second ≡ seen_host None old first second = ap (λ (s : State). seen_host None s first second) same in
     record {
-      replies = inl (record { after = new; step = steps; running = record { state_is = refl; seq_is = refl }; untouched = λ _. host_same });
+      replies = inl (record { after = new; step = steps; running = record { registered_is = refl; state_is = refl; seq_is = refl }; untouched = λ _. host_same });
       saved = λ was. subst (IsSaved device) (sym host_same) was;
       kept = λ answer. absurd (not answer);
       reads = λ answer. absurd (not answer);
       honesty = refl;
       failures = none-failed device first old reply new fine;
       second = refl;
+      registered = steps-registered budget request old new reply steps;
     }
 
 was_answer : (budget : ℕ) (request : Request) (old new : State) (answer : Answer) → Steps budget request old (answered answer) new → IsAnswer (step budget request old).0
@@ -56,8 +57,8 @@ was_answer budget request old new answer (inl taken) = subst (λ (x : Reply × S
 was_answer budget request old new answer (inr refused) = let h = refused.0 in absurd (cc)
 
 -- an answer that was lost
-carries_lost : {D : Type 0} (device : Device D) (budget : ℕ) (request : Request) (old after : State) (first second : D) (answer : Answer) (refusal : Refusal) (new : Hosted D) → Steps budget request old (answered answer) after → new.state ≡ None → new.seq ≡ old.seq → new.second ≡ second → device.honest new.first ≡ device.honest first → WasLost first (Refused refusal) new.first → TellsFailures device first (Refused refusal) new.first → Carries device budget request (seen_host None old first second) (Refused refusal) new
-carries_lost device budget request old after first second answer refusal new steps none seq same honesty lost failures = record {
+carries_lost : {D : Type 0} (device : Device D) (budget : ℕ) (request : Request) (old after : State) (first second : D) (answer : Answer) (refusal : Refusal) (new : Hosted D) → Steps budget request old (answered answer) after → new.state ≡ None → new.seq ≡ old.seq → new.second ≡ second → new.registered ≡ old.registered → device.honest new.first ≡ device.honest first → WasLost first (Refused refusal) new.first → TellsFailures device first (Refused refusal) new.first → Carries device budget request (seen_host None old first second) (Refused refusal) new
+carries_lost device budget request old after first second answer refusal new steps none seq same registered honesty lost failures = record {
   replies = inr (record { answer = was_answer budget request old after answer steps; lost = lost; owed = none; seq_same = seq });
   saved = λ was. record {
     admitted = λ state runs. let h : None ≡ Some state = sym none ∙ runs.state_is in absurd (cc);
@@ -69,6 +70,7 @@ carries_lost device budget request old after first second answer refusal new ste
   honesty = honesty;
   failures = failures;
   second = same;
+  registered = registered;
 }
 
 -- what keeping an answer gave
@@ -76,14 +78,15 @@ pub record WasTold {D : Type 0} (device : Device D) (owed : Option ℕ) (old aft
   pub kept : IfOk result (λ kept. (kept ≡ answer) × (new.state ≡ state_unless owed after) × (new.seq ≡ unwrap_or owed after.seq))
   pub lost : OnErr result ((new.state ≡ None) × (new.seq ≡ old.seq))
   pub second_is : new.second ≡ second
+  pub registered_is : new.registered ≡ after.registered
   pub keeps : (state : State) → IsRunning state (seen_host owed after first second) → Keeps device state first result new.first
 
 -- a request that is answered, if the answer is kept
 pub carries_answer : {D : Type 0} (device : Device D) (budget : ℕ) (request : Request) (owed : Option ℕ) (old after : State) (first second : D) (answer : Answer) (result : Result Answer Refusal) (new : Hosted D) → is_some owed ≡ false → Steps budget request old (answered answer) after → WasTold device owed old after first second answer result new → Carries device budget request (seen_host owed old first second) (answer_of result) new
 carries_answer device budget request (Some seq) old after first second answer result new runs steps told = absurd (cc)
 carries_answer device budget request None old after first second answer (Ok kept) new runs steps told =
-    let keeps : Keeps {T = Answer} device after first (Ok kept) new.first = told.keeps after (record { state_is = refl; seq_is = refl }) in
-    let running : IsRunning after new = record { state_is = told.kept.1; seq_is = told.kept.2 } in
+    let keeps : Keeps {T = Answer} device after first (Ok kept) new.first = told.keeps after (record { registered_is = refl; state_is = refl; seq_is = refl }) in
+    let running : IsRunning after new = record { registered_is = told.registered_is; state_is = told.kept.1; seq_is = told.kept.2 } in
     record {
       replies = inl (record {
         after = after;
@@ -97,12 +100,13 @@ carries_answer device budget request None old after first second answer (Ok kept
       honesty = keeps.honesty;
       failures = keeps.failures;
       second = told.second_is;
+      registered = told.registered_is ∙ steps-registered budget request old after (answered answer) steps;
     }
 carries_answer device budget request None old after first second answer (Err refusals.DeviceFailed) new runs steps told =
-    let keeps : Keeps {T = Answer} device after first (Err refusals.DeviceFailed) new.first = told.keeps after (record { state_is = refl; seq_is = refl }) in
-    carries_lost device budget request old after first second answer refusals.DeviceFailed new steps told.lost.0 told.lost.1 told.second_is keeps.honesty tt keeps.failures
+    let keeps : Keeps {T = Answer} device after first (Err refusals.DeviceFailed) new.first = told.keeps after (record { registered_is = refl; state_is = refl; seq_is = refl }) in
+    carries_lost device budget request old after first second answer refusals.DeviceFailed new steps told.lost.0 told.lost.1 told.second_is (told.registered_is ∙ steps-registered budget request old after (answered answer) steps) keeps.honesty tt keeps.failures
 carries_answer device budget request None old after first second answer (Err refusals.NoMemory) new runs steps told =
-    let keeps : Keeps {T = Answer} device after first (Err refusals.NoMemory) new.first = told.keeps after (record { state_is = refl; seq_is = refl }) in
-    carries_lost device budget request old after first second answer refusals.NoMemory new steps told.lost.0 told.lost.1 told.second_is keeps.honesty keeps.failures (ap device.failures keeps.failures)
+    let keeps : Keeps {T = Answer} device after first (Err refusals.NoMemory) new.first = told.keeps after (record { registered_is = refl; state_is = refl; seq_is = refl }) in
+    carries_lost device budget request old after first second answer refusals.NoMemory new steps told.lost.0 told.lost.1 told.second_is (told.registered_is ∙ steps-registered budget request old after (answered answer) steps) keeps.honesty keeps.failures (ap device.failures keeps.failures)
 carries_answer device budget request None old after first second answer (Err _) new runs steps told =
-    absurd (told.keeps after (record { state_is = refl; seq_is = refl })).failures
+    absurd (told.keeps after (record { registered_is = refl; state_is = refl; seq_is = refl })).failures

@@ -9,14 +9,14 @@ use Rattle.ash_meaning.specs.Kept.{Admits, IsAdmitted, state_in, scripts_in}
 use Rattle.ash_meaning.specs.State.{State, Script}
 use Rattle.ash_meaning.specs.Step.{most_modules}
 use Rattle.ash_meaning.specs.declared.kept.ModuleParts.{ModuleParts}
-use Rattle.ash_durable.specs.Hosting.{Device, LeavesFilesOf, LeavesClosed}
+use Rattle.ash_durable.specs.Hosting.{Device, LeavesFilesOf, LeavesClosed, snapshot_of}
 use Rattle.ash_durable.specs.Store.{OnlyRead}
 
 -- a state that is written by its parts
-pub admitted_in : (parts : Option ModuleParts) (seq : ℕ) (state : State) → scripts_in parts ≡ state.modules → Admits state → Admits (state_in parts seq)
+pub admitted_in : (parts : Option ModuleParts) (seq : ℕ) (state : State) → scripts_in parts ≡ state.modules → Admits state → Admits (state_in state.registered parts seq)
 admitted_in parts seq state same h = record {
   count = subst (λ (scripts : List Script). length scripts ≤ most_modules) (sym same) h.count;
-  modules = subst (AllByRecursion IsAdmitted) (sym same) h.modules;
+  modules = subst (AllByRecursion (IsAdmitted state.registered)) (sym same) h.modules;
 }
 
 -- what begins with 0 is closed
@@ -24,11 +24,11 @@ pub shut_closed : (old image : List ℕ) → image ≡ after_write old 0 (shut_g
 shut_closed old image is = inr (λ h. let begins : slice_index image 0 ≡ 0 = ap (λ (l : List ℕ). slice_index l 0) is in absurd (omega arith))
 
 -- the file of a state, written over the beginning of another
-pub written_file : (state : State) (old image : List ℕ) → FitsFile state → image ≡ after_write old 0 (file_of state) → IsFile image state
-written_file state old image fits is = (fits, drop (0 + length (file_of state)) old, is)
+pub written_file : (state : State) (old image : List ℕ) → FitsFile (snapshot_of state) → image ≡ after_write old 0 (file_of (snapshot_of state)) → IsFile image (snapshot_of state)
+written_file state old image fits is = (fits, drop (0 + length (file_of (snapshot_of state))) old, is)
 
 -- so it is on the disk
-pub leaves_file : {D : Type 0} (device : Device D) (state : State) (old new : D) → FitsFile state → (IsTrue (device.honest old) → device.seen new ≡ after_write (device.seen old) 0 (file_of state)) → (IsTrue (device.honest old) → Only (device.seen new) (device.leaves new (device.clock new))) → device.honest new ≡ device.honest old → LeavesFilesOf device state new
+pub leaves_file : {D : Type 0} (device : Device D) (state : State) (old new : D) → FitsFile (snapshot_of state) → (IsTrue (device.honest old) → device.seen new ≡ after_write (device.seen old) 0 (file_of (snapshot_of state))) → (IsTrue (device.honest old) → Only (device.seen new) (device.leaves new (device.clock new))) → device.honest new ≡ device.honest old → LeavesFilesOf device state new
 leaves_file device state old new fits written only same honest image left =
     let was : IsTrue (device.honest old) = subst IsTrue same honest in
     written_file state (device.seen old) image fits (only was image left ∙ written was)

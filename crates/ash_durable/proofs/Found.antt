@@ -1,29 +1,43 @@
 -- What reading two disks finds.
 use Rattle.std.proofs.Common.{◌≡◌, ◌⊎◌, inl, inr, ℕ, ◌≤◌, ◌↔◌, true, false, List, length, Some, Result, Ok, Err, refl, sym, ◌∙◌, ap, subst, arith}
-use Rattle.std.specs.Prelude.{slice_index}
+use Rattle.std.specs.Prelude.{slice_index, string_bytes, IfSome}
 use Rattle.std.specs.Bool.{IsTrue}
 use Rattle.std.proofs.lemmas.Bool.{cases_lt}
+use Rattle.ash_disk.specs.Failures.{Rose}
 use Rattle.ash_disk.proofs.MomentLaws.{at_end, goes_on, weaker}
-use Rattle.ash_image.specs.Image.{IsFile, IsClosed, held, stored_of}
+use Rattle.ash_image.specs.Image.{Snapshot, IsFile, IsClosed, held, snapshot_read}
 use Rattle.ash_image.specs.declared.image.FileContent.{FileContent}
 use Rattle.ash_image.specs.declared.image.FileContent.TheVariants as contents
 use Rattle.ash_image.specs.declared.image.Stored.{Stored}
+use Rattle.ash_meaning.specs.Kept.{Admits, scripts_of, state_of}
 use Rattle.ash_meaning.specs.State.{State}
-use Rattle.ash_durable.specs.Hosting.{Device}
-use Rattle.ash_durable.specs.Store.{OnlyRead, NoneFailed, TellsState, Finds}
+use Rattle.ash_registry.specs.Text.{text_of}
+use Rattle.ash_registry.specs.Calls.{Call}
+use Rattle.ash_durable.specs.Hosting.{Device, snapshot_of}
+use Rattle.ash_durable.specs.Store.{OnlyRead, NoneFailed, IsStateOf, IsDamaged, IsOfOthers, TellsRead, TellsState, Finds}
 use Rattle.ash_durable.specs.declared.fault.StoreFault.{StoreFault}
 use Rattle.ash_durable.specs.declared.fault.StoreFault.TheVariants as faults
 
 -- what is no file of a state holds none
-pub not_held : (content : FileContent) (state : State) → ((stored : Stored) → content ≡ contents.Holds stored → ⊥) → held content ≡ Some state → ⊥
-not_held contents.Closed state not e = cc
-not_held contents.Damaged state not e = cc
-not_held (contents.Holds stored) state not e = not stored refl
+pub not_held : (content : FileContent) (s : Snapshot) → ((stored : Stored) → content ≡ contents.Holds stored → ⊥) → held content ≡ Some s → ⊥
+not_held contents.Closed s not e = cc
+not_held contents.Damaged s not e = cc
+not_held (contents.Holds stored) s not e = not stored refl
 
 -- what a file holds is what it is of
-pub is_held : (content : FileContent) (stored : Stored) (state : State) → content ≡ contents.Holds stored → held content ≡ Some state → stored_of stored ≡ state
-is_held content stored state is e =
-    let h : Some (stored_of stored) ≡ Some state = sym (ap held is) ∙ e in cc
+pub file_held : (bytes : List ℕ) (content : FileContent) (stored : Stored) → content ≡ contents.Holds stored → IfSome (held content) (IsFile bytes) → IsFile bytes (snapshot_read stored)
+file_held bytes content stored is file = rw is at file
+
+-- the state that was stored under the text of what is registered
+pub is_state : (registered : List Call) (bytes : List ℕ) (stored : Stored) → string_bytes stored.registered ≡ text_of registered → IsFile bytes (snapshot_read stored) → IsStateOf registered bytes (state_of registered stored.module stored.seq)
+is_state registered bytes stored text file = record {
+  registered_is = refl;
+  file = subst (λ (t : List ℕ). IsFile bytes (record { registered = t; modules = scripts_of stored.module; seq = stored.seq })) text file;
+}
+
+pub restores : (registered : List Call) (bytes : List ℕ) (stored : Stored) (state : State) → string_bytes stored.registered ≡ text_of registered → IsFile bytes (snapshot_read stored) → Admits (state_of registered stored.module stored.seq) × (state ≡ state_of registered stored.module stored.seq) → Admits state × IsStateOf registered bytes state
+restores registered bytes stored state text file restored =
+    subst (λ (s : State). Admits s × IsStateOf registered bytes s) (sym restored.1) (restored.0, is_state registered bytes stored text file)
 
 gate_or : (bytes : List ℕ) → IsClosed bytes ⊎ (IsClosed bytes → ⊥)
 gate_or bytes = elim (cases_lt (length bytes) 2) [
@@ -67,14 +81,37 @@ reads_on device old middle new one other = record {
       (weaker (device.clock middle) (device.clock new) (device.leaves middle) (device.leaves new) (device.leaves middle (device.clock middle)) (device.leaves old (device.clock old)) (images_left device old middle one honest) (other.moments (subst IsTrue (sym one.honesty) honest)));
 }
 
+-- the bytes of the first disk were not read
+pub not_read : {D : Type 0} (device : Device D) (registered : List Call) (a between a' b b' : D) (fault : StoreFault) → OnlyRead device a between → OnlyRead device between a' → OnlyRead device b b' → device.failures between ≡ device.failures a → device.failures b' ≡ device.failures b → (IsTrue (device.honest a) → IsClosed (device.seen a) → ⊥) → (IsTrue (device.honest b) → IsClosed (device.seen b)) → TellsRead {T = Unit {0}} device between (Err fault) a' → Finds device registered a b (Err fault) a' b'
+not_read device registered a between a' b b' faults.DeviceFailed read_a read_on read_b none_a none_b open_a closed_b tells = record {
+  first = reads_on device a between a' read_a read_on;
+  second = read_b;
+  outcome = inl (subst (λ (n : ℕ). Rose n (device.failures a')) none_a tells, none_b);
+}
+not_read device registered a between a' b b' faults.NoMemory read_a read_on read_b none_a none_b open_a closed_b tells = record {
+  first = reads_on device a between a' read_a read_on;
+  second = read_b;
+  outcome = (record { first = tells ∙ none_a; second = none_b }, λ honest_a honest_b. (open_a honest_a, closed_b honest_b));
+}
+not_read device registered a between a' b b' (faults.Damaged offset) read_a read_on read_b none_a none_b open_a closed_b tells = absurd tells
+not_read device registered a between a' b b' faults.OtherInterface read_a read_on read_b none_a none_b open_a closed_b tells = absurd tells
+not_read device registered a between a' b b' faults.NoGeneration read_a read_on read_b none_a none_b open_a closed_b tells = absurd tells
+not_read device registered a between a' b b' faults.AlreadyThere read_a read_on read_b none_a none_b open_a closed_b tells = absurd tells
+
 -- the bytes of the first disk were read
-pub finds : {D : Type 0} (device : Device D) (a a' b b' : D) (bytes : List ℕ) (result : Result State StoreFault) → OnlyRead device a a' → OnlyRead device b b' → NoneFailed device a b a' b' → (IsTrue (device.honest a) → bytes ≡ device.seen a) → (IsTrue (device.honest a) → IsClosed (device.seen a) → ⊥) → (IsTrue (device.honest b) → IsClosed (device.seen b)) → TellsState bytes result → Finds device a b result a' b'
-finds device a a' b b' bytes (Ok state) first second failed whole open_a closed_b tells = record {
+pub finds : {D : Type 0} (device : Device D) (registered : List Call) (a a' b b' : D) (bytes : List ℕ) (result : Result State StoreFault) → OnlyRead device a a' → OnlyRead device b b' → NoneFailed device a b a' b' → (IsTrue (device.honest a) → bytes ≡ device.seen a) → (IsTrue (device.honest a) → IsClosed (device.seen a) → ⊥) → (IsTrue (device.honest b) → IsClosed (device.seen b)) → TellsState registered bytes result → Finds device registered a b result a' b'
+finds device registered a a' b b' bytes (Ok state) first second failed whole open_a closed_b tells = record {
   first = first;
   second = second;
-  outcome = record { failed = failed; admitted = tells.0; first = λ honest. subst (λ (l : List ℕ). IsFile l state) (whole honest) tells.1; second = closed_b };
+  outcome = record {
+    failed = failed;
+    registered_is = tells.1.registered_is;
+    admitted = tells.0;
+    first = λ honest. subst (λ (l : List ℕ). IsFile l (snapshot_of state)) (whole honest) tells.1.file;
+    second = closed_b;
+  };
 }
-finds device a a' b b' bytes (Err (faults.Damaged offset)) first second failed whole open_a closed_b tells = record {
+finds device registered a a' b b' bytes (Err (faults.Damaged offset)) first second failed whole open_a closed_b tells = record {
   first = first;
   second = second;
   outcome = (
@@ -82,15 +119,20 @@ finds device a a' b b' bytes (Err (faults.Damaged offset)) first second failed w
     tells.0,
     λ honest_a honest_b. record {
       is_open = λ closed. open_a honest_a closed.first;
-      wrong = inr (λ state admits is. tells.1 state admits (subst (λ (l : List ℕ). IsFile l state) (sym (whole honest_a)) is));
+      wrong = inr (subst (IsDamaged registered) (whole honest_a) tells.1);
     },
   );
 }
-finds device a a' b b' bytes (Err faults.NoMemory) first second failed whole open_a closed_b tells = record {
+finds device registered a a' b b' bytes (Err faults.OtherInterface) first second failed whole open_a closed_b tells = record {
+  first = first;
+  second = second;
+  outcome = (failed, record { first = λ honest. subst (IsOfOthers registered) (whole honest) tells; second = closed_b });
+}
+finds device registered a a' b b' bytes (Err faults.NoMemory) first second failed whole open_a closed_b tells = record {
   first = first;
   second = second;
   outcome = (failed, λ honest_a honest_b. (open_a honest_a, closed_b honest_b));
 }
-finds device a a' b b' bytes (Err faults.NoGeneration) first second failed whole open_a closed_b tells = absurd tells
-finds device a a' b b' bytes (Err faults.AlreadyThere) first second failed whole open_a closed_b tells = absurd tells
-finds device a a' b b' bytes (Err faults.DeviceFailed) first second failed whole open_a closed_b tells = absurd tells
+finds device registered a a' b b' bytes (Err faults.NoGeneration) first second failed whole open_a closed_b tells = absurd tells
+finds device registered a a' b b' bytes (Err faults.AlreadyThere) first second failed whole open_a closed_b tells = absurd tells
+finds device registered a a' b b' bytes (Err faults.DeviceFailed) first second failed whole open_a closed_b tells = absurd tells

@@ -15,14 +15,14 @@ take-all n xs h = grind (arith, common_steps)
 length-most : (n : ℕ) (xs : List ℕ) → n ≤ length xs → length (take n xs) ≡ n
 length-most n xs h = grind (arith, common_steps)
 
-long-step : (budget : ℕ) (name kept source : List ℕ) (state : State) → read_source kept ≡ Err refusals.SourceTooLong → read_source source ≡ Err refusals.SourceTooLong → step budget (Load name kept) state ≡ step budget (Load name source) state
+long-step : (budget : ℕ) (name kept source : List ℕ) (state : State) → read_source state.registered kept ≡ Err refusals.SourceTooLong → read_source state.registered source ≡ Err refusals.SourceTooLong → step budget (Load name kept) state ≡ step budget (Load name source) state
 long-step budget name kept source state e f = rw (e, f) refl
 
 by-length : (budget : ℕ) (name source : List ℕ) (state : State) (t : Bool) → nat_lt 65536 (length source) ≡ t → step budget (Load name (take 65537 source)) state ≡ step budget (Load name source) state
 by-length budget name source state true e =
     let l : 65536 < length source = grind (arith, nat_tests, e) in
     let m = length-most 65537 source (omega arith) in
-    long-step budget name (take 65537 source) source state (read_source-long (take 65537 source) (omega (arith, m))) (read_source-long source l)
+    long-step budget name (take 65537 source) source state (read_source-long state.registered (take 65537 source) (omega (arith, m))) (read_source-long state.registered source l)
 by-length budget name source state false e =
     let l : length source ≤ 65536 = grind (arith, nat_tests, e) in
     ap (λ (x : List ℕ). step budget (Load name x) state) (take-all 65537 source (omega arith))
@@ -60,4 +60,5 @@ carries_kept device budget name kept source old reply new e h = record {
   honesty = h.honesty;
   failures = h.failures;
   second = h.second;
+  registered = h.registered;
 }

@@ -3,7 +3,9 @@ use Rattle.std.specs.Prelude.{◌≡◌, ◌⊎◌, ℕ, ◌≤◌, Bool, List, 
 use Rattle.std.specs.Bool.{IsTrue}
 use Rattle.ash_disk.specs.Failures.{Rose}
 use Rattle.ash_disk.specs.Image.{after_write}
-use Rattle.ash_image.specs.Image.{IsFile, IsClosed, file_of}
+use Rattle.ash_image.specs.Image.{Snapshot, IsFile, IsClosed, file_of}
+use Rattle.ash_registry.specs.Calls.{Call}
+use Rattle.ash_registry.specs.Text.{text_of}
 use Rattle.ash_meaning.specs.declared.refusal.Refusal.{Refusal}
 use Rattle.ash_meaning.specs.declared.refusal.Refusal.TheVariants as refusals
 use Rattle.ash_meaning.specs.Kept.{Admits}
@@ -18,9 +20,10 @@ pub record Device (D : Type 0) : Type 1 where
   pub leaves : D → ℕ → List ℕ → Type 0
   pub failures : D → ℕ
 
--- A host: its state, or none where it is owed a reopening; the number after the last request that was answered; its
--- two disks.
+-- A host: what is registered; its state, or none where it is owed a reopening; the number after the last request that
+-- was answered; its two disks.
 pub record Hosted (D : Type 0) : Type 0 where
+  pub registered : List Call
   pub state : Option State
   pub seq : ℕ
   pub first : D
@@ -31,14 +34,19 @@ abbrev pub state_unless : Option ℕ → State → Option State
 state_unless None state = Some state
 state_unless (Some seq) state = None
 
--- a host that runs, in this state
+-- a host that runs, in this state, which has what is registered with the host
 pub record IsRunning {D : Type 0} (state : State) (host : Hosted D) : Type 0 where
+  pub registered_is : host.registered ≡ state.registered
   pub state_is : host.state ≡ Some state
   pub seq_is : host.seq ≡ state.seq
 
+-- what the file of a state is of: the text of what is registered, the modules, and the number of requests
+abbrev pub snapshot_of : State → Snapshot
+snapshot_of state = record { registered = text_of state.registered; modules = state.modules; seq = state.seq }
+
 -- each file that a crash now may leave of the disk is of this state
 abbrev pub LeavesFilesOf : {D : Type 0} → Device D → State → D → Type 0
-LeavesFilesOf device state disk = IsTrue (device.honest disk) → (image : List ℕ) → device.leaves disk (device.clock disk) image → IsFile image state
+LeavesFilesOf device state disk = IsTrue (device.honest disk) → (image : List ℕ) → device.leaves disk (device.clock disk) image → IsFile image (snapshot_of state)
 
 -- each file that a crash now may leave of the disk is closed
 abbrev pub LeavesClosed : {D : Type 0} → Device D → D → Type 0
@@ -46,7 +54,7 @@ LeavesClosed device disk = IsTrue (device.honest disk) → (image : List ℕ) �
 
 -- The disk reads as with the file of this state written over its beginning.
 abbrev pub WroteFile : {D : Type 0} → Device D → State → D → D → Type 0
-WroteFile device state old new = IsTrue (device.honest old) → device.seen new ≡ after_write (device.seen old) 0 (file_of state)
+WroteFile device state old new = IsTrue (device.honest old) → device.seen new ≡ after_write (device.seen old) 0 (file_of (snapshot_of state))
 
 -- Where the host runs, its state is one that a host may keep, and is on its first disk, whatever a crash now makes of
 -- that. The second is closed.
@@ -113,7 +121,7 @@ pub record Keeps {D T : Type 0} (device : Device D) (state : State) (old : D) (r
   pub failures : KeepsWith device old result new
 
 -- One request of a host. Where it is answered the new state is on the first disk before the reply is given, and where
--- nothing is answered the disks are as they were. The second disk is never touched.
+-- nothing is answered the disks are as they were. The second disk is never touched, and what is registered stays.
 pub record Carries {D : Type 0} (device : Device D) (budget : ℕ) (request : Request) (old : Hosted D) (reply : Reply) (new : Hosted D) : Type 0 where
   pub replies : Replies budget request old.state old reply new
   pub saved : IsSaved device old → IsSaved device new
@@ -122,6 +130,7 @@ pub record Carries {D : Type 0} (device : Device D) (budget : ℕ) (request : Re
   pub honesty : device.honest new.first ≡ device.honest old.first
   pub failures : TellsFailures device old.first reply new.first
   pub second : new.second ≡ old.second
+  pub registered : new.registered ≡ old.registered
 
 -- Requests in order: each is carried out by the host that the one before it left.
 abbrev pub CarriesAll : {D : Type 0} → Device D → ℕ → Hosted D → List Request → List Reply → Hosted D → Type 0

@@ -16,6 +16,9 @@ pub enum StoreFault {
     /// The bytes are not those of a store. The offset, in bytes, is that of the gate before what is damaged.
     #[error("503 Damaged")]
     Damaged(u64),
+    /// The store was made with another registration.
+    #[error("504 OtherInterface")]
+    OtherInterface,
     /// A disk failed.
     #[error("507 DeviceFailed")]
     DeviceFailed,
@@ -46,7 +49,7 @@ impl From<AllocError> for StoreFault {
     }
 }
 
-/// A refused `create` or `open`, which hands both disks back.
+/// A refused `create` or `open`, which hands both disks back. The registry is dropped.
 #[derive(Drop)]
 pub struct OpenRefused<D> {
     pub fault: StoreFault,

@@ -2,6 +2,7 @@
 
 ghost use Rattle.std.specs.Prelude.{◌≡◌, ℕ, map, None, IfOk, OnErr};
 ghost use Rattle.ash_meaning.specs.State.{State, Load, Call, Global as LookUp, Seq, Number, answer_of, word_of, request_of, reply_of};
+ghost use Rattle.ash_registry.specs.Registered.{registered};
 ghost use Rattle.ash_durable.specs.Hosting.{Carries, CarriesAll, IsRunning, Keeps};
 ghost use Rattle.ash_durable.specs.Store.{Creates, Opens, OpensAgain};
 
@@ -13,14 +14,15 @@ use ash_host::Word;
 use ash_meaning::plain::PlainState;
 use ash_meaning::refusal::Refusal;
 use ash_meaning::request::{Answer, Argument, Reply, Request};
+use ash_registry::Registry;
 use std::alloc::{AllocError, Global};
 use std::marker::Model;
 
-/// A host for script modules whose state stands on two disks. Each call is one request. Every answer to a `load` or a
-/// `call` but a refusal raises the sequence number by one, and before it is given the whole file of the new state is
-/// written to the first disk, by one write and one sync. Where that fails, or finds no memory for the file, the answer
-/// is lost and a reopening is owed: every call but `seq`, `close` and `reopen` is from then on refused by
-/// `Refusal::Reopen`. Any other refusal changes nothing.
+/// A host for script modules whose state stands on two disks. It has a registry of its own, whose text is in the file
+/// of each state. Each call is one request. Every answer to a `load` or a `call` but a refusal raises the sequence
+/// number by one, and before it is given the whole file of the new state is written to the first disk, by one write and
+/// one sync. Where that fails, or finds no memory for the file, the answer is lost and a reopening is owed: every call
+/// but `seq`, `close` and `reopen` is from then on refused by `Refusal::Reopen`. Any other refusal changes nothing.
 #[derive(Drop)]
 pub struct Host<D> {
     alloc: Global,
@@ -37,19 +39,24 @@ impl<D> Model for Host<D> {
 
     ghost Value = { Hosted D };
 
-    ghost view = { λ h. record { state = state_unless h.owed h.state; seq = unwrap_or h.owed h.state.seq; first = h.first; second = h.second } };
+    ghost view = { λ h. record { registered = h.state.registered; state = state_unless h.owed h.state; seq = unwrap_or h.owed h.state.seq; first = h.first; second = h.second } };
 }
 
 impl<D: Disk> Host<D> {
-    /// Makes a store on two disks, and a host with no module, before any request. Each request that is answered is
-    /// from then on kept in the file `a`; the file `b` is shut.
+    /// Makes a store on two disks, and a host with this registry and no module, before any request. The registry's text
+    /// and each request that is answered are from then on kept in the file `a`; the file `b` is shut.
     ///
     /// Faults, the first that holds: `DeviceFailed`, `AlreadyThere`, `NoMemory`. Nothing is written where one of the
     /// last two is told, nor where a file of the store is open already, whatever fails.
-    pub fn create(alloc: Global, mut a: D, mut b: D) -> Result<Host<D>, OpenRefused<D>>
-        ensures { Creates (record { honest = D.honest; seen = D.seen; clock = D.clock; leaves = D.leaves; failures = D.failures }) a b result }
+    pub fn create(
+        alloc: Global,
+        mut a: D,
+        mut b: D,
+        registry: Registry,
+    ) -> Result<Host<D>, OpenRefused<D>>
+        ensures { Creates (record { honest = D.honest; seen = D.seen; clock = D.clock; leaves = D.leaves; failures = D.failures }) (registered registry) a b result }
     {
-        let state = PlainState::new(alloc);
+        let state = PlainState::new(alloc, registry);
         match make(alloc, &state, &mut a, &mut b) {
             Ok(()) => Ok(Host {
                 alloc,
@@ -62,14 +69,20 @@ impl<D: Disk> Host<D> {
         }
     }
 
-    /// Opens the store on two disks, and gives a host in the state that they keep. It writes nothing.
+    /// Opens the store on two disks, and gives a host with this registry in the state that they keep. It writes nothing.
     ///
-    /// Faults, the first that holds: `DeviceFailed`, `NoGeneration`, `Damaged`. `NoMemory` where there is none to read the
-    /// file `a` into. Both disks read as before.
-    pub fn open(alloc: Global, mut a: D, mut b: D) -> Result<Host<D>, OpenRefused<D>>
-        ensures { Opens (record { honest = D.honest; seen = D.seen; clock = D.clock; leaves = D.leaves; failures = D.failures }) a b result }
+    /// Faults, the first that holds: `DeviceFailed`; `NoGeneration`; `Damaged`, where the bytes are those of no store;
+    /// `OtherInterface`, where the store was made with a registry of another text; `Damaged`, where the registry doesn't
+    /// admit a source or a value. `NoMemory` where there is none to read the file `a` into. Both disks read as before.
+    pub fn open(
+        alloc: Global,
+        mut a: D,
+        mut b: D,
+        registry: Registry,
+    ) -> Result<Host<D>, OpenRefused<D>>
+        ensures { Opens (record { honest = D.honest; seen = D.seen; clock = D.clock; leaves = D.leaves; failures = D.failures }) (registered registry) a b result }
     {
-        match find(alloc, &mut a, &mut b) {
+        match find(alloc, registry, &mut a, &mut b) {
             Ok(state) => Ok(Host {
                 alloc,
                 state,
@@ -89,19 +102,28 @@ impl<D: Disk> Host<D> {
         (self.first, self.second)
     }
 
-    /// Closes the host and opens its store again, as a host needs that is owed a reopening. A host that was not owed one
-    /// is then in the state in which it was.
+    /// What a host is opened with again: its registry and its disks.
+    fn into_parts(self) -> (Registry, D, D)
+        ensures registry { registered result.0 ≡ self.registered }
+        ensures first { result.1 ≡ self.first }
+        ensures second { result.2 ≡ self.second }
+    {
+        (self.state.into_registry(), self.first, self.second)
+    }
+
+    /// Closes the host and opens its store again with the same registry, as a host needs that is owed a reopening. A host
+    /// that was not owed one is then in the state in which it was.
     ///
     /// It is what `open` gives of the disks that are handed back, whether a reopening was owed or not.
     ///
     /// Faults are those of `open`.
     pub fn reopen(self) -> Result<Host<D>, OpenRefused<D>>
-        ensures opens { Opens (record { honest = D.honest; seen = D.seen; clock = D.clock; leaves = D.leaves; failures = D.failures }) self.first self.second result }
+        ensures opens { Opens (record { honest = D.honest; seen = D.seen; clock = D.clock; leaves = D.leaves; failures = D.failures }) self.registered self.first self.second result }
         ensures again { OpensAgain (record { honest = D.honest; seen = D.seen; clock = D.clock; leaves = D.leaves; failures = D.failures }) self result }
     {
         let alloc = self.alloc;
-        let (first, second) = self.close();
-        Host::open(alloc, first, second)
+        let (registry, first, second) = self.into_parts();
+        Host::open(alloc, first, second, registry)
     }
 
     /// Keeps what a request has changed, before it is answered. `seq` is the number of the last answer before it, which
@@ -110,6 +132,7 @@ impl<D: Disk> Host<D> {
         ensures kept { IfOk result (λ kept. (kept ≡ answer) × (self.new.state ≡ self.old.state) × (self.new.seq ≡ self.old.seq)) }
         ensures owed { OnErr result ((self.new.state ≡ None) × (self.new.seq ≡ seq)) }
         ensures second { self.new.second ≡ self.old.second }
+        ensures registry { self.new.registered ≡ self.old.registered }
         ensures saves { (state : State) → IsRunning state self.old → Keeps (record { honest = D.honest; seen = D.seen; clock = D.clock; leaves = D.leaves; failures = D.failures }) state self.old.first result self.new.first }
     {
         match save(self.alloc, &self.state, &mut self.first) {
@@ -125,7 +148,8 @@ impl<D: Disk> Host<D> {
     /// module is kept where they finish.
     ///
     /// Refusals, the first that holds: `Reopen`, `SequenceSpent`, `BadName`, `ModuleTaken`, `TooManyModules`, those of a
-    /// source: `SourceTooLong`, `BadCharacter`, `UnclosedComment`, `NumberTooLarge`, `NotYet`.
+    /// source: `SourceTooLong`, `BadCharacter`, `UnclosedComment`, `NumberTooLarge`, `Unexpected`,
+    /// `Unsupported`, `TooDeep`, `NotYet`.
     /// At `DeviceFailed`, and at `NoMemory` where the answer could not be kept, a reopening is owed from then on.
     pub fn load(&mut self, name: &str, source: &[u8], budget: u64) -> Result<Answer, Refusal>
         ensures { Carries (record { honest = D.honest; seen = D.seen; clock = D.clock; leaves = D.leaves; failures = D.failures }) budget (Load name.now source.now) self.old (answer_of result) self.new }

@@ -1,7 +1,9 @@
-//! The host that scripts run in, with its state on two disks. It stands on `ash_meaning`, whose plain evaluator takes
-//! its steps, on `ash_image`, which writes and reads the file of a state, and on `ash_disk`. It promises that each reply
-//! is that of the written steps, that an answer is on the first disk before it is given, so that no crash between two
-//! requests loses it, and that a host which is closed is opened again in the same state. The second file is only shut.
+//! The host that scripts run in, with its registry, and its state on two disks. It stands on `ash_registry`, on
+//! `ash_meaning`, whose plain evaluator takes its steps, on `ash_image`, which writes and reads the file of a state, and
+//! on `ash_disk`. It promises that each reply is that of the written steps, that an answer is on the first disk before it
+//! is given, so that no crash between two requests loses it, that a host which is closed is opened again in the same
+//! state, and that a store is opened with the registry's text that it was made with and no other. The second file is
+//! only shut.
 //!
 //! In reading order: `fault` (why there is no store), `front` (how a file begins), `saving` (the file of a state, and
 //! how it is kept), `store` (making a store and finding its state), `host`. The words of the clauses stand in

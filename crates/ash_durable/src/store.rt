@@ -1,6 +1,7 @@
 // Making a store on two disks, and finding its state there.
 
 ghost use Rattle.std.specs.Prelude.{◌≡◌, length, IsTrue, IfOk};
+ghost use Rattle.ash_registry.specs.Registered.{registered};
 ghost use Rattle.ash_durable.specs.Store.{Finds, Makes, OnlyRead, TellsRead, TellsState};
 
 use crate::fault::StoreFault;
@@ -9,6 +10,7 @@ use crate::saving::file_of;
 use ash_disk::{Disk, write_durably};
 use ash_image::image::{FileContent, read_file};
 use ash_meaning::plain::PlainState;
+use ash_registry::Registry;
 use std::alloc::Global;
 
 /// Makes a store of this state. Its file is made before anything is written.
@@ -42,22 +44,30 @@ fn whole<D: Disk>(alloc: Global, disk: &mut D, count: u64) -> Result<Vec<u8>, St
     Ok(bytes)
 }
 
-/// The state of which the bytes are a file.
-fn state_in(alloc: Global, bytes: &[u8]) -> Result<PlainState, StoreFault>
-    ensures { TellsState bytes.now result }
+/// The state of which the bytes are a file, under this registry.
+fn state_in(alloc: Global, registry: Registry, bytes: &[u8]) -> Result<PlainState, StoreFault>
+    ensures { TellsState (registered registry) bytes.now result }
 {
     let FileContent::Holds(stored) = read_file(alloc, bytes)? else {
         return Err(StoreFault::Damaged(0));
     };
-    match PlainState::restored(alloc, stored.seq, stored.module)? {
+    if stored.registered.as_str() != registry.text() {
+        return Err(StoreFault::OtherInterface);
+    }
+    match PlainState::restored(alloc, registry, stored.seq, stored.module)? {
         Some(state) => Ok(state),
         None => Err(StoreFault::Damaged(0)),
     }
 }
 
-/// Finds the state of a store. It writes nothing.
-pub fn find<D: Disk>(alloc: Global, a: &mut D, b: &mut D) -> Result<PlainState, StoreFault>
-    ensures { Finds (record { honest = D.honest; seen = D.seen; clock = D.clock; leaves = D.leaves; failures = D.failures }) a.old b.old result a.new b.new }
+/// Finds the state of a store under this registry. It writes nothing.
+pub fn find<D: Disk>(
+    alloc: Global,
+    registry: Registry,
+    a: &mut D,
+    b: &mut D,
+) -> Result<PlainState, StoreFault>
+    ensures { Finds (record { honest = D.honest; seen = D.seen; clock = D.clock; leaves = D.leaves; failures = D.failures }) (registered registry) a.old b.old result a.new b.new }
 {
     let first = front_of(a)?;
     let second = front_of(b)?;
@@ -68,5 +78,5 @@ pub fn find<D: Disk>(alloc: Global, a: &mut D, b: &mut D) -> Result<PlainState, 
         return Err(StoreFault::NoGeneration);
     }
     let bytes = whole(alloc, a, first.length)?;
-    state_in(alloc, &bytes)
+    state_in(alloc, registry, &bytes)
 }

@@ -12,6 +12,7 @@ returns-in-Ok g c =
       kept = c.keep.ensures.kept;
       lost = search rules;
       second_is = c.keep.ensures.second;
+      registered_is = c.keep.ensures.registry;
       keeps = c.keep.ensures.saves;
     } in
     subst (λ (host : Hosted g.row.D.Denot). Carries device c.args.budget (Call c.args.script.now c.args.function.now c.args.arguments.now) host (answer_of c.keep.result) c.keep.new.self) c.self.view_is (carries_answer device c.args.budget (Call c.args.script.now c.args.function.now c.args.arguments.now) c.self.inside.owed c.self.inside.state c.call.new.self c.self.inside.first c.self.inside.second c.in-Ok.answer c.keep.result c.keep.new.self runs c.in-Ok.ensures told)

@@ -12,6 +12,7 @@ returns-in-Ok g c =
       kept = c.keep.ensures.kept;
       lost = search rules;
       second_is = c.keep.ensures.second;
+      registered_is = c.keep.ensures.registry;
       keeps = c.keep.ensures.saves;
     } in
     subst (λ (host : Hosted g.row.D.Denot). Carries device c.args.budget (Load c.args.name.now c.args.source.now) host (answer_of c.keep.result) c.keep.new.self) c.self.view_is (carries_answer device c.args.budget (Load c.args.name.now c.args.source.now) c.self.inside.owed c.self.inside.state c.load.new.self c.self.inside.first c.self.inside.second c.in-Ok.answer c.keep.result c.keep.new.self runs c.in-Ok.ensures told)
