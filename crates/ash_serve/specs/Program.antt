@@ -1,11 +1,12 @@
 -- The statuses of the program.
 use Rattle.std.specs.Prelude.{ℕ}
 use Rattle.ash_serve.specs.declared.program.fault.Fault.{Fault}
-use Rattle.ash_serve.specs.declared.program.fault.Fault.TheVariants.{Usage, NoMemory, Store, Run}
+use Rattle.ash_serve.specs.declared.program.fault.Fault.TheVariants.{Usage, NoMemory, Registry, Store, Run}
 
 -- 2 for wrong words, 1 for any other fault
 abbrev pub status_of : Fault → ℕ
 status_of Usage = 2
 status_of NoMemory = 1
+status_of (Registry fault) = 1
 status_of (Store fault) = 1
 status_of (Run fault) = 1

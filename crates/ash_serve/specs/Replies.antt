@@ -8,6 +8,9 @@ use Rattle.ash_meaning.specs.declared.outcome.Exception.{Exception}
 use Rattle.ash_meaning.specs.declared.outcome.Exception.TheVariants as exceptions
 use Rattle.ash_meaning.specs.declared.refusal.Refusal.{Refusal}
 use Rattle.ash_meaning.specs.declared.refusal.Refusal.TheVariants as refusals
+use Rattle.ash_parse.specs.Faults.{part_text}
+use Rattle.ash_serve.specs.declared.reply.Details.{Details}
+use Rattle.ash_serve.specs.declared.reply.Details.TheVariants as details
 use Rattle.ash_meaning.specs.Meaning.{End, Finished, Threw, Aborted}
 use Rattle.ash_meaning.specs.State.{Reply, Answered, Value, Number, Refused}
 
@@ -45,6 +48,9 @@ refusal_name refusals.SourceTooLong = codes "107 SourceTooLong"
 refusal_name (refusals.BadCharacter at) = codes "101 BadCharacter"
 refusal_name (refusals.UnclosedComment at) = codes "102 UnclosedComment"
 refusal_name (refusals.NumberTooLarge at) = codes "103 NumberTooLarge"
+refusal_name (refusals.Unexpected at) = codes "104 Unexpected"
+refusal_name (refusals.Unsupported word at) = codes "105 Unsupported"
+refusal_name (refusals.TooDeep at) = codes "106 TooDeep"
 refusal_name refusals.NotYet = codes "199 NotYet"
 refusal_name refusals.NoModule = codes "401 NoModule"
 refusal_name refusals.ModuleTaken = codes "402 ModuleTaken"
@@ -58,19 +64,23 @@ refusal_name refusals.DeviceFailed = codes "507 DeviceFailed"
 refusal_name refusals.Reopen = codes "508 Reopen"
 refusal_name refusals.NoMemory = codes "509 NoMemory"
 
--- the offset in a source that a refusal tells
-abbrev pub offset_in : Refusal → Option ℕ
-offset_in (refusals.BadCharacter at) = Some at
-offset_in (refusals.UnclosedComment at) = Some at
-offset_in (refusals.NumberTooLarge at) = Some at
-offset_in _ = None
+-- what a refusal tells of a source: an offset in it, and the word of a part that the profile doesn't have
+abbrev pub details_in : Refusal → Details
+details_in (refusals.BadCharacter at) = details.At at
+details_in (refusals.UnclosedComment at) = details.At at
+details_in (refusals.NumberTooLarge at) = details.At at
+details_in (refusals.Unexpected at) = details.At at
+details_in (refusals.Unsupported word at) = details.WordAt word at
+details_in (refusals.TooDeep at) = details.At at
+details_in _ = details.Nothing
 
-abbrev pub offset_text : Option ℕ → List ℕ
-offset_text None = []
-offset_text (Some at) = codes " " ++ decimal at
+abbrev pub details_text : Details → List ℕ
+details_text details.Nothing = []
+details_text (details.At at) = codes " " ++ decimal at
+details_text (details.WordAt word at) = codes " " ++ (part_text word ++ (codes " " ++ decimal at))
 
 abbrev pub refusal_text : Refusal → List ℕ
-refusal_text refusal = refusal_name refusal ++ offset_text (offset_in refusal)
+refusal_text refusal = refusal_name refusal ++ details_text (details_in refusal)
 
 -- a function of the script and the line that it came to
 abbrev pub place_text : List ℕ → ℕ → List ℕ

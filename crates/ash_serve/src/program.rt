@@ -1,6 +1,7 @@
 // The program `ashd`: what it does, and its statuses.
 
 pub mod fault;
+pub mod registrations;
 pub mod service;
 mod store;
 pub mod task;
@@ -9,6 +10,7 @@ use crate::fault::RunFault;
 use ash_disk::MemoryDisk;
 use ash_durable::Host;
 use fault::Fault;
+use registrations::registrations;
 use service::{serve_new, serve_stored};
 use std::fs::File;
 use std::process::ExitCode;
@@ -44,7 +46,8 @@ fn words_of<R: Env + AllocGlobal>(rt: &R) -> Result<Vec<String>, Fault> {
     }
 }
 
-/// Does what a command line asks for. Faults come in this order: of the words, of the files, of the host, of the run.
+/// Does what a command line asks for. Faults come in this order: of the words, of the files, of what is registered, of
+/// the host, of the run.
 fn carry_out<R: Files<File = File> + Input + Print + AllocGlobal>(
     rt: &R,
     words: &[String],
@@ -52,14 +55,25 @@ fn carry_out<R: Files<File = File> + Input + Print + AllocGlobal>(
     match Task::read(rt.alloc(), words)? {
         Task::Try { limits } => {
             let (a, b) = (MemoryDisk::new(rt.alloc()), MemoryDisk::new(rt.alloc()));
+            let registry = registrations(rt.alloc())?;
             let writer = &mut io::writer(rt);
-            serve_new(rt.alloc(), a, b, rt.reader(), writer, limits.budget)
+            serve_new(
+                rt.alloc(),
+                a,
+                b,
+                registry,
+                rt.reader(),
+                writer,
+                limits.budget,
+            )
         }
         Task::Create { folder } => create(rt, folder),
         Task::Serve { folder, limits } => {
             let Store { a, b, lock } = Store::open(rt, folder)?;
+            let registry = registrations(rt.alloc())?;
             let writer = &mut io::writer(rt);
-            let end = serve_stored(rt.alloc(), a, b, rt.reader(), writer, limits.budget);
+            let reader = rt.reader();
+            let end = serve_stored(rt.alloc(), a, b, registry, reader, writer, limits.budget);
             drop(lock);
             end
         }
@@ -69,7 +83,8 @@ fn carry_out<R: Files<File = File> + Input + Print + AllocGlobal>(
 /// Makes a store in a folder, and says so. A folder that has one keeps it.
 fn create<R: Files<File = File> + Print + AllocGlobal>(rt: &R, folder: &str) -> Result<(), Fault> {
     let Store { a, b, lock } = Store::make(rt, folder)?;
-    drop(Host::create(rt.alloc(), a, b)?);
+    let registry = registrations(rt.alloc())?;
+    drop(Host::create(rt.alloc(), a, b, registry)?);
     drop(lock);
     match println!(rt; "created") {
         Ok(()) => Ok(()),

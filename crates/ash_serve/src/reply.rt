@@ -4,13 +4,14 @@ ghost use Rattle.std.specs.Prelude.{◌≡◌, ◌∷◌, [], ◌++◌, codes};
 ghost use Rattle.std.specs.List.{flat_map};
 ghost use Rattle.ash_meaning.specs.State.{reply_of, end_of};
 ghost use Rattle.ash_serve.specs.Sink.{Puts, Says};
-ghost use Rattle.ash_serve.specs.Replies.{word_text, exception_text, refusal_name, offset_in, refusal_text, place_text, finished_text, end_text, reply_text, seq_text};
+ghost use Rattle.ash_serve.specs.Replies.{word_text, exception_text, refusal_name, details_in, refusal_text, place_text, finished_text, end_text, reply_text, seq_text};
 
 use crate::sink::{Sink, WriteFault};
 use ash_host::Word;
 use ash_meaning::outcome::{Exception, Outcome};
 use ash_meaning::refusal::Refusal;
 use ash_meaning::request::Reply;
+use ash_parse::UnsupportedPart;
 use itoa::Buffer;
 
 /// Puts a reply and the end of its line, and sends them.
@@ -175,33 +176,61 @@ fn put_exception<K: Sink>(sink: &mut K, exception: Exception) -> Result<(), Writ
     }
 }
 
-/// A refusal, with the offset in the source where it tells one.
+/// What a refusal tells of a source.
+#[derive(Clone, Copy, Debug)]
+enum Details {
+    Nothing,
+    /// An offset in it.
+    At(usize),
+    /// The word of a part of the language that the profile does not have, and its offset.
+    WordAt(UnsupportedPart, usize),
+}
+
+/// A refusal, with what it tells of the source.
 fn put_refusal<K: Sink>(sink: &mut K, refusal: Refusal) -> Result<(), WriteFault>
     ensures { Puts K.outlet sink.old (codes "refused " ++ refusal_text refusal) result sink.new }
 {
     let name = refusal_name(refusal);
-    match offset_in(refusal) {
-        None => put_all(sink, &[b"refused ".as_slice(), name]),
-        Some(at) => {
-            let mut digits = Buffer::new();
+    let mut digits = Buffer::new();
+    match details_in(refusal) {
+        Details::Nothing => put_all(sink, &[b"refused ".as_slice(), name]),
+        Details::At(at) => {
             let place = digits.format(at);
             put_all(
                 sink,
                 &[b"refused ".as_slice(), name, b" ", place.as_bytes()],
             )
         }
+        Details::WordAt(word, at) => {
+            let word = word.as_str();
+            let place = digits.format(at);
+            put_all(
+                sink,
+                &[
+                    b"refused ".as_slice(),
+                    name,
+                    b" ",
+                    word.as_bytes(),
+                    b" ",
+                    place.as_bytes(),
+                ],
+            )
+        }
     }
 }
 
-/// The offset in a source that a refusal tells.
-fn offset_in(refusal: Refusal) -> Option<usize>
-    ensures { result ≡ offset_in refusal }
+/// What a refusal tells of a source.
+fn details_in(refusal: Refusal) -> Details
+    ensures { result ≡ details_in refusal }
 {
     match refusal {
         Refusal::BadCharacter { at }
         | Refusal::UnclosedComment { at }
-        | Refusal::NumberTooLarge { at } => Some(at),
-        _ => None,
+        | Refusal::NumberTooLarge { at }
+        | Refusal::Unexpected { at }
+        | Refusal::TooDeep { at } => Details::At(at),
+        Refusal::Unsupported { word, at } => Details::WordAt(word, at),
+        _ => Details::Nothing,
     }
 }
 
@@ -214,6 +243,9 @@ fn refusal_name(refusal: Refusal) -> &'static [u8]
         Refusal::BadCharacter { .. } => b"101 BadCharacter",
         Refusal::UnclosedComment { .. } => b"102 UnclosedComment",
         Refusal::NumberTooLarge { .. } => b"103 NumberTooLarge",
+        Refusal::Unexpected { .. } => b"104 Unexpected",
+        Refusal::Unsupported { .. } => b"105 Unsupported",
+        Refusal::TooDeep { .. } => b"106 TooDeep",
         Refusal::NotYet => b"199 NotYet",
         Refusal::NoModule => b"401 NoModule",
         Refusal::ModuleTaken => b"402 ModuleTaken",

@@ -6,6 +6,7 @@ use crate::program::service::{serve_new, serve_stored};
 use crate::run::run;
 use ash_disk::MemoryDisk;
 use ash_durable::{Host, StoreFault};
+use ash_registry::Registry;
 use std::alloc::Global;
 use std::io;
 use std::io::{ErrorKind, Read, Write};
@@ -60,14 +61,14 @@ impl Write for Refusing {
 /// A host over two empty disks in memory.
 fn new_host(alloc: Global) -> Result<Host<MemoryDisk>, StoreFault> {
     let (a, b) = (MemoryDisk::new(alloc), MemoryDisk::new(alloc));
-    Host::create(alloc, a, b).map_err(|refused| refused.fault)
+    Host::create(alloc, a, b, Registry::new(alloc)).map_err(|refused| refused.fault)
 }
 
 const INPUT: &[u8] =
     b"seq\n\nget m n\ncall m f 5 true -7\nload m 3\nabc\nload m 2\nabcd\nobject 1\nseq  \nquit\nseq\n";
 
 const OUTPUT: &[u8] =
-    b"ok 0\nrefused 601 BadRequest\nrefused 401 NoModule\nrefused 401 NoModule\nrefused 199 NotYet\nrefused 601 BadRequest\nrefused 601 BadRequest\nrefused 601 BadRequest\nok\n";
+    b"ok 0\nrefused 601 BadRequest\nrefused 401 NoModule\nrefused 401 NoModule\nrefused 104 Unexpected 3\nrefused 601 BadRequest\nrefused 601 BadRequest\nrefused 601 BadRequest\nok\n";
 
 #[test]
 fn answers_each_line(rt: HostRuntime) -> Result<(), Fail> {
@@ -84,7 +85,7 @@ fn serves_a_new_store_and_one_that_is_there(rt: HostRuntime) -> Result<(), Fail>
     let alloc = rt.alloc();
     let (a, b) = (MemoryDisk::new(alloc), MemoryDisk::new(alloc));
     let mut written = Vec::new(alloc);
-    let result = serve_new(alloc, a, b, INPUT, &mut written, 1000);
+    let result = serve_new(alloc, a, b, Registry::new(alloc), INPUT, &mut written, 1000);
     assert!(rt; result.is_ok());
     assert_eq!(rt; written.as_slice(), OUTPUT);
 
@@ -97,6 +98,7 @@ fn serves_a_new_store_and_one_that_is_there(rt: HostRuntime) -> Result<(), Fail>
         alloc,
         a,
         b,
+        Registry::new(alloc),
         b"get m n\nseq\n".as_slice(),
         &mut written,
         1000,
@@ -106,7 +108,7 @@ fn serves_a_new_store_and_one_that_is_there(rt: HostRuntime) -> Result<(), Fail>
 
     let (a, b) = (MemoryDisk::new(alloc), MemoryDisk::new(alloc));
     let mut written = Vec::new(alloc);
-    let result = serve_stored(alloc, a, b, INPUT, &mut written, 1000);
+    let result = serve_stored(alloc, a, b, Registry::new(alloc), INPUT, &mut written, 1000);
     assert!(rt; matches!(result, Err(Fault::Store(StoreFault::NoGeneration))));
     assert!(rt; written.is_empty());
     Ok(())

@@ -5,6 +5,7 @@ ghost use Rattle.ash_serve.specs.Program.{status_of};
 
 use crate::fault::RunFault;
 use ash_durable::{OpenRefused, StoreFault};
+use ash_registry::RegistryFault;
 use std::alloc::AllocError;
 use thiserror::Error;
 
@@ -17,6 +18,9 @@ pub enum Fault {
     /// Memory was refused before the run.
     #[error("509 NoMemory")]
     NoMemory,
+    /// What the program offers to scripts was not registered.
+    #[error("{0}")]
+    Registry(RegistryFault),
     /// The store was not made or not opened. Its files are part of it.
     #[error("{0}")]
     Store(StoreFault),
@@ -32,7 +36,7 @@ impl Fault {
     {
         match self {
             Fault::Usage => 2,
-            Fault::NoMemory | Fault::Store(_) | Fault::Run(_) => 1,
+            Fault::NoMemory | Fault::Registry(_) | Fault::Store(_) | Fault::Run(_) => 1,
         }
     }
 }
@@ -40,6 +44,15 @@ impl Fault {
 impl From<AllocError> for Fault {
     fn from(_: AllocError) -> Self {
         Fault::NoMemory
+    }
+}
+
+impl From<RegistryFault> for Fault {
+    fn from(fault: RegistryFault) -> Self {
+        match fault {
+            RegistryFault::NoMemory => Fault::NoMemory,
+            fault => Fault::Registry(fault),
+        }
     }
 }
 

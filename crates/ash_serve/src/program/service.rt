@@ -2,46 +2,50 @@
 
 ghost use Rattle.ash_durable.specs.Hosting.{Device};
 ghost use Rattle.ash_durable.specs.Store.{Creates, Opens};
+ghost use Rattle.ash_registry.specs.Registered.{registered};
 ghost use Rattle.ash_serve.specs.Service.{ServesBy, ServesFrom};
 
 use super::fault::Fault;
 use crate::run::run;
 use ash_disk::Disk;
 use ash_durable::Host;
+use ash_registry::Registry;
 use std::alloc::Global;
 use std::io::{Read, Write};
 
-/// Serves a reader and a writer from the store that is on two disks.
+/// Serves a reader and a writer, with this registry, from the store that is on two disks.
 pub fn serve_stored<D: Disk + Drop, R: Read + Drop, W: Write>(
     alloc: Global,
     a: D,
     b: D,
+    registry: Registry,
     reader: R,
     writer: &mut W,
     budget: u64,
 ) -> Result<(), Fault>
     ensures { let device : Device D = record { honest = D.honest; seen = D.seen; clock = D.clock; leaves = D.leaves; failures = D.failures } in
-        ServesFrom device (Opens device a b) (R.remaining reader) budget (W.contents writer.old) result (W.contents writer.new) }
+        ServesFrom device (Opens device (registered registry) a b) (R.remaining reader) budget (W.contents writer.old) result (W.contents writer.new) }
 {
-    match Host::open(alloc, a, b) {
+    match Host::open(alloc, a, b, registry) {
         Ok(host) => serve_by(alloc, host, reader, writer, budget),
         Err(refused) => Err(Fault::Store(refused.fault)),
     }
 }
 
-/// Makes a store on two disks, and serves a reader and a writer from it.
+/// Makes a store with this registry on two disks, and serves a reader and a writer from it.
 pub fn serve_new<D: Disk + Drop, R: Read + Drop, W: Write>(
     alloc: Global,
     a: D,
     b: D,
+    registry: Registry,
     reader: R,
     writer: &mut W,
     budget: u64,
 ) -> Result<(), Fault>
     ensures { let device : Device D = record { honest = D.honest; seen = D.seen; clock = D.clock; leaves = D.leaves; failures = D.failures } in
-        ServesFrom device (Creates device a b) (R.remaining reader) budget (W.contents writer.old) result (W.contents writer.new) }
+        ServesFrom device (Creates device (registered registry) a b) (R.remaining reader) budget (W.contents writer.old) result (W.contents writer.new) }
 {
-    match Host::create(alloc, a, b) {
+    match Host::create(alloc, a, b, registry) {
         Ok(host) => serve_by(alloc, host, reader, writer, budget),
         Err(refused) => Err(Fault::Store(refused.fault)),
     }

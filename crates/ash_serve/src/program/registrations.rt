@@ -1,0 +1,24 @@
+// What the program offers to scripts.
+
+use ash_registry::{Registry, RegistryFault};
+use std::alloc::Global;
+
+/// The kind of the type Counter.
+const COUNTER: u16 = 1;
+
+/// The kind of the service Tally.
+const TALLY: u16 = 2;
+
+/// The registry of the program: the type Counter, and Tally as the one service.
+pub fn registrations(alloc: Global) -> Result<Registry, RegistryFault> {
+    let mut registry = Registry::new(alloc);
+    registry.object_type("Counter", COUNTER)?;
+    registry.factory("Counter", "Counter@ make(int)")?;
+    registry.method("Counter", "int add(int)", 1)?;
+    registry.method("Counter", "void fail(int)", 2)?;
+    registry.property("Counter", "int value", 1)?;
+    registry.service(TALLY)?;
+    registry.function(0, "int tally(int)", 1)?;
+    registry.function(0, "int total()", 2)?;
+    Ok(registry)
+}
