@@ -2,6 +2,7 @@
 
 use ash_disk::{Disk, FuseDisk, MemoryDisk};
 use ash_durable::{Host, StoreFault};
+use ash_registry::Registry;
 use ash_serve::run::run;
 use std::alloc::Global;
 use std::test::Fail;
@@ -12,7 +13,7 @@ const FIRST: &[u8] =
 /// A host over two empty disks in memory.
 fn new_host(alloc: Global) -> Result<Host<MemoryDisk>, StoreFault> {
     let (a, b) = (MemoryDisk::new(alloc), MemoryDisk::new(alloc));
-    Host::create(alloc, a, b).map_err(|refused| refused.fault)
+    Host::create(alloc, a, b, Registry::new(alloc)).map_err(|refused| refused.fault)
 }
 
 /// What a host replies to these requests, with a budget of 1000 ticks.
@@ -31,7 +32,9 @@ fn a_run_after_opening(rt: HostRuntime) -> Result<(), Fail> {
         b"ok seq 1\nok 7 seq 2\nok 7\nok 2\n".as_slice()
     );
     let (a, b) = host.close();
-    let mut host = Host::open(rt.alloc(), a, b).map_err(|refused| refused.fault)?;
+    let mut host = Host::open(rt.alloc(), a, b, Registry::new(rt.alloc())).map_err(
+        |refused| refused.fault,
+    )?;
     let told = replies(rt.alloc(), &mut host, b"get m n\nseq\ncall m f 1\n")?;
     assert_eq!(rt; told.as_slice(), b"ok 7\nok 2\nok 8 seq 3\n".as_slice());
     Ok(())
@@ -41,7 +44,7 @@ fn a_run_after_opening(rt: HostRuntime) -> Result<(), Fail> {
 fn fused(alloc: Global, calls: u64) -> Result<Host<FuseDisk<MemoryDisk>>, StoreFault> {
     let a = FuseDisk::new(MemoryDisk::new(alloc), calls);
     let b = FuseDisk::new(MemoryDisk::new(alloc), u64::MAX);
-    Host::create(alloc, a, b).map_err(|refused| refused.fault)
+    Host::create(alloc, a, b, Registry::new(alloc)).map_err(|refused| refused.fault)
 }
 
 /// How many calls of the first disk the making of a store takes.

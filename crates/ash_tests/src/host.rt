@@ -6,6 +6,7 @@ use ash_host::Word;
 use ash_meaning::outcome::Outcome;
 use ash_meaning::refusal::Refusal;
 use ash_meaning::request::{Argument, Reply, Request};
+use ash_registry::Registry;
 use std::test::Fail;
 
 const SOURCE: &[u8] = b"int n = 2; int f(int k) { n += k; return n; }";
@@ -14,7 +15,7 @@ const SOURCE: &[u8] = b"int n = 2; int f(int k) { n += k; return n; }";
 fn new_host(rt: &impl AllocGlobal) -> Result<Host<MemoryDisk>, Fail> {
     let first = MemoryDisk::new(rt.alloc());
     let second = MemoryDisk::new(rt.alloc());
-    match Host::create(rt.alloc(), first, second) {
+    match Host::create(rt.alloc(), first, second, Registry::new(rt.alloc())) {
         Ok(host) => Ok(host),
         Err(refused) => Err(refused.fault.into()),
     }

@@ -5,7 +5,11 @@
 #[cfg(test)]
 mod durable_rows;
 #[cfg(test)]
+mod grammar;
+#[cfg(test)]
 mod host;
+#[cfg(test)]
+mod registered;
 #[cfg(test)]
 mod rows;
 #[cfg(test)]

@@ -2,6 +2,7 @@
 
 use ash_disk::{Disk, MemoryDisk};
 use ash_durable::{Host, StoreFault};
+use ash_registry::Registry;
 use ash_serve::RunFault;
 use ash_serve::run::run;
 use std::test::Fail;
@@ -11,7 +12,7 @@ const FIRST: &[u8] = b"int n = 2; int f(int k) { n += k; return n; }";
 /// A host over two empty disks in memory.
 fn new_host(rt: &impl AllocGlobal) -> Result<Host<MemoryDisk>, StoreFault> {
     let (a, b) = (MemoryDisk::new(rt.alloc()), MemoryDisk::new(rt.alloc()));
-    Host::create(rt.alloc(), a, b).map_err(|refused| refused.fault)
+    Host::create(rt.alloc(), a, b, Registry::new(rt.alloc())).map_err(|refused| refused.fault)
 }
 
 /// How a run over these requests ends, and what this host replies.
@@ -119,7 +120,7 @@ fn a_source_that_is_not_there_yet(rt: HostRuntime) -> Result<(), Fail> {
     let told = replies(
         &rt,
         1000,
-        b"load m 8\nbool b; \nload m 14\nint n = 0x10; \nseq\n",
+        b"load m 8\nbool b; \nload m 11\nclass A { }\nseq\n",
     )?;
     let expected = b"refused 199 NotYet\nrefused 199 NotYet\nok 0\n";
     assert_eq!(rt; told.as_slice(), expected.as_slice());

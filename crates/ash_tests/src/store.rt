@@ -5,6 +5,7 @@ use ash_durable::{Host, OpenRefused, StoreFault};
 use ash_host::Word;
 use ash_meaning::refusal::Refusal;
 use ash_meaning::request::Argument;
+use ash_registry::Registry;
 use std::test::Fail;
 
 const SOURCE: &[u8] = b"int n = 2; int f(int k) { n += k; return n; }";
@@ -32,13 +33,18 @@ fn fault_of<D: Disk + Drop>(outcome: Result<Host<D>, OpenRefused<D>>) -> Option<
     host_or_fault(outcome).err()
 }
 
+/// The registry of a host in which nothing is registered.
+fn none(rt: &impl AllocGlobal) -> Registry {
+    Registry::new(rt.alloc())
+}
+
 fn disk(rt: &impl AllocGlobal, bytes: &[u8]) -> Result<MemoryDisk, Fail> {
     Ok(MemoryDisk::with_bytes(rt.alloc(), bytes)?)
 }
 
 /// A host that has answered two requests, after which `n` is 7.
 fn used(rt: &impl AllocGlobal) -> Result<Host<MemoryDisk>, Fail> {
-    let made = Host::create(rt.alloc(), disk(rt, &[])?, disk(rt, &[])?);
+    let made = Host::create(rt.alloc(), disk(rt, &[])?, disk(rt, &[])?, none(rt));
     let mut host = host_or_fault(made)?;
     host.load("m", SOURCE, 1000)?;
     host.call("m", "f", &[Argument::Number(5)], 1000)?;
@@ -47,7 +53,7 @@ fn used(rt: &impl AllocGlobal) -> Result<Host<MemoryDisk>, Fail> {
 
 #[test]
 fn the_bytes_of_an_empty_store(rt: HostRuntime) -> Result<(), Fail> {
-    let made = Host::create(rt.alloc(), disk(&rt, &[])?, disk(&rt, &[])?);
+    let made = Host::create(rt.alloc(), disk(&rt, &[])?, disk(&rt, &[])?, none(&rt));
     let (first, second) = host_or_fault(made)?.close();
     assert_eq!(rt; first.bytes(), EMPTY.as_slice());
     assert_eq!(rt; second.bytes(), [0].as_slice());
@@ -60,11 +66,21 @@ fn the_bytes_of_an_empty_store(rt: HostRuntime) -> Result<(), Fail> {
 #[test]
 fn a_store_over_closed_files(rt: HostRuntime) -> Result<(), Fail> {
     // The first byte of a longer file is overwritten, and a gate that is 0 is only synced.
-    let made = Host::create(rt.alloc(), disk(&rt, &[1])?, disk(&rt, &[7, 8, 9])?);
+    let made = Host::create(
+        rt.alloc(),
+        disk(&rt, &[1])?,
+        disk(&rt, &[7, 8, 9])?,
+        none(&rt),
+    );
     let (first, second) = host_or_fault(made)?.close();
     assert_eq!(rt; first.bytes(), EMPTY.as_slice());
     assert_eq!(rt; second.bytes(), [0, 8, 9].as_slice());
-    let made = Host::create(rt.alloc(), disk(&rt, &[0, 1])?, disk(&rt, &[0, 8])?);
+    let made = Host::create(
+        rt.alloc(),
+        disk(&rt, &[0, 1])?,
+        disk(&rt, &[0, 8])?,
+        none(&rt),
+    );
     let (first, second) = host_or_fault(made)?.close();
     assert_eq!(rt; first.bytes(), EMPTY.as_slice());
     assert_eq!(rt; second.bytes(), [0, 8].as_slice());
@@ -75,7 +91,7 @@ fn a_store_over_closed_files(rt: HostRuntime) -> Result<(), Fail> {
 #[test]
 fn no_store(rt: HostRuntime) -> Result<(), Fail> {
     for bytes in [[].as_slice(), &[1], &[0, 1, 2], &[2; 60]] {
-        let refused = Host::open(rt.alloc(), disk(&rt, bytes)?, disk(&rt, bytes)?);
+        let refused = Host::open(rt.alloc(), disk(&rt, bytes)?, disk(&rt, bytes)?, none(&rt));
         assert_eq!(rt; fault_of(refused), Some(StoreFault::NoGeneration));
     }
     Ok(())
@@ -85,17 +101,22 @@ fn no_store(rt: HostRuntime) -> Result<(), Fail> {
 fn a_store_that_is_there(rt: HostRuntime) -> Result<(), Fail> {
     let (first, second) = used(&rt)?.close();
     let bytes = Vec::from_slice(rt.alloc(), first.bytes())?;
-    let Err(refused) = Host::create(rt.alloc(), first, second) else {
+    let Err(refused) = Host::create(rt.alloc(), first, second, none(&rt)) else {
         return Err("made over a store".into());
     };
     assert_eq!(rt; refused.fault, StoreFault::AlreadyThere);
     assert_eq!(rt; refused.a.bytes(), bytes.as_slice());
     assert_eq!(rt; refused.b.bytes(), [0].as_slice());
-    let refused = Host::create(rt.alloc(), disk(&rt, &[])?, disk(&rt, &[1, 0])?);
+    let refused = Host::create(rt.alloc(), disk(&rt, &[])?, disk(&rt, &[1, 0])?, none(&rt));
     assert_eq!(rt; fault_of(refused), Some(StoreFault::AlreadyThere));
-    let refused = Host::open(rt.alloc(), disk(&rt, &EMPTY)?, disk(&rt, &[1, 0])?);
+    let refused = Host::open(
+        rt.alloc(),
+        disk(&rt, &EMPTY)?,
+        disk(&rt, &[1, 0])?,
+        none(&rt),
+    );
     assert_eq!(rt; fault_of(refused), Some(StoreFault::Damaged(0)));
-    let refused = Host::open(rt.alloc(), disk(&rt, &[])?, disk(&rt, &EMPTY)?);
+    let refused = Host::open(rt.alloc(), disk(&rt, &[])?, disk(&rt, &EMPTY)?, none(&rt));
     assert_eq!(rt; fault_of(refused), Some(StoreFault::Damaged(0)));
     Ok(())
 }
@@ -109,7 +130,7 @@ fn device_calls_of_a_request(rt: HostRuntime) -> Result<(), Fail> {
     // One write and one sync for the store, and for each of the two requests.
     assert_eq!(rt; first.calls(), 6);
     assert_eq!(rt; second.calls(), 2);
-    let opened = Host::open(rt.alloc(), first, second);
+    let opened = Host::open(rt.alloc(), first, second, none(&rt));
     let (first, second) = host_or_fault(opened)?.close();
     assert_eq!(rt; first.calls(), 6);
     assert_eq!(rt; second.calls(), 2);
@@ -123,7 +144,7 @@ fn a_first_write_that_fails(rt: HostRuntime) -> Result<(), Fail> {
     for calls in [3, 4] {
         let first = FuseDisk::new(disk(&rt, &[])?, calls);
         let second = FuseDisk::new(disk(&rt, &[])?, 100);
-        let mut host = host_or_fault(Host::create(rt.alloc(), first, second))?;
+        let mut host = host_or_fault(Host::create(rt.alloc(), first, second, none(&rt)))?;
         assert!(rt; matches!(host.load("m", SOURCE, 1000), Err(Refusal::DeviceFailed)));
         assert!(rt; matches!(host.load("m", SOURCE, 1000), Err(Refusal::Reopen)));
         assert!(rt; matches!(host.call("m", "f", &[], 1000), Err(Refusal::Reopen)));
@@ -144,7 +165,7 @@ fn answers(
     first: FuseDisk<MemoryDisk>,
     second: FuseDisk<MemoryDisk>,
 ) -> Result<Option<u64>, Fail> {
-    let mut host = match host_or_fault(Host::create(rt.alloc(), first, second)) {
+    let mut host = match host_or_fault(Host::create(rt.alloc(), first, second, none(rt))) {
         Ok(host) => host,
         Err(StoreFault::DeviceFailed) => return Ok(None),
         Err(fault) => return Err(fault.into()),
@@ -156,7 +177,7 @@ fn answers(
         return Err("the number is not that of the answers".into());
     }
     let (first, second) = host.close();
-    match host_or_fault(Host::open(rt.alloc(), first, second)) {
+    match host_or_fault(Host::open(rt.alloc(), first, second, none(rt))) {
         Ok(host) if host.seq() == 2 => Ok(Some(3)),
         Ok(_) => Err("opened in another state".into()),
         Err(StoreFault::DeviceFailed) => Ok(Some(answered)),
@@ -222,7 +243,7 @@ fn survives(
     ] {
         let a = first.crash_image(first.calls(), survives)?;
         let b = second.crash_image(second.calls(), survives)?;
-        let host = host_or_fault(Host::open(rt.alloc(), disk(rt, &a)?, disk(rt, &b)?))?;
+        let host = host_or_fault(Host::open(rt.alloc(), disk(rt, &a)?, disk(rt, &b)?, none(rt)))?;
         let is_kept = match (host.global("m", "n"), number) {
             (Ok(Word::Int(kept)), Some(number)) => kept == number,
             (Err(Refusal::NoModule), None) => true,
@@ -237,14 +258,14 @@ fn survives(
 
 #[test]
 fn crashes_between_requests(rt: HostRuntime) -> Result<(), Fail> {
-    let made = Host::create(rt.alloc(), disk(&rt, &[])?, disk(&rt, &[1])?);
+    let made = Host::create(rt.alloc(), disk(&rt, &[])?, disk(&rt, &[1])?, none(&rt));
     let (first, second) = host_or_fault(made)?.close();
     assert!(rt; survives(&rt, &first, &second, 0, None)?);
-    let mut host = host_or_fault(Host::open(rt.alloc(), first, second))?;
+    let mut host = host_or_fault(Host::open(rt.alloc(), first, second, none(&rt)))?;
     host.load("m", SOURCE, 1000)?;
     let (first, second) = host.close();
     assert!(rt; survives(&rt, &first, &second, 1, Some(2))?);
-    let mut host = host_or_fault(Host::open(rt.alloc(), first, second))?;
+    let mut host = host_or_fault(Host::open(rt.alloc(), first, second, none(&rt)))?;
     host.call("m", "f", &[Argument::Number(-9)], 1000)?;
     let host = host_or_fault(host.reopen())?;
     let (first, second) = host.close();
@@ -259,7 +280,12 @@ fn a_file_cut_short(rt: HostRuntime) -> Result<(), Fail> {
     // The empty file, and a module with a name of one byte, 45 bytes of source and one global.
     assert_eq!(rt; file.len(), 51 + 2 + 4 + 45 + 2 + 5);
     for length in 0..file.len() {
-        let opened = Host::open(rt.alloc(), disk(&rt, &file[..length])?, disk(&rt, &[0])?);
+        let opened = Host::open(
+            rt.alloc(),
+            disk(&rt, &file[..length])?,
+            disk(&rt, &[0])?,
+            none(&rt),
+        );
         let expected = if length < 2 {
             StoreFault::NoGeneration
         } else {
@@ -270,7 +296,7 @@ fn a_file_cut_short(rt: HostRuntime) -> Result<(), Fail> {
     // What stands behind the file is not read.
     let mut longer = Vec::from_slice(rt.alloc(), file)?;
     longer.extend_from_slice(&[1, 2, 3])?;
-    let opened = Host::open(rt.alloc(), disk(&rt, &longer)?, disk(&rt, &[0])?);
+    let opened = Host::open(rt.alloc(), disk(&rt, &longer)?, disk(&rt, &[0])?, none(&rt));
     assert_eq!(rt; host_or_fault(opened)?.seq(), 2);
     Ok(())
 }
@@ -286,7 +312,7 @@ fn with_byte(
     if let Some(changed) = file.get_mut(place) {
         *changed = byte;
     }
-    match host_or_fault(Host::open(rt.alloc(), disk(rt, &file)?, disk(rt, &[0])?)) {
+    match host_or_fault(Host::open(rt.alloc(), disk(rt, &file)?, disk(rt, &[0])?, none(rt))) {
         Ok(host) => Ok(Ok(host.seq())),
         Err(fault) => Ok(Err(fault)),
     }
