@@ -1,0 +1,11 @@
+pub mod Markings
+pub mod Rounds
+pub mod WaysBack
+pub mod Ranked
+pub mod Searches
+pub mod ReturnLaws
+pub mod ReferenceLaws
+pub mod ToldLaws
+pub mod ReturnTests
+pub mod Loops
+pub mod Nodes

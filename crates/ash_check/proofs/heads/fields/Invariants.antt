@@ -1,0 +1,9 @@
+use Rattle.std.proofs.Common.{◌≡◌, ◌++◌, map, drop}
+use Rattle.ash_registry.specs.Registered.{registered}
+use Rattle.ash_tree.specs.Views.{member_of}
+use Rattle.ash_typed.specs.Heads.{fields_in}
+use Rattle.ash_check.specs.Views.{declared_of, class_of}
+use Rattle.ash_check.proofs.heads.fields.Given as goal
+
+abbrev pub invariant-loop-member : goal.invariant-loop-member
+invariant-loop-member l = map declared_of l.all.items ++ fields_in (registered l.registry) (map class_of l.classes) (map member_of (drop l.member-index l.members)) ≡ fields_in (registered l.registry) (map class_of l.classes) (map member_of l.members)

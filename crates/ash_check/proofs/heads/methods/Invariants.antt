@@ -1,0 +1,9 @@
+use Rattle.std.proofs.Common.{◌≡◌, ◌++◌, map, drop}
+use Rattle.ash_registry.specs.Registered.{registered}
+use Rattle.ash_tree.specs.Views.{member_of}
+use Rattle.ash_typed.specs.Heads.{methods_in}
+use Rattle.ash_check.specs.Views.{function_of, class_of}
+use Rattle.ash_check.proofs.heads.methods.Given as goal
+
+abbrev pub invariant-loop-member : goal.invariant-loop-member
+invariant-loop-member l = map function_of l.all.items ++ methods_in (registered l.registry) (map class_of l.classes) (map member_of (drop l.member-index l.members)) ≡ methods_in (registered l.registry) (map class_of l.classes) (map member_of l.members)

@@ -1,0 +1,9 @@
+use Rattle.std.proofs.Common.{◌≡◌, ◌++◌, map, drop}
+use Rattle.ash_registry.specs.Registered.{registered}
+use Rattle.ash_tree.specs.Views.{parameter_of}
+use Rattle.ash_typed.specs.Heads.{parameter_ty}
+use Rattle.ash_check.specs.Views.{class_of}
+use Rattle.ash_check.proofs.heads.parameter_types.Given as goal
+
+abbrev pub invariant-loop-parameter : goal.invariant-loop-parameter
+invariant-loop-parameter l = l.types.items ++ map (parameter_ty (registered l.registry) (map class_of l.classes)) (map parameter_of (drop l.parameter-index l.parameters)) ≡ map (parameter_ty (registered l.registry) (map class_of l.classes)) (map parameter_of l.parameters)

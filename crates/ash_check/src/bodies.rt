@@ -1,0 +1,39 @@
+//! Bodies of functions. Their statements are not typed yet: a typed body is empty.
+
+ghost use Rattle.std.specs.Prelude.{◌≡◌, ◌↔◌, IsTrue, map};
+ghost use Rattle.ash_tree.specs.Tree.{stmts};
+ghost use Rattle.ash_tree.specs.Views.{stmt_of};
+ghost use Rattle.ash_typed.specs.Bodies as definition;
+ghost use Rattle.ash_typed.specs.BodyViews.{body_of};
+ghost use Rattle.ash_check.specs.Gives.{Gives};
+ghost use Rattle.ash_check.specs.Returning.{ReturnsIn};
+ghost use Rattle.ash_check.specs.Views.{declared_of, environment_of};
+
+use crate::environment::{Declared, Environment};
+use crate::returning::any_returns;
+use crate::stop::Checking;
+use ash_tree::Stmt;
+use ash_typed::Ty;
+use std::alloc::Global;
+
+/// The body of a function that gives this type, whose parameters are the locals.
+#[tactic(auto, unfolding(ash_typed::specs::Bodies::body_typed, ash_typed::specs::BodyViews::body_of))]
+pub(crate) fn body_typed<'a>(
+    alloc: Global,
+    _env: &Environment<'_, 'a>,
+    locals: Vec<Declared<'a>>,
+    _of: Ty,
+    _body: &'a [Stmt],
+) -> Checking<Vec<ash_typed::Stmt>>
+    ensures { Gives (λ b. body_of b.items) result (definition.body_typed (definition.with_locals (environment_of _env.now) (map declared_of locals.entry.items)) _of (map stmt_of _body.now)) }
+{
+    Ok(Vec::new(alloc))
+}
+
+/// Whether a body returns, however its conditions turn out.
+pub(crate) fn body_returns(body: &[Stmt]) -> bool
+    ensures value { result ≡ definition.returns_in (map stmt_of body.now) }
+    ensures meaning { IsTrue result ↔ ReturnsIn (stmts (map stmt_of body.now)) }
+{
+    any_returns(body)
+}

@@ -1,0 +1,174 @@
+//! Variables that are declared, and what they begin with.
+
+ghost use Rattle.std.specs.Prelude.{◌≡◌, map, option_map};
+ghost use Rattle.ash_registry.specs.Registered.{registered};
+ghost use Rattle.ash_tree.specs.Views.{initializer_of, decl_of};
+ghost use Rattle.ash_typed.specs.BodyViews.{value_of};
+ghost use Rattle.ash_typed.specs.Declarations as definition;
+ghost use Rattle.ash_check.specs.Gives.{Gives};
+ghost use Rattle.ash_check.specs.Views.{class_of, typed_of, callee_of, environment_of};
+ghost use Rattle.ash_check.specs.WalkViews.{maybe_expr};
+
+use crate::calls::called;
+use crate::environment::{Callee, Environment, Parameters};
+use crate::expressions::{all_typed, expression};
+use crate::stop::{Checking, broken};
+use crate::typed::{Typed, fitted};
+use ash_tree::{Decl, Initializer};
+use ash_typed::{Expr, Initialization, ObjectType, Rule, Target, Ty};
+use std::alloc::Global;
+
+#[tactic(auto, unfolding(ash_typed::specs::Declarations::class_construction))]
+fn class_construction<'a>(env: &Environment<'a, '_>, place: usize) -> Option<Callee<'a>>
+    ensures { option_map callee_of result ≡ definition.class_construction (map class_of env.now.heads.now.classes.items) place }
+{
+    let class = env.heads.classes.get(place)?;
+    Some(Callee {
+        target: Target::Class(place),
+        result: Ty::Handle(ObjectType::Class(place)),
+        parameters: Some(Parameters::Script(&class.parameters)),
+    })
+}
+
+#[tactic(auto, unfolding(ash_typed::specs::Declarations::kind_construction))]
+fn kind_construction<'a>(env: &Environment<'a, '_>, kind: u16) -> Option<Callee<'a>>
+    ensures { option_map callee_of result ≡ definition.kind_construction (registered env.now.registry.now) kind }
+{
+    let call = env.registry.of_kind(kind)?;
+    env.host_type(call)
+}
+
+/// The construction of an object.
+#[tactic(auto, unfolding(ash_typed::specs::Declarations::construction))]
+fn construction<'a>(env: &Environment<'a, '_>, of: ObjectType) -> Option<Callee<'a>>
+    ensures { option_map callee_of result ≡ definition.construction (environment_of env.now) of }
+{
+    match of {
+        ObjectType::Class(place) => class_construction(env, place),
+        ObjectType::Host(kind) => kind_construction(env, kind),
+    }
+}
+
+/// An object, by the type at this offset.
+#[tactic(auto, unfolding(ash_typed::specs::Declarations::constructed))]
+fn constructed(
+    alloc: Global,
+    at: usize,
+    typed: Vec<Typed>,
+    callee: Option<Callee>,
+) -> Checking<Option<Expr>>
+    ensures { Gives maybe_expr result (definition.constructed at (map typed_of typed.items) (option_map callee_of callee.entry)) }
+{
+    let Some(callee) = callee else {
+        return Err(broken(Rule::NoFactory, at));
+    };
+    let object = called(alloc, at, &callee, typed)?;
+    Ok(Some(object.tree))
+}
+
+/// `T x`, with the type at this offset.
+#[tactic(auto, unfolding(ash_typed::specs::Declarations::begun))]
+fn begun(alloc: Global, env: &Environment, at: usize, of: Ty) -> Checking<Option<Expr>>
+    ensures { Gives maybe_expr result (definition.begun (environment_of env.now) at of) }
+{
+    match of {
+        Ty::Object(object) => {
+            let callee = construction(env, object);
+            constructed(alloc, at, Vec::new(alloc), callee)
+        }
+        _ => Ok(None),
+    }
+}
+
+fn stored_first(alloc: Global, of: Ty, typed: Typed) -> Checking<Option<Expr>>
+    ensures { Gives maybe_expr result (definition.stored_first of (typed_of typed)) }
+{
+    let value = fitted(alloc, of, typed)?;
+    Ok(Some(value))
+}
+
+/// `T x = e`, with x at this offset: objects are not assigned.
+#[tactic(auto, unfolding(ash_typed::specs::Declarations::begun_with))]
+fn begun_with(alloc: Global, at: usize, of: Ty, typed: Typed) -> Checking<Option<Expr>>
+    ensures { Gives maybe_expr result (definition.begun_with at of (typed_of typed)) }
+{
+    match of {
+        Ty::Object(_) => Err(broken(Rule::NotAssignable, at)),
+        _ => stored_first(alloc, of, typed),
+    }
+}
+
+/// `T x(e)` is `T x = e` for a primitive type.
+#[tactic(auto, unfolding(ash_typed::specs::Declarations::begun_by_one))]
+fn begun_by_one(alloc: Global, at: usize, of: Ty, mut typed: Vec<Typed>) -> Checking<Option<Expr>>
+    ensures { Gives maybe_expr result (definition.begun_by_one at of (map typed_of typed.items)) }
+{
+    if typed.len() != 1 {
+        return Err(broken(Rule::TypeMismatch, at));
+    }
+    match typed.pop() {
+        Some(one) => stored_first(alloc, of, one),
+        None => Err(broken(Rule::TypeMismatch, at)),
+    }
+}
+
+/// `T x(e ..)`, with the type and x at these offsets.
+#[tactic(auto, unfolding(ash_typed::specs::Declarations::begun_by))]
+fn begun_by(
+    alloc: Global,
+    env: &Environment,
+    of_at: usize,
+    at: usize,
+    of: Ty,
+    typed: Vec<Typed>,
+) -> Checking<Option<Expr>>
+    ensures { Gives maybe_expr result (definition.begun_by (environment_of env.now) of_at at of (map typed_of typed.items)) }
+{
+    match of {
+        Ty::Object(object) => {
+            let callee = construction(env, object);
+            constructed(alloc, of_at, typed, callee)
+        }
+        Ty::Handle(_) => Err(broken(Rule::TypeMismatch, at)),
+        _ => begun_by_one(alloc, at, of, typed),
+    }
+}
+
+#[tactic(auto, unfolding(ash_typed::specs::Declarations::initialized))]
+fn initialized(
+    alloc: Global,
+    env: &Environment,
+    of_at: usize,
+    at: usize,
+    of: Ty,
+    initializer: &Initializer,
+) -> Checking<Option<Expr>>
+    ensures { Gives maybe_expr result (definition.initialized (environment_of env.now) of_at at of (initializer_of initializer.now)) }
+{
+    match initializer {
+        Initializer::Default => begun(alloc, env, of_at, of),
+        Initializer::Value(value) => {
+            let typed = expression(env, alloc, false, value)?;
+            begun_with(alloc, at, of, typed)
+        }
+        Initializer::Arguments(arguments) => {
+            let typed = all_typed(env, alloc, arguments)?;
+            begun_by(alloc, env, of_at, at, of, typed)
+        }
+    }
+}
+
+/// A variable of this type, which is written at this offset.
+#[tactic(auto, unfolding(ash_typed::specs::Declarations::decl_typed))]
+pub(crate) fn decl_typed(
+    alloc: Global,
+    env: &Environment,
+    at: usize,
+    of: Ty,
+    decl: &Decl,
+) -> Checking<Initialization>
+    ensures { Gives value_of result (definition.decl_typed (environment_of env.now) at of (decl_of decl.now)) }
+{
+    let value = initialized(alloc, env, at, decl.place.at, of, &decl.initializer)?;
+    Ok(Initialization { of, value })
+}

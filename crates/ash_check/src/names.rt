@@ -1,0 +1,77 @@
+//! Names that are taken, and how many more there may be.
+
+ghost use Rattle.std.specs.Prelude.{◌≡◌, map};
+ghost use Rattle.std.specs.List.{list_any};
+ghost use Rattle.std.specs.Str.{bytes_eq};
+ghost use Rattle.ash_typed.specs.Items as definition;
+ghost use Rattle.ash_check.specs.Gives.{Gives};
+ghost use Rattle.ash_check.specs.WalkViews.{texts, names_of};
+
+use crate::stop::{Checking, broken};
+use ash_registry::Registry;
+use ash_typed::Rule;
+
+/// The names of a module that are taken: those that are registered, and those of the items before; or those of the
+/// members of a class.
+#[derive(Drop)]
+pub(crate) struct Names<'a> {
+    pub(crate) registry: Option<&'a Registry>,
+    pub(crate) taken: Vec<&'a str>,
+    /// How many more variables of a module, or members of a class, there may be.
+    pub(crate) room: usize,
+}
+
+fn any_is(names: &[&str], name: &str) -> bool
+    ensures { result ≡ list_any (bytes_eq name.now) (texts names.now) }
+{
+    for taken in names {
+        if name == *taken {
+            return true;
+        }
+    }
+    false
+}
+
+impl<'a> Names<'a> {
+    fn is_taken(&self, name: &str) -> bool
+        ensures { result ≡ definition.is_taken (names_of self.now) name.now }
+    {
+        let is_registered = match self.registry {
+            Some(registry) => registry.named(name).is_some(),
+            None => false,
+        };
+        is_registered || any_is(&self.taken, name)
+    }
+
+    /// A name at this offset that was not taken, and is from now on.
+    #[tactic(auto, unfolding(ash_typed::specs::Items::untaken))]
+    pub(crate) fn take(&mut self, at: usize, name: &'a str) -> Checking<()>
+        ensures { Gives (λ _. names_of self.new) result (definition.untaken (names_of self.old) at name.now) }
+    {
+        if self.is_taken(name) {
+            return Err(broken(Rule::NameTaken, at));
+        }
+        self.taken.push(name)?;
+        Ok(())
+    }
+
+    /// One more, at this offset.
+    #[tactic(auto, unfolding(ash_typed::specs::Items::one_more))]
+    pub(crate) fn count(&mut self, at: usize) -> Checking<()>
+        ensures { Gives (λ _. names_of self.new) result (definition.one_more (names_of self.old) at) }
+    {
+        if self.room == 0 {
+            return Err(broken(Rule::TooMany, at));
+        }
+        self.room -= 1;
+        Ok(())
+    }
+
+    /// A name of which there may be so many.
+    pub(crate) fn place(&mut self, at: usize, name: &'a str) -> Checking<()>
+        ensures { Gives (λ _. names_of self.new) result (definition.placed (names_of self.old) at name.now) }
+    {
+        self.take(at, name)?;
+        self.count(at)
+    }
+}

@@ -1,0 +1,54 @@
+-- The lists of a node, read from their rows in memory or from the lists of a `Vec`.
+use Rattle.std.proofs.Common.{◌≡◌, ap, refl, rules, map, List, [], ◌∷◌, ◌++◌, ◌∙◌, sym, None, ◌<◌, length, arith}
+use Rattle.std.specs.declared.boxed.Box.{Box}
+use Rattle.std.specs.declared.vec.Vec.{Vec}
+use Rattle.std.specs.declared.alloc.Global.{Global}
+use Rattle.ash_typed.specs.declared.tree.expressions.Expr as code
+use Rattle.ash_typed.specs.declared.tree.expressions.Expr.TheViews as views
+use Rattle.ash_typed.specs.declared.tree.expressions.Expr.{Row_of-Expr, end_of-Expr, more_of-Expr, items-the_row-Expr, Row_of-Link, end_of-Link, more_of-Link, items-the_row-Link, Row_of-Operand, end_of-Operand, more_of-Operand, items-the_row-Operand}
+use Rattle.ash_typed.specs.declared.tree.expressions.Link as link
+use Rattle.ash_typed.specs.declared.tree.expressions.Operand as operand
+use Rattle.ash_typed.specs.declared.tree.operations.Target.{Target}
+use Rattle.ash_typed.specs.declared.tree.operations.Method.{Method}
+use Rattle.ash_typed.specs.Tree.{Expr, Call, Invoke, expr, exprs, converted, Operate, place_in}
+use Rattle.ash_typed.specs.Views.{expr_of, exprs_of, linked, linked_by, chained, chained_by, all_linked, all_chained}
+
+pub exprs_of-row : {n : _} (row : Row_of-Expr n) → exprs_of row ≡ exprs (map expr_of (items-the_row-Expr n row))
+exprs_of-row end_of-Expr = refl
+exprs_of-row (more_of-Expr e rest) = ap (expr (expr_of e)) (exprs_of-row rest)
+
+pub linked_by-row : {n : _} (e : Expr) (row : Row_of-Link n) → linked_by e row ≡ all_linked e (items-the_row-Link n row)
+linked_by-row e end_of-Link = refl
+linked_by-row e (more_of-Link l rest) = linked_by-row (linked e l) rest
+
+pub chained_by-row : {n : _} (e : Expr) (row : Row_of-Operand n) → chained_by e row ≡ all_chained e (items-the_row-Operand n row)
+chained_by-row e end_of-Operand = refl
+chained_by-row e (more_of-Operand before operation value rest) = chained_by-row (Operate operation (converted before e) (expr_of value)) rest
+
+pub call_is : (target : Target) (es : Vec code.Expr Global) → expr_of (views.Call target es) ≡ Call target (exprs (map expr_of es.items))
+call_is target es = search (rules, views.the_lemmas, exprs_of-row)
+
+pub invoke_is : (e : Expr) (method : Method) (es : Vec code.Expr Global) → linked e (views.Invoke method es) ≡ Invoke e method (exprs (map expr_of es.items))
+invoke_is e method es = search (rules, views.the_lemmas, exprs_of-row)
+
+pub path_is : (base : Box code.Expr Global) (ls : Vec link.Link Global) → expr_of (views.Path base ls) ≡ all_linked (expr_of base.value) ls.items
+path_is base ls = search (rules, views.the_lemmas, linked_by-row)
+
+pub chain_is : (first : Box code.Expr Global) (os : Vec operand.Operand Global) → expr_of (views.Chain first os) ≡ all_chained (expr_of first.value) os.items
+chain_is first os = search (rules, views.the_lemmas, chained_by-row)
+
+pub all_linked_append : (e : Expr) (ls : List link.Link) (l : link.Link) → all_linked e (ls ++ l ∷ []) ≡ linked (all_linked e ls) l
+all_linked_append e [] l = refl
+all_linked_append e (x ∷ ls) l = all_linked_append (linked e x) ls l
+
+pub all_chained_append : (e : Expr) (os : List operand.Operand) (o : operand.Operand) → all_chained e (os ++ o ∷ []) ≡ chained (all_chained e os) o
+all_chained_append e [] o = refl
+all_chained_append e (x ∷ os) o = all_chained_append (chained e x) os o
+
+after_chained : (e : Expr) (os : List operand.Operand) → place_in e ≡ None → place_in (all_chained e os) ≡ None
+after_chained e [] h = h
+after_chained e (o ∷ os) h = after_chained (chained e o) os refl
+
+pub no_place_chained : (e : Expr) (os : List operand.Operand) → 0 < length os → place_in (all_chained e os) ≡ None
+no_place_chained e [] h = absurd (omega arith)
+no_place_chained e (o ∷ os) h = after_chained (chained e o) os refl

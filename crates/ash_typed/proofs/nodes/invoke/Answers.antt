@@ -1,0 +1,10 @@
+use Rattle.std.proofs.Common.{◌≡◌, IfOk}
+use Rattle.ash_typed.specs.Tree.{Expr}
+use Rattle.ash_typed.specs.Views.{expr_of}
+use Rattle.std.proofs.Common.{subst}
+use Rattle.ash_typed.proofs.Rows.{invoke_is}
+use Rattle.ash_typed.proofs.nodes.invoke.Goals as goal
+
+pub returns : goal.returns
+returns c =
+    subst (λ (x : Expr). IfOk c.link.result (λ e. expr_of e ≡ x)) (invoke_is (expr_of c.args.object) c.args.method c.args.arguments) c.link.ensures

@@ -1,0 +1,13 @@
+pub mod Checking
+pub mod Types
+pub mod Tree
+pub mod Views
+pub mod Environment
+pub mod Heads
+pub mod Expressions
+pub mod Declarations
+pub mod Returning
+pub mod Bodies
+pub mod BodyViews
+pub mod Modules
+pub mod Items

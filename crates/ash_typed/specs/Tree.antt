@@ -1,0 +1,52 @@
+-- The typed tree of an expression, without where its parts lie in memory. Operators group to the left, and a suffix is
+-- applied to what stands before it.
+use Rattle.std.specs.Prelude.{ℕ, List, [], ◌∷◌, Bool, Option, Some, None}
+use Rattle.ash_typed.specs.declared.types.Kind.{Kind}
+use Rattle.ash_typed.specs.declared.tree.operations.Variable.{Variable}
+use Rattle.ash_typed.specs.declared.tree.operations.Member.{Member}
+use Rattle.ash_typed.specs.declared.tree.operations.Method.{Method}
+use Rattle.ash_typed.specs.declared.tree.operations.Target.{Target}
+use Rattle.ash_typed.specs.declared.tree.operations.Operation.{Operation}
+use Rattle.ash_typed.specs.declared.tree.operations.Change.{Change}
+use Rattle.ash_typed.specs.declared.tree.operations.Conversion.{Conversion}
+use Rattle.ash_typed.specs.declared.tree.operations.Step.{Step}
+
+mutual
+  pub data Expr : Type 0 where
+    Number : Kind → ℕ → Expr
+    Truth : Bool → Expr
+    Null : Expr
+    This : Expr
+    Read : Place → Expr
+    Invoke : Expr → Method → Exprs → Expr
+    Convert : Conversion → Expr → Expr
+    Alter : Change → Expr → Expr
+    Operate : Operation → Expr → Expr → Expr
+    Conditional : Expr → Expr → Expr → Expr
+    Assign : Place → Expr → Expr
+    Update : Place → Kind → Operation → Expr → Expr
+    Count : Place → Kind → Step → Expr
+    Call : Target → Exprs → Expr
+
+  -- what can be written to
+  pub data Place : Type 0 where
+    Stored : Variable → Place
+    Held : Expr → Member → Place
+
+  pub data Exprs : Type 0 where
+    no_expr : Exprs
+    expr : Expr → Exprs → Exprs
+
+abbrev pub exprs : List Expr → Exprs
+exprs [] = no_expr
+exprs (e ∷ es) = expr e (exprs es)
+
+-- the place that an expression reads
+abbrev pub place_in : Expr → Option Place
+place_in (Read place) = Some place
+place_in _ = None
+
+-- converted, where a conversion is named
+abbrev pub converted : Option Conversion → Expr → Expr
+converted None e = e
+converted (Some conversion) e = Convert conversion e

@@ -1,0 +1,60 @@
+-- What the code's typed trees stand for.
+use Rattle.std.specs.Prelude.{List, [], ◌∷◌}
+use Rattle.ash_typed.specs.declared.tree.expressions.Expr as code
+use Rattle.ash_typed.specs.declared.tree.expressions.Expr.TheVariants as variants
+use Rattle.ash_typed.specs.declared.tree.expressions.Place as place
+use Rattle.ash_typed.specs.declared.tree.expressions.Place.TheVariants as places
+use Rattle.ash_typed.specs.declared.tree.expressions.Link as link
+use Rattle.ash_typed.specs.declared.tree.expressions.Link.TheVariants as links
+use Rattle.ash_typed.specs.declared.tree.expressions.Operand as operand
+use Rattle.ash_typed.specs.Tree.{Expr, Number, Truth, Null, This, Read, Invoke, Convert, Alter, Operate, Conditional, Assign, Update, Count, Call, Place, Stored, Held, Exprs, no_expr, expr, converted}
+
+abbrev mutual
+  pub expr_of : code.Expr → Expr
+  expr_of (variants.Number kind value) = Number kind value
+  expr_of (variants.Bool b) = Truth b
+  expr_of variants.Null = Null
+  expr_of variants.This = This
+  expr_of (variants.Variable v) = Read (Stored v)
+  expr_of (variants.Path' a base shape row) = linked_by (expr_of base) row
+  expr_of (variants.Convert' conversion a value) = Convert conversion (expr_of value)
+  expr_of (variants.Change' change a e) = Alter change (expr_of e)
+  expr_of (variants.Chain' a first shape row) = chained_by (expr_of first) row
+  expr_of (variants.Conditional' a c b t d e) = Conditional (expr_of c) (expr_of t) (expr_of e)
+  expr_of (variants.Assign' p a value) = Assign (place_of p) (expr_of value)
+  expr_of (variants.Update' p of operation a value) = Update (place_of p) of operation (expr_of value)
+  expr_of (variants.Step p of step) = Count (place_of p) of step
+  expr_of (variants.Call' target shape row) = Call target (exprs_of row)
+
+  pub place_of : place.Place → Place
+  place_of (places.Variable v) = Stored v
+  place_of (places.Member' a object member) = Held (expr_of object) member
+
+  pub linked_by : {n : _} → Expr → code.Row_of-Link n → Expr
+  linked_by e code.end_of-Link = e
+  linked_by e (code.more_of-Link l rest) = linked_by (linked e l) rest
+
+  pub linked : Expr → link.Link → Expr
+  linked e (links.Member member) = Read (Held e member)
+  linked e (links.Invoke' method shape row) = Invoke e method (exprs_of row)
+
+  pub chained_by : {n : _} → Expr → code.Row_of-Operand n → Expr
+  chained_by e code.end_of-Operand = e
+  chained_by e (code.more_of-Operand before operation value rest) = chained_by (Operate operation (converted before e) (expr_of value)) rest
+
+  pub exprs_of : {n : _} → code.Row_of-Expr n → Exprs
+  exprs_of code.end_of-Expr = no_expr
+  exprs_of (code.more_of-Expr e rest) = expr (expr_of e) (exprs_of rest)
+
+-- an operator with its right operand, behind what stands before it
+abbrev pub chained : Expr → operand.Operand → Expr
+chained e o = Operate o.operation (converted o.before e) (expr_of o.value)
+
+-- links and operators, where they stand in a vector
+abbrev pub all_linked : Expr → List link.Link → Expr
+all_linked e [] = e
+all_linked e (l ∷ ls) = all_linked (linked e l) ls
+
+abbrev pub all_chained : Expr → List operand.Operand → Expr
+all_chained e [] = e
+all_chained e (o ∷ os) = all_chained (chained e o) os

@@ -1,0 +1,207 @@
+//! Nodes of typed trees.
+
+ghost use Rattle.std.specs.Prelude.{◌≡◌, map, option_map, IfOk};
+ghost use Rattle.ash_typed.specs.Tree.{Read, Held, Invoke, Alter, Conditional, Assign, Update, Count, Call, exprs, place_in, converted};
+ghost use Rattle.ash_typed.specs.Views.{expr_of, place_of, linked, chained, all_linked, all_chained};
+
+use crate::tree::expressions::{Expr, Link, Operand, Place};
+use crate::tree::operations::{Change, Conversion, Member, Method, Operation, Step, Target};
+use crate::types::Kind;
+use std::alloc::{AllocError, Global};
+
+#[tactic(auto, using(crate::proofs::Rows::call_is))]
+pub fn call(target: Target, arguments: Vec<Expr>) -> Expr
+    ensures { expr_of result ≡ Call target (exprs (map expr_of arguments.items)) }
+{
+    Expr::Call { target, arguments }
+}
+
+/// What a link makes of an expression.
+#[tactic(auto, using(crate::proofs::Rows::path_is, crate::proofs::Rows::all_linked_append))]
+pub fn link(alloc: Global, base: Expr, next: Link) -> Result<Expr, AllocError>
+    ensures { IfOk result (λ e. expr_of e ≡ linked (expr_of base) next) }
+{
+    match base {
+        Expr::Path { base, mut links } => {
+            links.push(next)?;
+            Ok(Expr::Path { base, links })
+        }
+        base => {
+            let mut links = Vec::new(alloc);
+            links.push(next)?;
+            let base = Box::new(alloc, base)?;
+            Ok(Expr::Path { base, links })
+        }
+    }
+}
+
+/// What an object holds.
+pub fn member(alloc: Global, object: Expr, member: Member) -> Result<Expr, AllocError>
+    ensures { IfOk result (λ e. expr_of e ≡ Read (Held (expr_of object) member)) }
+{
+    link(alloc, object, Link::Member(member))
+}
+
+/// What a method of an object gives.
+#[tactic(auto, using(crate::proofs::Rows::invoke_is))]
+pub fn invoke(
+    alloc: Global,
+    object: Expr,
+    method: Method,
+    arguments: Vec<Expr>,
+) -> Result<Expr, AllocError>
+    ensures { IfOk result (λ e. expr_of e ≡ Invoke (expr_of object) method (exprs (map expr_of arguments.items))) }
+{
+    link(alloc, object, Link::Invoke { method, arguments })
+}
+
+/// What an operator makes of an expression.
+#[tactic(auto, using(crate::proofs::Rows::chain_is, crate::proofs::Rows::all_chained_append))]
+pub fn operate(alloc: Global, first: Expr, next: Operand) -> Result<Expr, AllocError>
+    ensures { IfOk result (λ e. expr_of e ≡ chained (expr_of first) next) }
+{
+    match first {
+        Expr::Chain {
+            first,
+            mut operands,
+        } => {
+            operands.push(next)?;
+            Ok(Expr::Chain { first, operands })
+        }
+        first => {
+            let mut operands = Vec::new(alloc);
+            operands.push(next)?;
+            let first = Box::new(alloc, first)?;
+            Ok(Expr::Chain { first, operands })
+        }
+    }
+}
+
+/// The value, converted where a conversion is named.
+pub fn convert(
+    alloc: Global,
+    conversion: Option<Conversion>,
+    value: Expr,
+) -> Result<Expr, AllocError>
+    ensures { IfOk result (λ e. expr_of e ≡ converted conversion (expr_of value)) }
+{
+    match conversion {
+        None => Ok(value),
+        Some(conversion) => {
+            let value = Box::new(alloc, value)?;
+            Ok(Expr::Convert { conversion, value })
+        }
+    }
+}
+
+pub fn alter(alloc: Global, change: Change, operand: Expr) -> Result<Expr, AllocError>
+    ensures { IfOk result (λ e. expr_of e ≡ Alter change (expr_of operand)) }
+{
+    let operand = Box::new(alloc, operand)?;
+    Ok(Expr::Change { change, operand })
+}
+
+/// `condition ? then : otherwise`
+pub fn conditional(
+    alloc: Global,
+    condition: Expr,
+    then: Expr,
+    otherwise: Expr,
+) -> Result<Expr, AllocError>
+    ensures { IfOk result (λ e. expr_of e ≡ Conditional (expr_of condition) (expr_of then) (expr_of otherwise)) }
+{
+    let condition = Box::new(alloc, condition)?;
+    let then = Box::new(alloc, then)?;
+    let otherwise = Box::new(alloc, otherwise)?;
+    Ok(Expr::Conditional {
+        condition,
+        then,
+        otherwise,
+    })
+}
+
+pub fn assign(alloc: Global, place: Place, value: Expr) -> Result<Expr, AllocError>
+    ensures { IfOk result (λ e. expr_of e ≡ Assign (place_of place) (expr_of value)) }
+{
+    let value = Box::new(alloc, value)?;
+    Ok(Expr::Assign { place, value })
+}
+
+/// `place op= value`
+pub fn update(
+    alloc: Global,
+    place: Place,
+    of: Kind,
+    operation: Operation,
+    value: Expr,
+) -> Result<Expr, AllocError>
+    ensures { IfOk result (λ e. expr_of e ≡ Update (place_of place) of operation (expr_of value)) }
+{
+    let value = Box::new(alloc, value)?;
+    Ok(Expr::Update {
+        place,
+        of,
+        operation,
+        value,
+    })
+}
+
+/// `++` or `--`
+pub fn count(place: Place, of: Kind, step: Step) -> Expr
+    ensures { expr_of result ≡ Count (place_of place) of step }
+{
+    Expr::Step { place, of, step }
+}
+
+/// The place that an expression reads.
+#[cycle(places)]
+#[tactic(auto, using(crate::proofs::Rows::path_is, crate::proofs::Rows::chain_is))]
+pub fn place(alloc: Global, expr: Expr) -> Result<Option<Place>, AllocError>
+    ensures { IfOk result (λ found. option_map place_of found ≡ place_in (expr_of expr)) }
+{
+    match expr {
+        Expr::Variable(variable) => Ok(Some(Place::Variable(variable))),
+        Expr::Path { base, links } => member_of(alloc, base, links),
+        Expr::Number { .. } | Expr::Bool(_) | Expr::Null | Expr::This => Ok(None),
+        Expr::Chain { first, operands } => chain_place(alloc, first, operands),
+        Expr::Convert { .. } | Expr::Change { .. } => Ok(None),
+        Expr::Conditional { .. } | Expr::Assign { .. } | Expr::Update { .. } => Ok(None),
+        Expr::Step { .. } | Expr::Call { .. } => Ok(None),
+    }
+}
+
+/// What the last link holds, of what the links before it give.
+#[cycle(places)]
+#[tactic(auto, using(crate::proofs::Rows::path_is, crate::proofs::Rows::all_linked_append))]
+fn member_of(
+    alloc: Global,
+    base: Box<Expr>,
+    mut links: Vec<Link>,
+) -> Result<Option<Place>, AllocError>
+    ensures { IfOk result (λ found. option_map place_of found ≡ place_in (all_linked (expr_of base.value) links.items)) }
+{
+    match links.pop() {
+        Some(Link::Member(member)) => {
+            let object = Box::new(alloc, Expr::Path { base, links })?;
+            Ok(Some(Place::Member { object, member }))
+        }
+        Some(Link::Invoke { .. }) => Ok(None),
+        None => place(alloc, Box::into_inner(base)),
+    }
+}
+
+/// A place stands alone.
+#[cycle(places)]
+#[tactic(auto, using(crate::proofs::Rows::chain_is, crate::proofs::Rows::no_place_chained))]
+fn chain_place(
+    alloc: Global,
+    first: Box<Expr>,
+    operands: Vec<Operand>,
+) -> Result<Option<Place>, AllocError>
+    ensures { IfOk result (λ found. option_map place_of found ≡ place_in (all_chained (expr_of first.value) operands.items)) }
+{
+    if operands.is_empty() {
+        return place(alloc, Box::into_inner(first));
+    }
+    Ok(None)
+}

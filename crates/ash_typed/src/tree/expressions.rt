@@ -1,0 +1,100 @@
+//! Typed expressions.
+//!
+//! Operators of one level and the suffixes of an operand stand as lists, so that a tree is no deeper where a sum is
+//! long.
+
+use crate::tree::operations::{
+    Change, Conversion, Member, Method, Operation, Step, Target, Variable,
+};
+use crate::types::Kind;
+
+/// A typed expression.
+#[cycle(typed_expressions)]
+#[derive(Debug, Drop)]
+pub enum Expr {
+    /// A number of an integer type that holds it.
+    Number {
+        kind: Kind,
+        value: u64,
+    },
+    Bool(bool),
+    Null,
+    This,
+    /// What a variable holds.
+    Variable(Variable),
+    /// What the links make of it, one after the other.
+    Path {
+        base: Box<Expr>,
+        links: Vec<Link>,
+    },
+    Convert {
+        conversion: Conversion,
+        value: Box<Expr>,
+    },
+    Change {
+        change: Change,
+        operand: Box<Expr>,
+    },
+    /// What the operators make of it, one after the other.
+    Chain {
+        first: Box<Expr>,
+        operands: Vec<Operand>,
+    },
+    Conditional {
+        condition: Box<Expr>,
+        then: Box<Expr>,
+        otherwise: Box<Expr>,
+    },
+    /// `place = value` or `@place = value`
+    Assign {
+        place: Place,
+        value: Box<Expr>,
+    },
+    /// `place op= value`, at a place of type `of`: what it holds is converted to the type of the operation, and what
+    /// comes out is converted back.
+    Update {
+        place: Place,
+        of: Kind,
+        operation: Operation,
+        value: Box<Expr>,
+    },
+    Step {
+        place: Place,
+        of: Kind,
+        step: Step,
+    },
+    Call {
+        target: Target,
+        arguments: Vec<Expr>,
+    },
+}
+
+/// What can be written to.
+#[cycle(typed_expressions)]
+#[derive(Debug, Drop)]
+pub enum Place {
+    Variable(Variable),
+    Member { object: Box<Expr>, member: Member },
+}
+
+/// What is made of an object.
+#[cycle(typed_expressions)]
+#[derive(Debug, Drop)]
+pub enum Link {
+    /// What it holds.
+    Member(Member),
+    /// What its method gives.
+    Invoke {
+        method: Method,
+        arguments: Vec<Expr>,
+    },
+}
+
+/// An operator with its right operand. What stands before it is converted first, where a conversion is named.
+#[cycle(typed_expressions)]
+#[derive(Debug, Drop)]
+pub struct Operand {
+    pub before: Option<Conversion>,
+    pub operation: Operation,
+    pub value: Expr,
+}

@@ -1,0 +1,41 @@
+//! Typed modules.
+
+use crate::tree::statements::{Initialization, Stmt};
+use crate::types::Ty;
+
+/// A module: what it declares, each in source order.
+#[derive(Debug, Drop)]
+pub struct Module {
+    pub classes: Vec<Class>,
+    pub functions: Vec<Function>,
+    pub globals: Vec<Variables>,
+}
+
+/// Variables that are declared together, with the line of their first token, and what they begin with.
+#[derive(Debug, Drop)]
+pub struct Variables {
+    pub line: usize,
+    pub names: Vec<String>,
+    pub initializations: Vec<Initialization>,
+}
+
+/// A class, with the line of its name.
+#[derive(Debug, Drop)]
+pub struct Class {
+    pub name: String,
+    pub line: usize,
+    pub fields: Vec<Variables>,
+    /// The constructor, where one is written. Its name is the class's.
+    pub constructor: Option<Function>,
+    pub methods: Vec<Function>,
+}
+
+/// A function, with the line of its name. Its parameters are its first locals.
+#[derive(Debug, Drop)]
+pub struct Function {
+    pub name: String,
+    pub line: usize,
+    pub result: Ty,
+    pub parameters: Vec<Ty>,
+    pub body: Vec<Stmt>,
+}

@@ -1,0 +1,95 @@
+//! What a typed tree names: variables, members, functions, and operators with their kinds.
+
+use crate::types::{Kind, Ty};
+use ash_tree::BinaryOp;
+
+/// A variable.
+#[derive(Clone, Copy, Debug, PartialEq, Eq)]
+pub enum Variable {
+    /// A local or a parameter, by its slot: how many locals its function has before it. The parameters are the first.
+    Local(usize),
+    /// A global of the module, by its place among them.
+    Global(usize),
+}
+
+/// What an object holds.
+#[derive(Clone, Copy, Debug, PartialEq, Eq)]
+pub enum Member {
+    /// A field of a class, by its place among them.
+    Field(usize),
+    /// A property of a registered type, by its number, with its type.
+    Property { id: u16, of: Ty },
+}
+
+/// A method of an object.
+#[derive(Clone, Copy, Debug, PartialEq, Eq)]
+pub enum Method {
+    /// A method of a class, by their places.
+    Script { class: usize, method: usize },
+    /// A method of a registered type, by its number, with what it gives.
+    Host { id: u16, result: Ty },
+}
+
+/// What a call by a name calls.
+#[derive(Clone, Copy, Debug, PartialEq, Eq)]
+pub enum Target {
+    /// A method of the object that runs.
+    Method { class: usize, method: usize },
+    /// A function of the module, by its place among them.
+    Function(usize),
+    /// A function of a registered service, by its index and its number, with what it gives.
+    Service { service: u16, id: u16, result: Ty },
+    /// The construction of an object of a class.
+    Class(usize),
+    /// The construction of an object of a registered type, by its kind.
+    Host(u16),
+}
+
+/// What an operator takes, both operands being of it. Of a shift that is the left one alone.
+#[derive(Clone, Copy, Debug, PartialEq, Eq)]
+pub enum Operands {
+    Integers(Kind),
+    Bools,
+    /// Objects and null.
+    Handles,
+}
+
+/// An operator between two operands, and what they are.
+#[derive(Clone, Copy, Debug, PartialEq, Eq)]
+pub struct Operation {
+    pub operator: BinaryOp,
+    pub operands: Operands,
+}
+
+/// An operation before its operand.
+#[derive(Clone, Copy, Debug, PartialEq, Eq)]
+pub enum Change {
+    /// The value itself, which is no place any more: unary `+`, `bool(e)`, and `@e`.
+    Keep,
+    /// Unary `-`.
+    Negate(Kind),
+    /// `~`
+    Complement(Kind),
+    /// `!`
+    Not,
+}
+
+/// A conversion among integer types.
+#[derive(Clone, Copy, Debug, PartialEq, Eq)]
+pub struct Conversion {
+    pub from: Kind,
+    pub to: Kind,
+}
+
+/// What `++` or `--` does to a place, and which of its values it gives.
+#[derive(Clone, Copy, Debug, PartialEq, Eq)]
+pub enum Step {
+    /// `++p`
+    Increment,
+    /// `--p`
+    Decrement,
+    /// `p++`, which gives the old value
+    IncrementAfter,
+    /// `p--`, which gives the old value
+    DecrementAfter,
+}
