@@ -1,5 +1,5 @@
 -- The lists of a node, read from their rows in memory or from the lists of a `Vec`.
-use Rattle.std.proofs.Common.{◌≡◌, ap, refl, rules, map, List, [], ◌∷◌, ◌++◌, ◌∙◌, sym, None, ◌<◌, length, arith}
+use Rattle.std.proofs.Common.{◌≡◌, ap, refl, rules, map, List, [], ◌∷◌, ◌++◌, None, ◌<◌, length, arith}
 use Rattle.std.specs.declared.boxed.Box.{Box}
 use Rattle.std.specs.declared.vec.Vec.{Vec}
 use Rattle.std.specs.declared.alloc.Global.{Global}

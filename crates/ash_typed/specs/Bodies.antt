@@ -1,23 +1,25 @@
--- The typing of bodies, as a function whose order is that of the walk. It is not written yet: what stands here takes every
--- body, so that nothing may be said of a module by it.
-use Rattle.std.specs.Prelude.{ℕ, List, [], Bool, Ok}
+-- The typing of the body of a function.
+use Rattle.std.specs.Prelude.{List, Bool, false}
 use Rattle.ash_tree.specs.Tree as written
-use Rattle.ash_typed.specs.declared.tree.statements.Stmt as stmt_code
 use Rattle.ash_typed.specs.declared.types.Ty.{Ty}
 use Rattle.ash_typed.specs.Checking.{Checking}
+use Rattle.ash_typed.specs.StatementTree.{Stmts}
+use Rattle.ash_typed.specs.Environment.{Environment}
+pub use Rattle.ash_typed.specs.Environment.{with_locals}
 use Rattle.ash_typed.specs.Returning.{any_returns}
-use Rattle.ash_typed.specs.Environment.{Declared, Environment}
+use Rattle.ash_typed.specs.Statements.{Scope, stmts_typed}
 
 -- the statements of a body, typed
 abbrev pub Body : Type 0
-Body = List stmt_code.Stmt
+Body = Stmts
 
-abbrev pub with_locals : Environment → List Declared → Environment
-with_locals env locals = record { heads = env.heads; registered = env.registered; this = env.this; locals = locals }
+-- parameters and the variables of the body are one block
+abbrev pub body_scope : Environment → Ty → Scope
+body_scope env of = record { env = env; first = 0; gives = of; in_loop = false; in_switch = false }
 
--- the body of a function that gives this type; its parameters are the locals. No statement of it is looked at yet.
+-- the body of a function that gives this type; its parameters are the locals
 unfoldable pub body_typed : Environment → Ty → List written.Stmt → Checking Body
-body_typed env of body = Ok []
+body_typed env of body = stmts_typed (body_scope env of) (written.stmts body)
 
 -- whether a body returns, however its conditions turn out
 unfoldable pub returns_in : List written.Stmt → Bool

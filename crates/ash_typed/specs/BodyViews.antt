@@ -1,13 +1,46 @@
--- What the code's typed bodies stand for.
-use Rattle.std.specs.Prelude.{List, option_map}
+-- What the code's typed statements stand for.
+use Rattle.std.specs.Prelude.{ℕ, List, map, option_map}
+use Rattle.ash_typed.specs.declared.tree.statements.StmtKind as stmt_kind
+use Rattle.ash_typed.specs.declared.tree.statements.StmtKind.TheVariants as kinds
 use Rattle.ash_typed.specs.declared.tree.statements.Stmt as stmt_code
+use Rattle.ash_typed.specs.declared.tree.statements.Case as case_code
 use Rattle.ash_typed.specs.declared.tree.statements.Initialization as initialization_code
-use Rattle.ash_typed.specs.Bodies.{Body}
-use Rattle.ash_typed.specs.Declarations.{Initialization}
+use Rattle.ash_typed.specs.StatementTree.{Initialization, Stmt, Empty, Declare, Evaluate, Block, If, IfElse, While, DoWhile, For, Switch, Break, Continue, Return, Stmts, no_stmt, stmt, stmts, Case, labelled, Cases, no_case, next_case}
 use Rattle.ash_typed.specs.Views.{expr_of}
-
-unfoldable pub body_of : List stmt_code.Stmt → Body
-body_of ss = ss
 
 abbrev pub value_of : initialization_code.Initialization → Initialization
 value_of v = record { of = v.of; value = option_map expr_of v.value }
+
+abbrev mutual
+  pub stmt_at : ℕ → stmt_kind.StmtKind → Stmt
+  stmt_at line kinds.Empty = Empty line
+  stmt_at line (kinds.Declare values) = Declare line (map value_of values.items)
+  stmt_at line (kinds.Evaluate e) = Evaluate line (expr_of e)
+  stmt_at line (kinds.Block' shape ss) = Block line (stmts_of ss)
+  stmt_at line (kinds.If' c a l k) = If line (expr_of c) (stmt_at l k)
+  stmt_at line (kinds.IfElse' c a l k b m j) = IfElse line (expr_of c) (stmt_at l k) (stmt_at m j)
+  stmt_at line (kinds.While' c a l k) = While line (expr_of c) (stmt_at l k)
+  stmt_at line (kinds.DoWhile' a l k c) = DoWhile line (stmt_at l k) (expr_of c)
+  stmt_at line (kinds.For' a l k c es b m j) = For line (stmt_at l k) (option_map expr_of c) (map expr_of es.items) (stmt_at m j)
+  stmt_at line (kinds.Switch' e shape cs) = Switch line (expr_of e) (cases_of cs)
+  stmt_at line kinds.Break = Break line
+  stmt_at line kinds.Continue = Continue line
+  stmt_at line (kinds.Return e) = Return line (option_map expr_of e)
+
+  pub stmts_of : {n : _} → stmt_kind.Row_of-Stmt n → Stmts
+  stmts_of stmt_kind.end_of-Stmt = no_stmt
+  stmts_of (stmt_kind.more_of-Stmt line k rest) = stmt (stmt_at line k) (stmts_of rest)
+
+  pub cases_of : {n : _} → stmt_kind.Row_of-Case n → Cases
+  cases_of stmt_kind.end_of-Case = no_case
+  cases_of (stmt_kind.more_of-Case c rest) = next_case (case_of c) (cases_of rest)
+
+  pub case_of : case_code.Case → Case
+  case_of (case_code.Case' l shape ss) = labelled l (stmts_of ss)
+
+abbrev pub stmt_of : stmt_code.Stmt → Stmt
+stmt_of s = stmt_at s.line s.kind
+
+-- the statements of a body
+abbrev pub body_of : List stmt_code.Stmt → Stmts
+body_of ss = stmts (map stmt_of ss)

@@ -1,9 +1,9 @@
 -- Variables, and what they begin with (AngelScript manual, "Variables"): an initialiser is walked, then the variable.
-use Rattle.std.specs.Prelude.{ℕ, Bool, false, List, [], ◌∷◌, Option, Some, None, Ok, option_map, find, slice_get}
+use Rattle.std.specs.Prelude.{ℕ, false, List, [], ◌∷◌, Option, Some, None, Ok, option_map, find, slice_get}
 use Rattle.std.specs.Option.{option_and_then}
 use Rattle.ash_registry.specs.Calls as host
 use Rattle.ash_tree.specs.Tree as written
-use Rattle.ash_typed.specs.declared.fault.Rule.TheVariants.{TypeMismatch, NotAssignable, NoFactory}
+use Rattle.ash_typed.specs.declared.fault.Rule.TheVariants.{UnknownType, TypeMismatch, NotAssignable, NoFactory}
 use Rattle.ash_typed.specs.declared.types.ObjectType.{ObjectType}
 use Rattle.ash_typed.specs.declared.types.ObjectType.TheVariants.{Class as OfClass, Host as OfHost}
 use Rattle.ash_typed.specs.declared.types.Ty.{Ty}
@@ -12,12 +12,25 @@ use Rattle.ash_typed.specs.declared.tree.operations.Target.TheVariants as target
 use Rattle.ash_typed.specs.Checking.{Checking, ◌>>=◌, broken}
 use Rattle.ash_typed.specs.Tree.{Expr}
 use Rattle.ash_typed.specs.Environment.{Environment, Class, Callee, host_type}
+use Rattle.ash_typed.specs.Heads.{ty_named}
+pub use Rattle.ash_typed.specs.StatementTree.{Initialization}
 use Rattle.ash_typed.specs.Expressions.{Typed, typed, all_typed, fitted, called}
 
--- a variable that is declared, and what it begins with: where nothing is named, with zero, `false` or null
-pub record Initialization : Type 0 where
-  pub of : Ty
-  pub value : Option Expr
+-- the type of variables
+
+-- the type that is written
+abbrev pub ty_in : Environment → written.Named → Ty
+ty_in env of = ty_named env.registered env.heads.classes of
+
+abbrev pub at_type : written.Named → ℕ
+at_type of = (written.place_of_type of).at
+
+-- the type of variables, at this offset
+unfoldable pub known_ty : ℕ → Ty → Checking Ty
+known_ty at ty.Unknown = broken UnknownType at
+known_ty at t = Ok t
+
+-- what they begin with
 
 abbrev pub initialization : Ty → Option Expr → Initialization
 initialization of value = record { of = of; value = value }

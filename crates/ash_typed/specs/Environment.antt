@@ -48,6 +48,9 @@ pub record Environment : Type 0 where
   pub this : Option ℕ
   pub locals : List Declared
 
+abbrev pub with_locals : Environment → List Declared → Environment
+with_locals env locals = record { heads = env.heads; registered = env.registered; this = env.this; locals = locals }
+
 -- look-ups
 
 -- the first that passes, with its place; the first of the list has place `i`

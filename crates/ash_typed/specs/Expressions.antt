@@ -2,7 +2,6 @@
 -- of a phrase in the order of the text, then the phrase. Of several faults of one phrase the one at the earliest token
 -- is told.
 use Rattle.std.specs.Prelude.{ℕ, List, [], ◌∷◌, Bool, true, false, Option, Some, None, Ok, length, nat_eq, if◌then◌else◌}
-use Rattle.ash_tree.specs.declared.tree.places.Place as place
 use Rattle.ash_tree.specs.declared.tree.types.Primitive.{Primitive}
 use Rattle.ash_tree.specs.declared.tree.operators.UnaryOp.{UnaryOp}
 use Rattle.ash_tree.specs.declared.tree.operators.UnaryOp.TheVariants as unary
@@ -32,7 +31,7 @@ use Rattle.ash_typed.specs.declared.tree.operations.Step.{Step}
 use Rattle.ash_typed.specs.declared.tree.operations.Step.TheVariants as steps
 use Rattle.ash_typed.specs.Checking.{Checking, ◌>>=◌, broken}
 use Rattle.ash_typed.specs.Types.{kind_of, holds, signed, is_same_kind, fits, common, ty_of, sort_of, takes, assumed, meets, outcome}
-use Rattle.ash_typed.specs.Tree.{Expr, Number, Truth, Null, This, Read, Invoke, Convert, Alter, Operate, Conditional, Assign, Update, Count, Call, Place, Held, Exprs, no_expr, expr, place_in, converted}
+use Rattle.ash_typed.specs.Tree.{Expr, Number, Truth, Null, This, Read, Invoke, Alter, Operate, Conditional, Assign, Update, Count, Call, Place, Held, Exprs, no_expr, expr, place_in, converted}
 use Rattle.ash_typed.specs.Environment.{Environment, Known, Callee, Invoked, variable_in, callee_in, member_in, method_in}
 
 -- a typed expression, with the offset of its first token and what it is by itself

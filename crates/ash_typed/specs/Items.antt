@@ -1,7 +1,7 @@
 -- The typing of a module, or its first fault. Items are walked in source order: an item's types and names in the order
 -- of the text, then its body. The members of a class, and the variables of one declaration, are items of their own. Of
 -- several faults of one name the one that stands first in the list of rules is told.
-use Rattle.std.specs.Prelude.{ℕ, ◌-◌, List, [], ◌∷◌, ◌++◌, Bool, true, false, ◌||◌, Option, Some, None, Ok, map, find, length, nat_eq, nat_le, if◌then◌else◌}
+use Rattle.std.specs.Prelude.{ℕ, ◌-◌, List, [], ◌∷◌, ◌++◌, Bool, ◌||◌, Option, Some, None, Ok, map, find, length, nat_eq, nat_le, if◌then◌else◌}
 use Rattle.std.specs.List.{list_any}
 use Rattle.std.specs.Option.{is_some}
 use Rattle.std.specs.Str.{bytes_eq}
@@ -14,8 +14,9 @@ use Rattle.ash_typed.specs.declared.types.Ty.TheVariants as ty
 use Rattle.ash_typed.specs.Checking.{Checking, ◌>>=◌, broken}
 use Rattle.ash_typed.specs.Environment.{Declared, Heads, Environment, declares}
 use Rattle.ash_typed.specs.Expressions.{is_void}
-use Rattle.ash_typed.specs.Heads.{heads, ty_named, result_named}
+use Rattle.ash_typed.specs.Heads.{heads}
 use Rattle.ash_typed.specs.Declarations.{Initialization, decl_typed}
+pub use Rattle.ash_typed.specs.Declarations.{ty_in, at_type, known_ty}
 use Rattle.ash_typed.specs.Bodies.{Body, body_typed, returns_in, with_locals}
 use Rattle.ash_typed.specs.Modules.{Variables, Function, Class, Module}
 
@@ -44,22 +45,11 @@ placed names at name = untaken names at name >>= λ next. one_more next at
 
 -- types
 
--- the type of variables, at this offset
-unfoldable pub known_ty : ℕ → Ty → Checking Ty
-known_ty at ty.Unknown = broken UnknownType at
-known_ty at t = Ok t
-
 -- the type of a parameter or of a result, at this offset: objects are passed by handles
 unfoldable pub passed_ty : ℕ → Ty → Checking Ty
 passed_ty at ty.Unknown = broken UnknownType at
 passed_ty at (ty.Object o) = broken Misplaced at
 passed_ty at t = Ok t
-
-abbrev pub at_type : written.Named → ℕ
-at_type of = (written.place_of_type of).at
-
-abbrev pub ty_in : Environment → written.Named → Ty
-ty_in env of = ty_named env.registered env.heads.classes of
 
 abbrev pub result_typed : Environment → Option written.Named → Checking Ty
 result_typed env None = Ok ty.Void

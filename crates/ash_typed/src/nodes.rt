@@ -2,11 +2,15 @@
 
 ghost use Rattle.std.specs.Prelude.{◌≡◌, map, option_map, IfOk};
 ghost use Rattle.ash_typed.specs.Tree.{Read, Held, Invoke, Alter, Conditional, Assign, Update, Count, Call, exprs, place_in, converted};
+ghost use Rattle.ash_typed.specs.StatementTree.{Block, Switch, labelled, cases};
 ghost use Rattle.ash_typed.specs.Views.{expr_of, place_of, linked, chained, all_linked, all_chained};
+ghost use Rattle.ash_typed.specs.BodyViews.{stmt_of, case_of, body_of};
 
 use crate::tree::expressions::{Expr, Link, Operand, Place};
 use crate::tree::operations::{Change, Conversion, Member, Method, Operation, Step, Target};
+use crate::tree::statements::{Case, Stmt, StmtKind};
 use crate::types::Kind;
+use ash_tree::Label;
 use std::alloc::{AllocError, Global};
 
 #[tactic(auto, using(crate::proofs::Rows::call_is))]
@@ -204,4 +208,34 @@ fn chain_place(
         return place(alloc, Box::into_inner(first));
     }
     Ok(None)
+}
+
+/// `{ body }`
+pub fn block(line: usize, body: Vec<Stmt>) -> Stmt
+    ensures { stmt_of result ≡ Block line (body_of body.items) }
+{
+    Stmt {
+        line,
+        kind: StmtKind::Block(body),
+    }
+}
+
+/// `switch (value) { cases }`
+pub fn switch(line: usize, value: Expr, labels: Vec<Case>) -> Stmt
+    ensures { stmt_of result ≡ Switch line (expr_of value) (cases (map case_of labels.items)) }
+{
+    Stmt {
+        line,
+        kind: StmtKind::Switch {
+            value,
+            cases: labels,
+        },
+    }
+}
+
+/// A label with the statements behind it.
+pub fn case(label: Label, body: Vec<Stmt>) -> Case
+    ensures { case_of result ≡ labelled label (body_of body.items) }
+{
+    Case { label, body }
 }

@@ -1,0 +1,5 @@
+use Rattle.ash_typed.proofs.StatementRows.{block_is}
+use Rattle.ash_typed.proofs.nodes.block.Goals as goal
+
+pub returns : goal.returns
+returns c = block_is c.args.line c.args.body

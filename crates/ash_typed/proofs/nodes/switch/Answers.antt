@@ -1,0 +1,5 @@
+use Rattle.ash_typed.proofs.StatementRows.{switch_is}
+use Rattle.ash_typed.proofs.nodes.switch.Goals as goal
+
+pub returns : goal.returns
+returns c = switch_is c.args.line c.args.value c.args.labels

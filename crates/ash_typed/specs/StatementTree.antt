@@ -1,0 +1,46 @@
+-- The typed tree of a statement, without where its parts lie in memory. Each statement has the line of its first token.
+use Rattle.std.specs.Prelude.{ℕ, List, [], ◌∷◌, Option}
+use Rattle.ash_tree.specs.declared.tree.statements.Label.{Label}
+use Rattle.ash_typed.specs.declared.types.Ty.{Ty}
+use Rattle.ash_typed.specs.Tree.{Expr}
+
+-- a variable that is declared, and what it begins with: where nothing is named, with zero, `false` or null
+pub record Initialization : Type 0 where
+  pub of : Ty
+  pub value : Option Expr
+
+mutual
+  pub data Stmt : Type 0 where
+    Empty : ℕ → Stmt
+    Declare : ℕ → List Initialization → Stmt
+    Evaluate : ℕ → Expr → Stmt
+    Block : ℕ → Stmts → Stmt
+    If : ℕ → Expr → Stmt → Stmt
+    IfElse : ℕ → Expr → Stmt → Stmt → Stmt
+    While : ℕ → Expr → Stmt → Stmt
+    DoWhile : ℕ → Stmt → Expr → Stmt
+    For : ℕ → Stmt → Option Expr → List Expr → Stmt → Stmt
+    Switch : ℕ → Expr → Cases → Stmt
+    Break : ℕ → Stmt
+    Continue : ℕ → Stmt
+    Return : ℕ → Option Expr → Stmt
+
+  pub data Stmts : Type 0 where
+    no_stmt : Stmts
+    stmt : Stmt → Stmts → Stmts
+
+  -- a label of a switch, with the statements behind it
+  pub data Case : Type 0 where
+    labelled : Label → Stmts → Case
+
+  pub data Cases : Type 0 where
+    no_case : Cases
+    next_case : Case → Cases → Cases
+
+abbrev pub stmts : List Stmt → Stmts
+stmts [] = no_stmt
+stmts (s ∷ ss) = stmt s (stmts ss)
+
+abbrev pub cases : List Case → Cases
+cases [] = no_case
+cases (c ∷ cs) = next_case c (cases cs)
