@@ -6,6 +6,11 @@ pub mod Searches
 pub mod ReturnLaws
 pub mod ReferenceLaws
 pub mod ToldLaws
+pub mod Shortcuts
+pub mod ToldSearches
 pub mod ReturnTests
 pub mod Loops
 pub mod Nodes
+pub mod Placing
+pub mod CheckLaws
+pub mod StatementLaws

@@ -5,6 +5,8 @@ use Rattle.ash_typed.specs.declared.fault.Rule.TheVariants as rules
 use Rattle.ash_typed.specs.declared.fault.Fault.{Fault}
 use Rattle.ash_check.specs.declared.faults.CheckFault.{CheckFault}
 use Rattle.ash_check.specs.declared.faults.CheckFault.TheVariants as faults
+use Rattle.ash_check.specs.declared.stop.Stop.{Stop}
+use Rattle.ash_check.specs.declared.stop.Stop.TheVariants as stops
 
 abbrev pub told_at : Rule → ℕ → CheckFault
 told_at rules.UnknownName at = faults.UnknownName at
@@ -22,3 +24,8 @@ told_at rules.DuplicateCase at = faults.DuplicateCase at
 
 abbrev pub told : Fault → CheckFault
 told fault = told_at fault.rule fault.at
+
+-- why checking stopped, as it is told
+abbrev pub stopped : Stop → CheckFault
+stopped (stops.Fault fault) = told fault
+stopped stops.NoMemory = faults.NoMemory

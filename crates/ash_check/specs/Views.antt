@@ -4,7 +4,7 @@ use Rattle.ash_check.specs.declared.typed.Typed as typed
 use Rattle.ash_check.specs.declared.environment.Declared as declared
 use Rattle.ash_check.specs.declared.environment.Function as function
 use Rattle.ash_check.specs.declared.environment.Class as class
-use Rattle.ash_check.specs.declared.environment.Heads as heads
+use Rattle.ash_check.specs.declared.tables.Heads as heads
 use Rattle.ash_check.specs.declared.environment.Environment as environment
 use Rattle.ash_registry.specs.Registered.{registered}
 use Rattle.std.specs.declared.vec.Vec.{Vec}

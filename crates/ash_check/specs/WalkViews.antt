@@ -24,7 +24,7 @@ registered_in None = []
 registered_in (Some registry) = registered registry.now
 
 abbrev pub names_of : names.Names → Names
-names_of n = record { registered = registered_in n.registry; taken = texts n.taken.items; room = n.room }
+names_of n = record { registered = registered_in n.registry; taken = texts n.taken.keys; room = n.room }
 
 abbrev pub routine_of : routine.Routine → Routine
 routine_of c = record { place = c.place; name = c.name.now; parameters = map parameter_of c.parameters.now; body = map stmt_of c.body.now }

@@ -1,4 +1,4 @@
-//! Bodies of functions. Their statements are not typed yet: a typed body is empty.
+//! Bodies of functions.
 
 ghost use Rattle.std.specs.Prelude.{◌≡◌, ◌↔◌, IsTrue, map};
 ghost use Rattle.ash_tree.specs.Tree.{stmts};
@@ -11,23 +11,34 @@ ghost use Rattle.ash_check.specs.Views.{declared_of, environment_of};
 
 use crate::environment::{Declared, Environment};
 use crate::returning::any_returns;
+use crate::scopes::Scope;
+use crate::statements::block;
 use crate::stop::Checking;
 use ash_tree::Stmt;
 use ash_typed::Ty;
 use std::alloc::Global;
 
 /// The body of a function that gives this type, whose parameters are the locals.
-#[tactic(auto, unfolding(ash_typed::specs::Bodies::body_typed, ash_typed::specs::BodyViews::body_of))]
+#[tactic(auto, unfolding(ash_typed::specs::Bodies::body_typed))]
 pub(crate) fn body_typed<'a>(
     alloc: Global,
-    _env: &Environment<'_, 'a>,
-    locals: Vec<Declared<'a>>,
-    _of: Ty,
-    _body: &'a [Stmt],
+    env: &Environment<'_, 'a>,
+    mut locals: Vec<Declared<'a>>,
+    of: Ty,
+    body: &'a [Stmt],
 ) -> Checking<Vec<ash_typed::Stmt>>
-    ensures { Gives (λ b. body_of b.items) result (definition.body_typed (definition.with_locals (environment_of _env.now) (map declared_of locals.entry.items)) _of (map stmt_of _body.now)) }
+    ensures { Gives (λ b. body_of b.items) result (definition.body_typed (definition.with_locals (environment_of env.now) (map declared_of locals.entry.items)) of (map stmt_of body.now)) }
 {
-    Ok(Vec::new(alloc))
+    let scope = Scope {
+        heads: env.heads,
+        registry: env.registry,
+        this: env.this,
+        first: 0,
+        gives: of,
+        in_loop: false,
+        in_switch: false,
+    };
+    block(alloc, &scope, &mut locals, body)
 }
 
 /// Whether a body returns, however its conditions turn out.

@@ -9,9 +9,9 @@ use std::alloc::{AllocError, Global};
 
 /// A way round: from the first place to the others in turn, and back.
 #[derive(Debug, PartialEq, Eq, Drop)]
-pub struct Cycle {
-    pub first: usize,
-    pub others: Vec<usize>,
+pub(crate) struct Cycle {
+    pub(crate) first: usize,
+    pub(crate) others: Vec<usize>,
 }
 
 // The first place at that distance that one goes to.

@@ -1,8 +1,9 @@
 //! Variables that are declared, and what they begin with.
 
-ghost use Rattle.std.specs.Prelude.{◌≡◌, map, option_map};
+ghost use Rattle.std.specs.Prelude.{◌≡◌, map, option_map, IfOk};
 ghost use Rattle.ash_registry.specs.Registered.{registered};
-ghost use Rattle.ash_tree.specs.Views.{initializer_of, decl_of};
+ghost use Rattle.ash_tree.specs.Tree.{place_of_type};
+ghost use Rattle.ash_tree.specs.Views.{type_of, initializer_of, decl_of};
 ghost use Rattle.ash_typed.specs.BodyViews.{value_of};
 ghost use Rattle.ash_typed.specs.Declarations as definition;
 ghost use Rattle.ash_check.specs.Gives.{Gives};
@@ -12,11 +13,38 @@ ghost use Rattle.ash_check.specs.WalkViews.{maybe_expr};
 use crate::calls::called;
 use crate::environment::{Callee, Environment, Parameters};
 use crate::expressions::{all_typed, expression};
+use crate::heads::ty_named;
 use crate::stop::{Checking, broken};
 use crate::typed::{Typed, fitted};
-use ash_tree::{Decl, Initializer};
+use ash_tree::{Decl, Initializer, Place, Type};
 use ash_typed::{Expr, Initialization, ObjectType, Rule, Target, Ty};
 use std::alloc::Global;
+
+#[tactic(auto, using(ash_tree::proofs::Rows::type_place_is))]
+pub(crate) fn place_of(of: &Type) -> Place
+    ensures { result ≡ place_of_type (type_of of.now) }
+{
+    of.place
+}
+
+/// The type that is written.
+pub(crate) fn ty_in(env: &Environment, of: &Type) -> Ty
+    ensures { result ≡ definition.ty_in (environment_of env.now) (type_of of.now) }
+{
+    ty_named(env.registry, env.heads, of)
+}
+
+/// The type of variables, which has to be known.
+#[tactic(auto, unfolding(ash_typed::specs::Declarations::known_ty))]
+pub(crate) fn known(at: usize, of: Ty) -> Checking<Ty>
+    ensures typed { Gives (λ t. t) result (definition.known_ty at of) }
+    ensures same { IfOk result (λ known. known ≡ of) }
+{
+    match of {
+        Ty::Unknown => Err(broken(Rule::UnknownType, at)),
+        _ => Ok(of),
+    }
+}
 
 #[tactic(auto, unfolding(ash_typed::specs::Declarations::class_construction))]
 fn class_construction<'a>(env: &Environment<'a, '_>, place: usize) -> Option<Callee<'a>>

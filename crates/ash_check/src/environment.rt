@@ -7,6 +7,7 @@ ghost use Rattle.ash_registry.specs.Calls.{call_of};
 ghost use Rattle.ash_typed.specs.Environment as environment;
 ghost use Rattle.ash_check.specs.Views.{declared_of, function_of, class_of, environment_of, placed_type, placed_function, placed_class, known_of, callee_of, parameters_of, invoked_of};
 
+pub(crate) use crate::tables::Heads;
 use crate::types::ty_of;
 use ash_registry::{Call, Registry};
 use ash_tree::Primitive;
@@ -35,14 +36,6 @@ pub(crate) struct Class<'a> {
     pub(crate) fields: Vec<Declared<'a>>,
     pub(crate) methods: Vec<Function<'a>>,
     pub(crate) parameters: Vec<Ty>,
-}
-
-/// What a module declares.
-#[derive(Drop)]
-pub(crate) struct Heads<'a> {
-    pub(crate) classes: Vec<Class<'a>>,
-    pub(crate) functions: Vec<Function<'a>>,
-    pub(crate) globals: Vec<Declared<'a>>,
 }
 
 /// What an expression sees. The names in it are those of the script.
@@ -118,21 +111,6 @@ pub(crate) fn first_function<'a, 'n>(
     None
 }
 
-/// The first class of this name, with its place.
-pub(crate) fn first_class<'a, 'n>(
-    all: &'a [Class<'n>],
-    name: &str,
-) -> Option<(usize, &'a Class<'n>)>
-    ensures { option_map placed_class result ≡ environment.first_from (environment.is_class name.now) 0 (map class_of all.now) }
-{
-    for (i, class) in all.iter().enumerate() {
-        if name == class.name {
-            return Some((i, class));
-        }
-    }
-    None
-}
-
 /// The type of what a registered operation gives.
 fn gives(primitive: Option<Primitive>) -> Ty
     ensures { result ≡ environment.result_of primitive }
@@ -160,18 +138,18 @@ fn local_of(locals: &[Declared], name: &str) -> Option<(Expr, Ty)>
 }
 
 /// A global, with its type.
-fn global_of(globals: &[Declared], name: &str) -> Option<(Expr, Ty)>
-    ensures { option_map known_of result ≡ environment.global_in (map declared_of globals.now) name.now }
+fn global_of(heads: &Heads, name: &str) -> Option<(Expr, Ty)>
+    ensures { option_map known_of result ≡ environment.global_in (map declared_of heads.now.globals.items) name.now }
 {
-    let (place, of) = first_declared(globals, name)?;
+    let (place, of) = heads.global(name)?;
     Some((Expr::Variable(Variable::Global(place)), of))
 }
 
 /// A function of the module, as it is called.
-fn function_called<'a>(functions: &'a [Function<'_>], name: &str) -> Option<Callee<'a>>
-    ensures { option_map callee_of result ≡ environment.function_in (map function_of functions.now) name.now }
+fn function_called<'a>(heads: &'a Heads<'_>, name: &str) -> Option<Callee<'a>>
+    ensures { option_map callee_of result ≡ environment.function_in (map function_of heads.now.functions.items) name.now }
 {
-    let (place, function) = first_function(functions, name)?;
+    let (place, function) = heads.function(name)?;
     Some(Callee {
         target: Target::Function(place),
         result: function.result,
@@ -180,10 +158,10 @@ fn function_called<'a>(functions: &'a [Function<'_>], name: &str) -> Option<Call
 }
 
 /// A class, as it is constructed.
-fn class_called<'a>(classes: &'a [Class<'_>], name: &str) -> Option<Callee<'a>>
-    ensures { option_map callee_of result ≡ environment.class_in (map class_of classes.now) name.now }
+fn class_called<'a>(heads: &'a Heads<'_>, name: &str) -> Option<Callee<'a>>
+    ensures { option_map callee_of result ≡ environment.class_in (map class_of heads.now.classes.items) name.now }
 {
-    let (place, class) = first_class(classes, name)?;
+    let (place, class) = heads.class(name)?;
     Some(Callee {
         target: Target::Class(place),
         result: Ty::Handle(ObjectType::Class(place)),
@@ -306,7 +284,7 @@ impl<'a, 'n> Environment<'a, 'n> {
         if let Some(field) = self.own_field(alloc, name)? {
             return Ok(Some(field));
         }
-        Ok(global_of(&self.heads.globals, name))
+        Ok(global_of(self.heads, name))
     }
 
     /// A method of the object that runs, as it is called.
@@ -353,7 +331,7 @@ impl<'a, 'n> Environment<'a, 'n> {
         if let Some(method) = self.own_method(name) {
             return Some(method);
         }
-        if let Some(function) = function_called(&self.heads.functions, name) {
+        if let Some(function) = function_called(self.heads, name) {
             return Some(function);
         }
         self.callee_beside(name)
@@ -368,7 +346,7 @@ impl<'a, 'n> Environment<'a, 'n> {
         {
             return Some(function);
         }
-        if let Some(class) = class_called(&self.heads.classes, name) {
+        if let Some(class) = class_called(self.heads, name) {
             return Some(class);
         }
         self.host_type(registered?)

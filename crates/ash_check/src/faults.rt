@@ -2,8 +2,9 @@
 
 ghost use Rattle.std.specs.Prelude.{◌≡◌};
 ghost use Rattle.ash_check.specs.declared.faults.CheckFault.TheVariants.{NoMemory};
-ghost use Rattle.ash_check.specs.Told.{told};
+ghost use Rattle.ash_check.specs.Told.{told, stopped};
 
+use crate::stop::Stop;
 use ash_typed::{Fault, Rule};
 use std::alloc::{AllocError, AllocFailed};
 use std::fmt;
@@ -85,6 +86,17 @@ impl<T: Drop> From<AllocFailed<T>> for CheckFault {
 
     fn from(_error: AllocFailed<T>) -> CheckFault {
         CheckFault::NoMemory
+    }
+}
+
+impl From<Stop> for CheckFault {
+    ghost from_gives = { λ stop fault. fault ≡ stopped stop };
+
+    fn from(stop: Stop) -> CheckFault {
+        match stop {
+            Stop::Fault(fault) => CheckFault::told(fault),
+            Stop::NoMemory => CheckFault::NoMemory,
+        }
     }
 }
 

@@ -6,7 +6,7 @@ ghost use Rattle.ash_tree.specs.Views.{type_of, vars_of, parameter_of, function_
 ghost use Rattle.ash_typed.specs.Heads as definition;
 ghost use Rattle.ash_check.specs.Views.{declared_of, function_of, class_of, heads_of};
 
-use crate::environment::{Class, Declared, Function, Heads, first_class};
+use crate::environment::{Class, Declared, Function, Heads};
 use crate::types::ty_of;
 use ash_registry::{Call, Registry};
 use ash_tree::{Item, Member, Module, Parameter, Type, TypeKind, Vars};
@@ -15,10 +15,10 @@ use std::alloc::{AllocError, Global};
 
 /// A type of objects, by its name: a class of the module, else a registered type.
 #[tactic(auto, unfolding(ash_typed::specs::Heads::object_named))]
-fn object_named(registry: &Registry, classes: &[Class], name: &str) -> Option<ObjectType>
-    ensures { result ≡ definition.object_named (registered registry.now) (map class_of classes.now) name.now }
+fn object_named(registry: &Registry, named: &Heads, name: &str) -> Option<ObjectType>
+    ensures { result ≡ definition.object_named (registered registry.now) (map class_of named.now.classes.items) name.now }
 {
-    if let Some((place, _)) = first_class(classes, name) {
+    if let Some((place, _)) = named.class(name) {
         return Some(ObjectType::Class(place));
     }
     match registry.named(name)? {
@@ -29,16 +29,16 @@ fn object_named(registry: &Registry, classes: &[Class], name: &str) -> Option<Ob
 
 /// The type that is written.
 #[tactic(auto, unfolding(ash_typed::specs::Heads::ty_named))]
-pub(crate) fn ty_named(registry: &Registry, classes: &[Class], of: &Type) -> Ty
-    ensures { result ≡ definition.ty_named (registered registry.now) (map class_of classes.now) (type_of of.now) }
+pub(crate) fn ty_named(registry: &Registry, named: &Heads, of: &Type) -> Ty
+    ensures { result ≡ definition.ty_named (registered registry.now) (map class_of named.now.classes.items) (type_of of.now) }
 {
     match &of.kind {
         TypeKind::Primitive(primitive) => ty_of(*primitive),
-        TypeKind::Object(name) => match object_named(registry, classes, name.as_str()) {
+        TypeKind::Object(name) => match object_named(registry, named, name.as_str()) {
             Some(object) => Ty::Object(object),
             None => Ty::Unknown,
         },
-        TypeKind::Handle(name) => match object_named(registry, classes, name.as_str()) {
+        TypeKind::Handle(name) => match object_named(registry, named, name.as_str()) {
             Some(object) => Ty::Handle(object),
             None => Ty::Unknown,
         },
@@ -46,26 +46,26 @@ pub(crate) fn ty_named(registry: &Registry, classes: &[Class], of: &Type) -> Ty
 }
 
 /// What a function gives.
-pub(crate) fn result_named(registry: &Registry, classes: &[Class], of: &Option<Type>) -> Ty
-    ensures { result ≡ definition.result_named (registered registry.now) (map class_of classes.now) (option_map type_of of.now) }
+pub(crate) fn result_named(registry: &Registry, named: &Heads, of: &Option<Type>) -> Ty
+    ensures { result ≡ definition.result_named (registered registry.now) (map class_of named.now.classes.items) (option_map type_of of.now) }
 {
     match of {
         None => Ty::Void,
-        Some(of) => ty_named(registry, classes, of),
+        Some(of) => ty_named(registry, named, of),
     }
 }
 
 fn parameter_types(
     alloc: Global,
     registry: &Registry,
-    classes: &[Class],
+    named: &Heads,
     parameters: &[Parameter],
 ) -> Result<Vec<Ty>, AllocError>
-    ensures { IfOk result (λ types. types.items ≡ map (definition.parameter_ty (registered registry.now) (map class_of classes.now)) (map parameter_of parameters.now)) }
+    ensures { IfOk result (λ types. types.items ≡ map (definition.parameter_ty (registered registry.now) (map class_of named.now.classes.items)) (map parameter_of parameters.now)) }
 {
     let mut types = Vec::new(alloc);
     for parameter in parameters {
-        types.push(ty_named(registry, classes, &parameter.of))?;
+        types.push(ty_named(registry, named, &parameter.of))?;
     }
     Ok(types)
 }
@@ -73,15 +73,15 @@ fn parameter_types(
 fn function_head<'a>(
     alloc: Global,
     registry: &Registry,
-    classes: &[Class],
+    named: &Heads,
     function: &'a ash_tree::Function,
 ) -> Result<Function<'a>, AllocError>
-    ensures { IfOk result (λ f. function_of f ≡ definition.function_head (registered registry.now) (map class_of classes.now) (written_function function.now)) }
+    ensures { IfOk result (λ f. function_of f ≡ definition.function_head (registered registry.now) (map class_of named.now.classes.items) (written_function function.now)) }
 {
-    let parameters = parameter_types(alloc, registry, classes, &function.parameters)?;
+    let parameters = parameter_types(alloc, registry, named, &function.parameters)?;
     Ok(Function {
         name: function.name.as_str(),
-        result: result_named(registry, classes, &function.result),
+        result: result_named(registry, named, &function.result),
         parameters,
     })
 }
@@ -89,13 +89,13 @@ fn function_head<'a>(
 /// Adds what is declared to these variables.
 fn declare<'a>(
     registry: &Registry,
-    classes: &[Class],
+    named: &Heads,
     vars: &'a Vars,
     variables: &mut Vec<Declared<'a>>,
 ) -> Result<(), AllocError>
-    ensures { OnOk result (map declared_of variables.new.items ≡ map declared_of variables.old.items ++ definition.variables (registered registry.now) (map class_of classes.now) (vars_of vars.now)) }
+    ensures { OnOk result (map declared_of variables.new.items ≡ map declared_of variables.old.items ++ definition.variables (registered registry.now) (map class_of named.now.classes.items) (vars_of vars.now)) }
 {
-    let of = ty_named(registry, classes, &vars.of);
+    let of = ty_named(registry, named, &vars.of);
     for decl in &vars.decls {
         variables.push(Declared {
             name: decl.name.as_str(),
@@ -108,15 +108,15 @@ fn declare<'a>(
 fn fields<'a>(
     alloc: Global,
     registry: &Registry,
-    classes: &[Class],
+    named: &Heads,
     members: &'a [Member],
 ) -> Result<Vec<Declared<'a>>, AllocError>
-    ensures { IfOk result (λ all. map declared_of all.items ≡ definition.fields_in (registered registry.now) (map class_of classes.now) (map member_of members.now)) }
+    ensures { IfOk result (λ all. map declared_of all.items ≡ definition.fields_in (registered registry.now) (map class_of named.now.classes.items) (map member_of members.now)) }
 {
     let mut all = Vec::new(alloc);
     for member in members {
         if let Member::Vars(vars) = member {
-            declare(registry, classes, vars, &mut all)?;
+            declare(registry, named, vars, &mut all)?;
         }
     }
     Ok(all)
@@ -125,15 +125,15 @@ fn fields<'a>(
 fn methods<'a>(
     alloc: Global,
     registry: &Registry,
-    classes: &[Class],
+    named: &Heads,
     members: &'a [Member],
 ) -> Result<Vec<Function<'a>>, AllocError>
-    ensures { IfOk result (λ all. map function_of all.items ≡ definition.methods_in (registered registry.now) (map class_of classes.now) (map member_of members.now)) }
+    ensures { IfOk result (λ all. map function_of all.items ≡ definition.methods_in (registered registry.now) (map class_of named.now.classes.items) (map member_of members.now)) }
 {
     let mut all = Vec::new(alloc);
     for member in members {
         if let Member::Function(function) = member {
-            all.push(function_head(alloc, registry, classes, function)?)?;
+            all.push(function_head(alloc, registry, named, function)?)?;
         }
     }
     Ok(all)
@@ -143,14 +143,14 @@ fn methods<'a>(
 fn construction(
     alloc: Global,
     registry: &Registry,
-    classes: &[Class],
+    named: &Heads,
     members: &[Member],
 ) -> Result<Vec<Ty>, AllocError>
-    ensures { IfOk result (λ types. types.items ≡ definition.construction_in (registered registry.now) (map class_of classes.now) (map member_of members.now)) }
+    ensures { IfOk result (λ types. types.items ≡ definition.construction_in (registered registry.now) (map class_of named.now.classes.items) (map member_of members.now)) }
 {
     for member in members {
         if let Member::Constructor(constructor) = member {
-            return parameter_types(alloc, registry, classes, &constructor.parameters);
+            return parameter_types(alloc, registry, named, &constructor.parameters);
         }
     }
     Ok(Vec::new(alloc))
@@ -159,14 +159,14 @@ fn construction(
 fn class_head<'a>(
     alloc: Global,
     registry: &Registry,
-    classes: &[Class],
+    named: &Heads,
     class: &'a ash_tree::Class,
 ) -> Result<Class<'a>, AllocError>
-    ensures { IfOk result (λ c. class_of c ≡ definition.class_head (registered registry.now) (map class_of classes.now) (written_class class.now)) }
+    ensures { IfOk result (λ c. class_of c ≡ definition.class_head (registered registry.now) (map class_of named.now.classes.items) (written_class class.now)) }
 {
-    let fields = fields(alloc, registry, classes, &class.members)?;
-    let methods = methods(alloc, registry, classes, &class.members)?;
-    let parameters = construction(alloc, registry, classes, &class.members)?;
+    let fields = fields(alloc, registry, named, &class.members)?;
+    let methods = methods(alloc, registry, named, &class.members)?;
+    let parameters = construction(alloc, registry, named, &class.members)?;
     Ok(Class {
         name: class.name.as_str(),
         fields,
@@ -196,15 +196,15 @@ fn named_classes(alloc: Global, items: &[Item]) -> Result<Vec<Class<'_>>, AllocE
 fn classes_of<'a>(
     alloc: Global,
     registry: &Registry,
-    classes: &[Class],
+    named: &Heads,
     items: &'a [Item],
 ) -> Result<Vec<Class<'a>>, AllocError>
-    ensures { IfOk result (λ all. map class_of all.items ≡ definition.classes_in (registered registry.now) (map class_of classes.now) (map item_of items.now)) }
+    ensures { IfOk result (λ all. map class_of all.items ≡ definition.classes_in (registered registry.now) (map class_of named.now.classes.items) (map item_of items.now)) }
 {
     let mut all = Vec::new(alloc);
     for item in items {
         if let Item::Class(class) = item {
-            all.push(class_head(alloc, registry, classes, class)?)?;
+            all.push(class_head(alloc, registry, named, class)?)?;
         }
     }
     Ok(all)
@@ -213,15 +213,15 @@ fn classes_of<'a>(
 fn functions_of<'a>(
     alloc: Global,
     registry: &Registry,
-    classes: &[Class],
+    named: &Heads,
     items: &'a [Item],
 ) -> Result<Vec<Function<'a>>, AllocError>
-    ensures { IfOk result (λ all. map function_of all.items ≡ definition.functions_in (registered registry.now) (map class_of classes.now) (map item_of items.now)) }
+    ensures { IfOk result (λ all. map function_of all.items ≡ definition.functions_in (registered registry.now) (map class_of named.now.classes.items) (map item_of items.now)) }
 {
     let mut all = Vec::new(alloc);
     for item in items {
         if let Item::Function(function) = item {
-            all.push(function_head(alloc, registry, classes, function)?)?;
+            all.push(function_head(alloc, registry, named, function)?)?;
         }
     }
     Ok(all)
@@ -230,18 +230,43 @@ fn functions_of<'a>(
 fn globals_of<'a>(
     alloc: Global,
     registry: &Registry,
-    classes: &[Class],
+    named: &Heads,
     items: &'a [Item],
 ) -> Result<Vec<Declared<'a>>, AllocError>
-    ensures { IfOk result (λ all. map declared_of all.items ≡ definition.globals_in (registered registry.now) (map class_of classes.now) (map item_of items.now)) }
+    ensures { IfOk result (λ all. map declared_of all.items ≡ definition.globals_in (registered registry.now) (map class_of named.now.classes.items) (map item_of items.now)) }
 {
     let mut all = Vec::new(alloc);
     for item in items {
         if let Item::Vars(vars) = item {
-            declare(registry, classes, vars, &mut all)?;
+            declare(registry, named, vars, &mut all)?;
         }
     }
     Ok(all)
+}
+
+/// What types name: the classes by their names alone.
+fn named<'a>(alloc: Global, items: &'a [Item]) -> Result<Heads<'a>, AllocError>
+    ensures { IfOk result (λ h. map class_of h.classes.items ≡ definition.named_classes (map item_of items.now)) }
+{
+    let classes = named_classes(alloc, items)?;
+    let heads = Heads::new(alloc, classes, Vec::new(alloc), Vec::new(alloc))?;
+    Ok(heads)
+}
+
+/// What a module declares, where these classes are what types name.
+fn heads_by<'a>(
+    alloc: Global,
+    registry: &Registry,
+    named: &Heads,
+    items: &'a [Item],
+) -> Result<Heads<'a>, AllocError>
+    ensures { IfOk result (λ h. heads_of h ≡ definition.heads_by (registered registry.now) (map class_of named.now.classes.items) (map item_of items.now)) }
+{
+    let classes = classes_of(alloc, registry, named, items)?;
+    let functions = functions_of(alloc, registry, named, items)?;
+    let globals = globals_of(alloc, registry, named, items)?;
+    let heads = Heads::new(alloc, classes, functions, globals)?;
+    Ok(heads)
 }
 
 /// What a module declares.
@@ -253,14 +278,6 @@ pub(crate) fn heads<'a>(
 ) -> Result<Heads<'a>, AllocError>
     ensures { IfOk result (λ h. heads_of h ≡ definition.heads (registered registry.now) (module_of declared.now)) }
 {
-    let items = declared.items.as_slice();
-    let named = named_classes(alloc, items)?;
-    let classes = classes_of(alloc, registry, &named, items)?;
-    let functions = functions_of(alloc, registry, &named, items)?;
-    let globals = globals_of(alloc, registry, &named, items)?;
-    Ok(Heads {
-        classes,
-        functions,
-        globals,
-    })
+    let named = named(alloc, &declared.items)?;
+    heads_by(alloc, registry, &named, &declared.items)
 }

@@ -1,11 +1,8 @@
 //! The walk over a module's items: its types and names, and its bodies in their turn.
 
 ghost use Rattle.std.specs.Prelude.{◌≡◌, [], map, option_map, IfOk};
-ghost use Rattle.std.specs.List.{list_any};
 ghost use Rattle.ash_registry.specs.Registered.{registered};
-ghost use Rattle.ash_tree.specs.Tree.{place_of_type};
 ghost use Rattle.ash_tree.specs.Views.{type_of, vars_of, parameter_of, member_of, class_of as written_class, function_of as written_function, constructor_of, item_of, module_of as written_module};
-ghost use Rattle.ash_typed.specs.Environment.{declares};
 ghost use Rattle.ash_typed.specs.Items as definition;
 ghost use Rattle.ash_typed.specs.Modules.{function_of, class_of, module_of};
 ghost use Rattle.ash_check.specs.Gives.{Gives};
@@ -13,15 +10,17 @@ ghost use Rattle.ash_check.specs.Views.{declared_of, environment_of, heads_of};
 ghost use Rattle.ash_check.specs.WalkViews.{names_of, routine_of, row_of, members_of, walked_of};
 
 use crate::bodies::{body_returns, body_typed};
-use crate::declarations::decl_typed;
+use crate::declarations::{decl_typed, known, place_of, ty_in};
 use crate::environment::{Declared, Environment, Heads};
-use crate::heads::{heads, ty_named};
+use crate::heads::heads;
 use crate::names::Names;
+use crate::scopes::any_declares;
 use crate::stop::{Checking, broken};
 use crate::types::is_void;
 use ash_registry::Registry;
 use ash_tree::{Constructor, Item, Member, Parameter, Place, Stmt, Type, Vars};
 use ash_typed::{Class, Function, Module, Rule, Ty, Variables};
+use indexmap::IndexSet;
 use std::alloc::{AllocError, Global};
 
 /// A function, a method or a constructor, as it is written behind its result.
@@ -31,30 +30,6 @@ pub(crate) struct Routine<'a> {
     pub(crate) name: &'a str,
     pub(crate) parameters: &'a [Parameter],
     pub(crate) body: &'a [Stmt],
-}
-
-#[tactic(auto, using(ash_tree::proofs::Rows::type_place_is))]
-fn place_of(of: &Type) -> Place
-    ensures { result ≡ place_of_type (type_of of.now) }
-{
-    of.place
-}
-
-fn ty_in(env: &Environment, of: &Type) -> Ty
-    ensures { result ≡ definition.ty_in (environment_of env.now) (type_of of.now) }
-{
-    ty_named(env.registry, &env.heads.classes, of)
-}
-
-/// The type of variables, which has to be known.
-#[tactic(auto, unfolding(ash_typed::specs::Items::known_ty))]
-fn known(at: usize, of: Ty) -> Checking<Ty>
-    ensures { Gives (λ t. t) result (definition.known_ty at of) }
-{
-    match of {
-        Ty::Unknown => Err(broken(Rule::UnknownType, at)),
-        _ => Ok(of),
-    }
 }
 
 /// The type of a parameter or of a result: objects are passed by handles.
@@ -102,17 +77,6 @@ fn vars_typed<'a>(
         variables.initializations.push(value)?;
     }
     Ok(variables)
-}
-
-fn any_declares(all: &[Declared], name: &str) -> bool
-    ensures { result ≡ list_any (declares name.now) (map declared_of all.now) }
-{
-    for declared in all {
-        if name == declared.name {
-            return true;
-        }
-    }
-    false
 }
 
 fn parameters_typed<'a>(
@@ -249,7 +213,7 @@ fn class_typed<'a>(
     };
     let mut names = Names {
         registry: None,
-        taken: Vec::new(alloc),
+        taken: IndexSet::new(alloc),
         room: 32,
     };
     let mut typed = Class {
@@ -325,7 +289,7 @@ fn items_typed<'a>(
     };
     let mut names = Names {
         registry: Some(registry),
-        taken: Vec::new(alloc),
+        taken: IndexSet::new(alloc),
         room: 256,
     };
     let mut typed = Module {

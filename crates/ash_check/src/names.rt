@@ -1,6 +1,6 @@
 //! Names that are taken, and how many more there may be.
 
-ghost use Rattle.std.specs.Prelude.{◌≡◌, map};
+ghost use Rattle.std.specs.Prelude.{◌≡◌, false, [], ◌∷◌, ◌++◌, OnOk};
 ghost use Rattle.std.specs.List.{list_any};
 ghost use Rattle.std.specs.Str.{bytes_eq};
 ghost use Rattle.ash_typed.specs.Items as definition;
@@ -10,26 +10,32 @@ ghost use Rattle.ash_check.specs.WalkViews.{texts, names_of};
 use crate::stop::{Checking, broken};
 use ash_registry::Registry;
 use ash_typed::Rule;
+use indexmap::IndexSet;
+use std::alloc::AllocError;
 
 /// The names of a module that are taken: those that are registered, and those of the items before; or those of the
 /// members of a class.
 #[derive(Drop)]
 pub(crate) struct Names<'a> {
     pub(crate) registry: Option<&'a Registry>,
-    pub(crate) taken: Vec<&'a str>,
+    pub(crate) taken: IndexSet<&'a str>,
     /// How many more variables of a module, or members of a class, there may be.
     pub(crate) room: usize,
 }
 
-fn any_is(names: &[&str], name: &str) -> bool
-    ensures { result ≡ list_any (bytes_eq name.now) (texts names.now) }
+fn any_is(names: &IndexSet<&str>, name: &str) -> bool
+    ensures { result ≡ list_any (bytes_eq name.now) (texts names.now.keys) }
 {
-    for taken in names {
-        if name == *taken {
-            return true;
-        }
-    }
-    false
+    names.contains(name)
+}
+
+/// Adds a name that is not among them.
+fn add<'a>(names: &mut IndexSet<&'a str>, name: &'a str) -> Result<(), AllocError>
+    requires { list_any (bytes_eq name.now) (texts names.old.keys) ≡ false }
+    ensures { OnOk result (texts names.new.keys ≡ texts names.old.keys ++ name.now ∷ []) }
+{
+    names.insert(name)?;
+    Ok(())
 }
 
 impl<'a> Names<'a> {
@@ -51,7 +57,7 @@ impl<'a> Names<'a> {
         if self.is_taken(name) {
             return Err(broken(Rule::NameTaken, at));
         }
-        self.taken.push(name)?;
+        add(&mut self.taken, name)?;
         Ok(())
     }
 

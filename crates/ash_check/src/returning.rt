@@ -66,7 +66,7 @@ fn has_default(labels: &[Case]) -> bool
 
 /// Whether a statement returns.
 #[cycle(returning)]
-pub fn returns(stmt: &Stmt) -> bool
+pub(crate) fn returns(stmt: &Stmt) -> bool
     ensures { IsTrue result ↔ Returns (stmt_of stmt.now) }
 {
     match &stmt.kind {
@@ -86,7 +86,7 @@ pub fn returns(stmt: &Stmt) -> bool
 
 /// Whether one of the statements of a body returns.
 #[cycle(returning)]
-pub fn any_returns(body: &[Stmt]) -> bool
+pub(crate) fn any_returns(body: &[Stmt]) -> bool
     ensures { IsTrue result ↔ ReturnsIn (stmts (map stmt_of body.now)) }
 {
     for stmt in body {

@@ -6,6 +6,7 @@ use Rattle.ash_check.specs.Marking.{rows_of, Goes}
 use Rattle.ash_check.specs.References.{Refers, classes_of, seen}
 use Rattle.ash_check.proofs.ReferenceLaws.{length-seen}
 use Rattle.ash_check.proofs.ToldLaws.{same_rows, rows_within, same_ranks, same_acyclic, same_told, only_told, in_ok, in_err, on_ok}
+use Rattle.ash_check.proofs.ToldSearches.{some_if_told, none_if_acyclic}
 use Rattle.ash_check.proofs.acyclic.class_ranks.Goals as goal
 
 pub ranks-requires : goal.ranks-requires
@@ -45,3 +46,19 @@ returns-clause-only c =
     let e : seen c.deref-2.result.now ≡ all = ap seen c.deref-2.ensures.value ∙ c.in_ok-classes.ensures ∙ ap (λ (xs : List code_item.Item). classes_of (map item_of xs)) c.deref.ensures.value in
     let same : (from to : ℕ) → R from to ↔ Refers all from to = same_rows c.in_ok-referrers.referrers.items c.deref-3.result.now (seen c.deref-2.result.now) all c.deref-3.ensures.value e c.in_ok-referrers.ensures.rows in
     in_ok c.ranks.result _ _ (λ answer. in_err answer _ _ (λ cycle h. only_told (Refers all) cycle.first cycle.others.items (same_told R (Refers all) cycle.first cycle.others.items same h))) c.ranks.ensures.cycle
+
+pub returns-clause-none : goal.returns-clause-none
+returns-clause-none c =
+    let all = classes_of (module_of c.args.script.now) in
+    let R = Goes (rows_of c.deref-3.result.now) in
+    let e : seen c.deref-2.result.now ≡ all = ap seen c.deref-2.ensures.value ∙ c.in_ok-classes.ensures ∙ ap (λ (xs : List code_item.Item). classes_of (map item_of xs)) c.deref.ensures.value in
+    let same : (from to : ℕ) → R from to ↔ Refers all from to = same_rows c.in_ok-referrers.referrers.items c.deref-3.result.now (seen c.deref-2.result.now) all c.deref-3.ensures.value e c.in_ok-referrers.ensures.rows in
+    in_ok c.ranks.result _ _ (λ answer. on_ok answer _ _ (λ h. none_if_acyclic all (same_acyclic R (Refers all) same h))) c.ranks.ensures.acyclic
+
+pub returns-clause-told : goal.returns-clause-told
+returns-clause-told c =
+    let all = classes_of (module_of c.args.script.now) in
+    let R = Goes (rows_of c.deref-3.result.now) in
+    let e : seen c.deref-2.result.now ≡ all = ap seen c.deref-2.ensures.value ∙ c.in_ok-classes.ensures ∙ ap (λ (xs : List code_item.Item). classes_of (map item_of xs)) c.deref.ensures.value in
+    let same : (from to : ℕ) → R from to ↔ Refers all from to = same_rows c.in_ok-referrers.referrers.items c.deref-3.result.now (seen c.deref-2.result.now) all c.deref-3.ensures.value e c.in_ok-referrers.ensures.rows in
+    in_ok c.ranks.result _ _ (λ answer. in_err answer _ _ (λ cycle h. some_if_told all cycle.first cycle.others.items (same_told R (Refers all) cycle.first cycle.others.items same h))) c.ranks.ensures.cycle

@@ -6,4 +6,4 @@ use Rattle.ash_check.specs.Views.{class_of}
 use Rattle.ash_check.proofs.heads.construction.Given as goal
 
 abbrev pub invariant-loop-member : goal.invariant-loop-member
-invariant-loop-member l = construction_in (registered l.registry) (map class_of l.classes) (map member_of (drop l.member-index l.members)) ≡ construction_in (registered l.registry) (map class_of l.classes) (map member_of l.members)
+invariant-loop-member l = construction_in (registered l.registry) (map class_of l.named.classes.items) (map member_of (drop l.member-index l.members)) ≡ construction_in (registered l.registry) (map class_of l.named.classes.items) (map member_of l.members)

@@ -6,4 +6,4 @@ use Rattle.ash_check.specs.Views.{declared_of, class_of}
 use Rattle.ash_check.proofs.heads.fields.Given as goal
 
 abbrev pub invariant-loop-member : goal.invariant-loop-member
-invariant-loop-member l = map declared_of l.all.items ++ fields_in (registered l.registry) (map class_of l.classes) (map member_of (drop l.member-index l.members)) ≡ fields_in (registered l.registry) (map class_of l.classes) (map member_of l.members)
+invariant-loop-member l = map declared_of l.all.items ++ fields_in (registered l.registry) (map class_of l.named.classes.items) (map member_of (drop l.member-index l.members)) ≡ fields_in (registered l.registry) (map class_of l.named.classes.items) (map member_of l.members)

@@ -6,4 +6,4 @@ use Rattle.ash_check.specs.Views.{declared_of, class_of}
 use Rattle.ash_check.proofs.heads.globals_of.Given as goal
 
 abbrev pub invariant-loop-item : goal.invariant-loop-item
-invariant-loop-item l = map declared_of l.all.items ++ globals_in (registered l.registry) (map class_of l.classes) (map item_of (drop l.item-index l.items)) ≡ globals_in (registered l.registry) (map class_of l.classes) (map item_of l.items)
+invariant-loop-item l = map declared_of l.all.items ++ globals_in (registered l.registry) (map class_of l.named.classes.items) (map item_of (drop l.item-index l.items)) ≡ globals_in (registered l.registry) (map class_of l.named.classes.items) (map item_of l.items)

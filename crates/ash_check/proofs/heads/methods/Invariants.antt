@@ -6,4 +6,4 @@ use Rattle.ash_check.specs.Views.{function_of, class_of}
 use Rattle.ash_check.proofs.heads.methods.Given as goal
 
 abbrev pub invariant-loop-member : goal.invariant-loop-member
-invariant-loop-member l = map function_of l.all.items ++ methods_in (registered l.registry) (map class_of l.classes) (map member_of (drop l.member-index l.members)) ≡ methods_in (registered l.registry) (map class_of l.classes) (map member_of l.members)
+invariant-loop-member l = map function_of l.all.items ++ methods_in (registered l.registry) (map class_of l.named.classes.items) (map member_of (drop l.member-index l.members)) ≡ methods_in (registered l.registry) (map class_of l.named.classes.items) (map member_of l.members)

@@ -6,4 +6,4 @@ use Rattle.ash_check.specs.Views.{class_of}
 use Rattle.ash_check.proofs.heads.parameter_types.Given as goal
 
 abbrev pub invariant-loop-parameter : goal.invariant-loop-parameter
-invariant-loop-parameter l = l.types.items ++ map (parameter_ty (registered l.registry) (map class_of l.classes)) (map parameter_of (drop l.parameter-index l.parameters)) ≡ map (parameter_ty (registered l.registry) (map class_of l.classes)) (map parameter_of l.parameters)
+invariant-loop-parameter l = l.types.items ++ map (parameter_ty (registered l.registry) (map class_of l.named.classes.items)) (map parameter_of (drop l.parameter-index l.parameters)) ≡ map (parameter_ty (registered l.registry) (map class_of l.named.classes.items)) (map parameter_of l.parameters)

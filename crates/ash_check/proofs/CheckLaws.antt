@@ -1,0 +1,104 @@
+-- What checking tells, from what its parts tell; and the names on a way round.
+use Rattle.std.proofs.Common.{◌≡◌, ℕ, zero, suc, ◌+◌, ◌<◌, List, [], ◌∷◌, ◌++◌, length, map, drop, get_or, slice_get, Some, None, Result, Ok, Err, IsErrAnd, MatchResult, String, Global, string_bytes, refl, sym, ap, ap₂, ◌∙◌, subst, arith, append_assoc}
+use Rattle.std.proofs.Common.{add-one, drop-cons}
+use Rattle.std.proofs.lemmas.Option.{slice_get_within, get_or_from_slice_get}
+use Rattle.std.proofs.lemmas.List.{map-append}
+use Rattle.std.specs.Option.{option_map_or}
+use Rattle.std.specs.List.{Any, Contains}
+use Rattle.ash_registry.specs.Calls.{Call}
+use Rattle.ash_tree.specs.Tree.{Class, Item}
+use Rattle.ash_typed.specs.declared.fault.Rule.{Rule}
+use Rattle.ash_typed.specs.declared.fault.Rule.TheVariants as rules
+use Rattle.ash_typed.specs.Modules.{Module}
+use Rattle.ash_typed.specs.Items.{module_typed}
+use Rattle.ash_check.specs.declared.faults.CheckFault.{CheckFault}
+use Rattle.ash_check.specs.declared.stop.Stop.{Stop}
+use Rattle.ash_check.specs.declared.stop.Stop.TheVariants as stops
+use Rattle.ash_check.specs.Gives.{Fails}
+use Rattle.ash_check.specs.Told.{told_at, stopped}
+use Rattle.ash_check.specs.Ways.{IsWay}
+use Rattle.ash_check.specs.References.{Holds, Refers, classes_of}
+use Rattle.ash_check.specs.ToldCycle.{told_cycle}
+use Rattle.ash_check.specs.Checks.{Told, Cyclic, name_at, round_of, unless_round, checked_by, checked, broken_at, told_of, IsWhatIsTold, Tells, HoldsNamed, LeadsTo, GoesRound}
+
+-- what is told
+
+rule_is_told : (rule : Rule) (at : ℕ) → told_of (told_at rule at) ≡ broken_at rule at
+rule_is_told rules.UnknownName at = refl
+rule_is_told rules.UnknownType at = refl
+rule_is_told rules.NameTaken at = refl
+rule_is_told rules.TypeMismatch at = refl
+rule_is_told rules.WrongArgumentCount at = refl
+rule_is_told rules.NotAssignable at = refl
+rule_is_told rules.NoReturn at = refl
+rule_is_told rules.Misplaced at = refl
+rule_is_told rules.NoFactory at = refl
+rule_is_told rules.TooMany at = refl
+rule_is_told rules.ConstantOutOfRange at = refl
+rule_is_told rules.DuplicateCase at = refl
+
+-- a fault of the walk is what is told
+pub stop_is_told : (calls : List Call) (items : List Item) (stop : Stop) → Fails stop (module_typed calls items) → Tells (checked calls items) (stopped stop)
+unfolding checked
+stop_is_told calls items (stops.Fault f) fails = subst (λ why. IsWhatIsTold why (checked calls items)) (sym (rule_is_told f.rule f.at)) (ap (checked_by (classes_of items)) fails)
+stop_is_told calls items stops.NoMemory fails = tt
+
+-- and so what is answered
+pub tells_if_err : {T : Type 0} (r : Result T CheckFault) (why : CheckFault) (answer : Result Module Told) (P : T → Type 0) → IsErrAnd r (λ fault. fault ≡ why) → Tells answer why → MatchResult r P (λ fault. Tells answer fault)
+tells_if_err (Ok done) why answer P is tells = absurd is
+tells_if_err (Err fault) why answer P is tells = subst (λ f. Tells answer f) (sym is) tells
+
+-- where every rule is kept and no class reaches itself, the typed module
+pub typed_is_checked : (calls : List Call) (items : List Item) (typed : Module) → module_typed calls items ≡ Ok typed → told_cycle (classes_of items) ≡ None → checked calls items ≡ Ok typed
+unfolding checked
+typed_is_checked calls items typed fine none = ap (checked_by (classes_of items)) fine ∙ ap (λ way. unless_round (classes_of items) way typed) none
+
+-- else the cycle that is told
+pub cycle_is_told : (calls : List Call) (items : List Item) (typed : Module) (first : ℕ) (others : List ℕ) → module_typed calls items ≡ Ok typed → told_cycle (classes_of items) ≡ Some (first, others) → checked calls items ≡ Err (Cyclic (round_of (classes_of items) (first, others)))
+unfolding checked
+cycle_is_told calls items typed first others fine some = ap (checked_by (classes_of items)) fine ∙ ap (λ way. unless_round (classes_of items) way typed) some
+
+-- places of classes
+
+-- what refers, and what is referred to, is a class
+
+pub way_begins_within : (classes : List Class) (from : ℕ) (between : List ℕ) (to : ℕ) → IsWay (Refers classes) from between to → from < length classes
+way_begins_within classes from [] to way = slice_get_within classes from way.2.0 way.2.1
+way_begins_within classes from (next ∷ between) to way = slice_get_within classes from way.0.2.0 way.0.2.1
+
+pub way_is_within : (classes : List Class) (from : ℕ) (between : List ℕ) (to : ℕ) → IsWay (Refers classes) from between to → (k d : ℕ) → k < length between → get_or between k d < length classes
+way_is_within classes from [] to way k d past = absurd (omega arith)
+way_is_within classes from (next ∷ between) to way zero d here = slice_get_within classes next way.0.0 way.0.1
+way_is_within classes from (next ∷ between) to way (suc k) d behind = way_is_within classes next between to way.1 k d (omega (arith, behind))
+
+-- names
+
+pub name_is : (classes : List Class) (place : ℕ) (class : Class) → slice_get classes place ≡ Some class → name_at classes place ≡ class.name
+name_is classes place class at = ap (λ found. option_map_or (λ (c : Class). c.name) found []) at
+
+-- one more name behind those so far
+pub one_more_name : (classes : List Class) (names : List (String Global)) (name : String Global) (places : List ℕ) (i d : ℕ) → i < length places → string_bytes name ≡ name_at classes (get_or places i d) → map string_bytes (names ++ name ∷ []) ++ map (name_at classes) (drop (i + 1) places) ≡ map string_bytes names ++ map (name_at classes) (drop i places)
+one_more_name classes names name places i d within is =
+    let begins : drop i places ≡ get_or places i d ∷ drop (suc i) places = drop-cons places i d within in
+    ap₂ (λ (xs ys : List (List ℕ)). xs ++ ys) (map-append string_bytes names (name ∷ [])) (ap (λ (n : ℕ). map (name_at classes) (drop n places)) (add-one i))
+    ∙ append_assoc (map string_bytes names) (string_bytes name ∷ []) (map (name_at classes) (drop (suc i) places))
+    ∙ ap (λ (n : List ℕ). map string_bytes names ++ n ∷ map (name_at classes) (drop (suc i) places)) is
+    ∙ sym (ap (λ (ns : List ℕ). map string_bytes names ++ map (name_at classes) ns) begins)
+
+-- a way that a reader can follow
+
+is_among : (classes : List Class) (place : ℕ) (class : Class) → slice_get classes place ≡ Some class → Contains classes class
+is_among classes place class at = (place, slice_get_within classes place class at, get_or_from_slice_get classes place class class at)
+
+holds_named : (classes : List Class) (from to : ℕ) → Refers classes from to → HoldsNamed classes (name_at classes from) (name_at classes to)
+holds_named classes from to refers =
+    let other = refers.0 in
+    let one = refers.2.0 in
+    (one, is_among classes from one refers.2.1, sym (name_is classes from one refers.2.1), subst (λ (name : List ℕ). Any (λ member. Holds member name) one.members) (sym (name_is classes to other refers.1)) refers.2.2)
+
+leads_to : (classes : List Class) (from : ℕ) (between : List ℕ) (to : ℕ) → IsWay (Refers classes) from between to → LeadsTo classes (name_at classes from) (map (name_at classes) between) (name_at classes to)
+leads_to classes from [] to way = holds_named classes from to way
+leads_to classes from (next ∷ between) to way = (holds_named classes from next way.0, leads_to classes next between to way.1)
+
+pub goes_round : (classes : List Class) (first : ℕ) (others : List ℕ) → IsWay (Refers classes) first others first → GoesRound classes (round_of classes (first, others))
+goes_round classes first others way = leads_to classes first others first way

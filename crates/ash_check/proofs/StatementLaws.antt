@@ -1,0 +1,234 @@
+-- Statements of a block, each behind those before it, and the locals that go with it.
+use Rattle.std.proofs.Common.{◌≡◌, ℕ, List, [], ◌∷◌, ◌++◌, Ok, Err, refl, sym, subst, ap, ◌∙◌, append_assoc, append-nil, length, take, drop, get_or, map, ◌<◌, ◌≤◌, ◌+◌, suc, add-one, drop-cons, drop_of_length-le, Result, Option, option_map, rules, IfOk}
+use Rattle.std.proofs.lemmas.List.{take_at, take-map, length-map, map-append}
+use Rattle.std.specs.declared.vec.Vec.{Vec}
+use Rattle.std.specs.declared.alloc.Global.{Global}
+use Rattle.ash_tree.specs.declared.tree.places.Place.{Place}
+use Rattle.ash_tree.specs.declared.tree.statements.StmtKind.TheViews as kinds
+use Rattle.ash_tree.specs.declared.tree.statements.Stmt as code_stmt
+use Rattle.ash_tree.specs.declared.tree.statements.Case as code_case
+use Rattle.ash_tree.specs.declared.tree.expressions.Expr as code_expr
+use Rattle.ash_tree.specs.declared.tree.statements.Label.{Label}
+use Rattle.std.specs.declared.boxed.Box.{Box}
+use Rattle.ash_tree.specs.Tree as written
+use Rattle.ash_tree.specs.Views.{stmt_at, stmt_of, case_of, expr_of}
+use Rattle.ash_tree.proofs.Rows.{block_is, switch_is}
+use Rattle.ash_typed.specs.declared.tree.statements.Stmt as typed_stmt
+use Rattle.ash_typed.specs.declared.tree.statements.Case as typed_case
+use Rattle.ash_typed.specs.declared.types.Kind.{Kind}
+use Rattle.ash_typed.specs.BodyViews as typed_views
+use Rattle.ash_typed.specs.Switches.{label_typed}
+use Rattle.ash_typed.specs.Checking.{Checking, ◌>>=◌}
+use Rattle.ash_typed.specs.StatementTree.{Initialization, Stmt, Block, Stmts, no_stmt, stmt, stmts, Case, labelled, Cases, no_case, next_case, cases}
+use Rattle.ash_typed.specs.Environment.{Declared}
+use Rattle.ash_typed.specs.Statements.{Scope, block_of, behind, stmt_typed, stmts_typed, cases_typed, is_last}
+use Rattle.ash_check.specs.declared.environment.Declared as code_declared
+use Rattle.ash_check.specs.declared.stop.Stop.{Stop}
+use Rattle.ash_check.specs.declared.stop.Stop.TheVariants as stops
+use Rattle.ash_check.specs.Gives.{Fails}
+use Rattle.ash_check.specs.Views.{declared_of}
+use Rattle.ash_check.proofs.ReturnLaws.{case_is}
+
+-- what was made before, with what is made of the rest
+
+abbrev pub values_after : List Initialization → Checking (List Initialization) → Checking (List Initialization)
+values_after done r = r >>= λ values. Ok (done ++ values)
+
+abbrev pub stmts_before : List Stmt → Stmts → Stmts
+stmts_before [] ss = ss
+stmts_before (s ∷ done) ss = stmt s (stmts_before done ss)
+
+abbrev pub stmts_after : List Stmt → Checking Stmts → Checking Stmts
+stmts_after done r = r >>= λ ss. Ok (stmts_before done ss)
+
+abbrev pub cases_before : List Case → Cases → Cases
+cases_before [] cs = cs
+cases_before (c ∷ done) cs = next_case c (cases_before done cs)
+
+abbrev pub cases_after : List Case → Checking Cases → Checking Cases
+cases_after done r = r >>= λ cs. Ok (cases_before done cs)
+
+pub no_stmt_before : (r : Checking Stmts) → stmts_after [] r ≡ r
+no_stmt_before (Ok ss) = refl
+no_stmt_before (Err f) = refl
+
+before_none : (done : List Stmt) → stmts_before done no_stmt ≡ stmts done
+before_none [] = refl
+before_none (s ∷ done) = ap (stmt s) (before_none done)
+
+pub no_stmt_behind : (done : List Stmt) → stmts_after done (Ok no_stmt) ≡ Ok (stmts done)
+no_stmt_behind done = ap Ok (before_none done)
+
+before_more : (done : List Stmt) (s : Stmt) (ss : Stmts) → stmts_before done (stmt s ss) ≡ stmts_before (done ++ s ∷ []) ss
+before_more [] s ss = refl
+before_more (x ∷ done) s ss = ap (stmt x) (before_more done s ss)
+
+after_more : (done : List Stmt) (s : Stmt) (r : Checking Stmts) → stmts_after done (r >>= λ ss. Ok (stmt s ss)) ≡ stmts_after (done ++ s ∷ []) r
+after_more done s (Ok ss) = ap Ok (before_more done s ss)
+after_more done s (Err f) = refl
+
+-- a statement, and those behind it
+pub next_stmt : (done : List Stmt) (scope next : Scope) (s : written.Stmt) (ss : written.Stmts) (t : Stmt) → stmt_typed scope s ≡ Ok t → next ≡ behind scope s → stmts_after done (stmts_typed scope (written.stmt s ss)) ≡ stmts_after (done ++ t ∷ []) (stmts_typed next ss)
+next_stmt done scope next s ss t h k =
+    ap (λ r. stmts_after done (r >>= λ x. stmts_typed (behind scope s) ss >>= λ xs. Ok (stmt x xs))) h
+    ∙ after_more done t (stmts_typed (behind scope s) ss)
+    ∙ ap (λ x. stmts_after (done ++ t ∷ []) (stmts_typed x ss)) (sym k)
+
+-- locals with others behind them
+
+abbrev pub Extends : List Declared → List Declared → Type 0
+Extends before locals = (more : List Declared) × (locals ≡ before ++ more)
+
+pub extends_itself : (locals : List Declared) → Extends locals locals
+extends_itself locals = ([], sym (append-nil locals))
+
+extends_more : (before locals more : List Declared) → Extends before locals → Extends before (locals ++ more)
+extends_more before locals more h = (h.0 ++ more, ap (λ xs. xs ++ more) h.1 ∙ append_assoc before h.0 more)
+
+extends_behind : (before : List Declared) (scope : Scope) (s : written.Stmt) → Extends before scope.env.locals → Extends before (behind scope s).env.locals
+extends_behind before scope (written.Declare p v) h = extends_more before scope.env.locals _ h
+extends_behind before scope (written.Empty p) h = h
+extends_behind before scope (written.Evaluate p e) h = h
+extends_behind before scope (written.Block p ss) h = h
+extends_behind before scope (written.If p c s) h = h
+extends_behind before scope (written.IfElse p c s t) h = h
+extends_behind before scope (written.While p c s) h = h
+extends_behind before scope (written.DoWhile p s c) h = h
+extends_behind before scope (written.For p f c es s) h = h
+extends_behind before scope (written.Switch p e cs) h = h
+extends_behind before scope (written.Break p) h = h
+extends_behind before scope (written.Continue p) h = h
+extends_behind before scope (written.Return p e) h = h
+
+-- a statement leaves the locals before it
+pub extends_next : (before : List Declared) (scope next : Scope) (s : written.Stmt) → next ≡ behind scope s → Extends before scope.env.locals → Extends before next.env.locals
+extends_next before scope next s k h = subst (λ (x : Scope). Extends before x.env.locals) (sym k) (extends_behind before scope s h)
+
+-- at the end of a block its locals go
+pub locals_go : (old all new : List code_declared.Declared) (kept : ℕ) → kept ≡ length old → new ≡ take kept all → Extends (map declared_of old) (map declared_of all) → map declared_of new ≡ map declared_of old
+locals_go old all new kept k n h =
+    ap (map declared_of) n
+    ∙ sym (take-map declared_of kept all)
+    ∙ ap (take kept) h.1
+    ∙ take_at (map declared_of old) h.0 kept (length-map old declared_of ∙ sym k)
+
+-- blocks and switches, which hold lists
+
+pub block_of_source : (source : code_stmt.Stmt) (ss : Vec code_stmt.Stmt Global) (items : List code_stmt.Stmt) → source.kind ≡ kinds.Block ss → items ≡ ss.items → stmt_of source ≡ written.Block source.place (written.stmts (map stmt_of items))
+block_of_source source ss items is i = ap (stmt_at source.place) is ∙ block_is source.place ss ∙ ap (λ xs. written.Block source.place (written.stmts (map stmt_of xs))) (sym i)
+
+pub switch_of_source : (source : code_stmt.Stmt) (e : code_expr.Expr) (cs : Vec code_case.Case Global) (items : List code_case.Case) → source.kind ≡ kinds.Switch e cs → items ≡ cs.items → stmt_of source ≡ written.Switch source.place (expr_of e) (written.cases (map case_of items))
+switch_of_source source e cs items is i = ap (stmt_at source.place) is ∙ switch_is source.place e cs ∙ ap (λ xs. written.Switch source.place (expr_of e) (written.cases (map case_of xs))) (sym i)
+
+pub block_typed : (scope inner : Scope) (s : written.Stmt) (p : Place) (ss : written.Stmts) (body : Stmts) → s ≡ written.Block p ss → inner ≡ block_of scope → stmts_typed inner ss ≡ Ok body → stmt_typed scope s ≡ Ok (Block p.line body)
+block_typed scope inner s p ss body is k h =
+    ap (stmt_typed scope) is ∙ ap (λ x. stmts_typed x ss >>= λ b. Ok (Block p.line b)) (sym k) ∙ ap (λ r. r >>= λ b. Ok (Block p.line b)) h
+
+pub block_fails : (scope inner : Scope) (s : written.Stmt) (p : Place) (ss : written.Stmts) (e : Stop) → s ≡ written.Block p ss → inner ≡ block_of scope → Fails e (stmts_typed inner ss) → Fails e (stmt_typed scope s)
+block_fails scope inner s p ss (stops.Fault f) is k h =
+    ap (stmt_typed scope) is ∙ ap (λ x. stmts_typed x ss >>= λ b. Ok (Block p.line b)) (sym k) ∙ ap (λ r. r >>= λ b. Ok (Block p.line b)) h
+block_fails scope inner s p ss stops.NoMemory is k h = tt
+
+-- a turn of the walk over a block, and its end
+
+pub block_step : (done new : List typed_stmt.Stmt) (one : typed_stmt.Stmt) (scope next : Scope) (body : List code_stmt.Stmt) (i : ℕ) (s : code_stmt.Stmt) (whole : Checking Stmts) → new ≡ done ++ one ∷ [] → i < length body → s ≡ get_or body i s → stmt_typed scope (stmt_of s) ≡ Ok (typed_views.stmt_of one) → next ≡ behind scope (stmt_of s) → stmts_after (map typed_views.stmt_of done) (stmts_typed scope (written.stmts (map stmt_of (drop i body)))) ≡ whole → stmts_after (map typed_views.stmt_of new) (stmts_typed next (written.stmts (map stmt_of (drop (i + 1) body)))) ≡ whole
+block_step done new one scope next body i s whole n within is h k so =
+    let rest : List code_stmt.Stmt = drop (i + 1) body in
+    let begins : drop i body ≡ s ∷ rest = drop-cons body i s within ∙ ap (λ x. x ∷ drop (suc i) body) (sym is) ∙ ap (λ m. s ∷ drop m body) (sym (add-one i)) in
+    ap (λ xs. stmts_after (map typed_views.stmt_of xs) (stmts_typed next (written.stmts (map stmt_of rest)))) n
+    ∙ ap (λ xs. stmts_after xs (stmts_typed next (written.stmts (map stmt_of rest)))) (map-append typed_views.stmt_of done (one ∷ []))
+    ∙ sym (next_stmt (map typed_views.stmt_of done) scope next (stmt_of s) (written.stmts (map stmt_of rest)) (typed_views.stmt_of one) h k)
+    ∙ ap (λ xs. stmts_after (map typed_views.stmt_of done) (stmts_typed scope (written.stmts (map stmt_of xs)))) (sym begins)
+    ∙ so
+
+pub block_end : (done : List typed_stmt.Stmt) (scope : Scope) (body : List code_stmt.Stmt) (i : ℕ) (whole : Checking Stmts) → length body ≤ i → stmts_after (map typed_views.stmt_of done) (stmts_typed scope (written.stmts (map stmt_of (drop i body)))) ≡ whole → whole ≡ Ok (stmts (map typed_views.stmt_of done))
+block_end done scope body i whole past so =
+    sym so
+    ∙ ap (λ xs. stmts_after (map typed_views.stmt_of done) (stmts_typed scope (written.stmts (map stmt_of xs)))) (drop_of_length-le body past)
+    ∙ no_stmt_behind (map typed_views.stmt_of done)
+
+-- a turn of the walk over the labels of a switch, its faults, and its end
+
+cases_none : (done : List Case) → cases_before done no_case ≡ cases done
+cases_none [] = refl
+cases_none (c ∷ done) = ap (next_case c) (cases_none done)
+
+cases_more : (done : List Case) (c : Case) (cs : Cases) → cases_before done (next_case c cs) ≡ cases_before (done ++ c ∷ []) cs
+cases_more [] c cs = refl
+cases_more (x ∷ done) c cs = ap (next_case x) (cases_more done c cs)
+
+cases_after_more : (done : List Case) (c : Case) (r : Checking Cases) → cases_after done (r >>= λ cs. Ok (next_case c cs)) ≡ cases_after (done ++ c ∷ []) r
+cases_after_more done c (Ok cs) = ap Ok (cases_more done c cs)
+cases_after_more done c (Err f) = refl
+
+abbrev walked : Scope → Option Kind → List Label → List Case → List code_case.Case → Checking Cases
+walked scope kind before done labels = cases_after done (cases_typed scope kind before (written.cases (map case_of labels)))
+
+abbrev first_label : Scope → Option Kind → List Label → List Case → code_case.Case → List code_case.Case → Checking Label → Checking Stmts → Checking Cases
+first_label scope kind before done x rest known body = cases_after done (known >>= λ label. body >>= λ ss. cases_typed scope kind (before ++ (code_case.out-Case x).label ∷ []) (written.cases (map case_of rest)) >>= λ cs. Ok (next_case (labelled label ss) cs))
+
+abbrev known_at : Option Kind → List Label → code_case.Case → List code_case.Case → Checking Label
+known_at kind before x rest = label_typed kind before (is_last (written.cases (map case_of rest))) (code_case.out-Case x).place.at (code_case.out-Case x).label
+
+abbrev body_at : Scope → code_case.Case → Checking Stmts
+body_at scope x = stmts_typed scope (written.stmts (map stmt_of (code_case.out-Case x).body.items))
+
+begins_at : (labels : List code_case.Case) (i : ℕ) (x : code_case.Case) → i < length labels → x ≡ get_or labels i x → drop i labels ≡ x ∷ drop (i + 1) labels
+begins_at labels i x within is = drop-cons labels i x within ∙ ap (λ y. y ∷ drop (suc i) labels) (sym is) ∙ ap (λ m. x ∷ drop m labels) (sym (add-one i))
+
+first_is : (scope : Scope) (kind : Option Kind) (before : List Label) (done : List Case) (labels : List code_case.Case) (i : ℕ) (x : code_case.Case) → i < length labels → x ≡ get_or labels i x → walked scope kind before done (drop i labels) ≡ first_label scope kind before done x (drop (i + 1) labels) (known_at kind before x (drop (i + 1) labels)) (body_at scope x)
+first_is scope kind before done labels i x within is =
+    ap (walked scope kind before done) (begins_at labels i x within is)
+    ∙ ap (λ c. cases_after done (cases_typed scope kind before (written.next_case c (written.cases (map case_of (drop (i + 1) labels)))))) (case_is x)
+
+pub cases_step : (done new : List typed_case.Case) (one : typed_case.Case) (scope next : Scope) (kind : Option Kind) (before more : List Label) (labels : List code_case.Case) (i : ℕ) (x : code_case.Case) (known : Label) (body : Stmts) (whole : Checking Cases) → new ≡ done ++ one ∷ [] → more ≡ before ++ (code_case.out-Case x).label ∷ [] → next ≡ scope → i < length labels → x ≡ get_or labels i x → known_at kind before x (drop (i + 1) labels) ≡ Ok known → body_at scope x ≡ Ok body → typed_views.case_of one ≡ labelled known body → walked scope kind before (map typed_views.case_of done) (drop i labels) ≡ whole → walked next kind more (map typed_views.case_of new) (drop (i + 1) labels) ≡ whole
+cases_step done new one scope next kind before more labels i x known body whole n m same within is h k made so =
+    let rest : List code_case.Case = drop (i + 1) labels in
+    let told : List Case = map typed_views.case_of done in
+    let added : List Label = before ++ (code_case.out-Case x).label ∷ [] in
+    ap (λ y. walked y kind more (map typed_views.case_of new) rest) same
+    ∙ ap (λ y. walked scope kind y (map typed_views.case_of new) rest) m
+    ∙ ap (λ y. walked scope kind added (map typed_views.case_of y) rest) n
+    ∙ ap (λ y. walked scope kind added y rest) (map-append typed_views.case_of done (one ∷ []))
+    ∙ ap (λ y. walked scope kind added (told ++ y ∷ []) rest) made
+    ∙ sym (cases_after_more told (labelled known body) (cases_typed scope kind added (written.cases (map case_of rest))))
+    ∙ sym (ap (first_label scope kind before told x rest (Ok known)) k)
+    ∙ sym (ap (λ y. first_label scope kind before told x rest y (body_at scope x)) h)
+    ∙ sym (first_is scope kind before told labels i x within is)
+    ∙ so
+
+pub label_fails : (done : List typed_case.Case) (scope : Scope) (kind : Option Kind) (before : List Label) (labels : List code_case.Case) (i : ℕ) (x : code_case.Case) (e : Stop) (whole : Checking Cases) → i < length labels → x ≡ get_or labels i x → Fails e (known_at kind before x (drop (i + 1) labels)) → walked scope kind before (map typed_views.case_of done) (drop i labels) ≡ whole → Fails e whole
+label_fails done scope kind before labels i x (stops.Fault f) whole within is h so =
+    sym so
+    ∙ first_is scope kind before (map typed_views.case_of done) labels i x within is
+    ∙ ap (λ y. first_label scope kind before (map typed_views.case_of done) x (drop (i + 1) labels) y (body_at scope x)) h
+label_fails done scope kind before labels i x stops.NoMemory whole within is h so = tt
+
+pub labelled_fails : (done : List typed_case.Case) (scope : Scope) (kind : Option Kind) (before : List Label) (labels : List code_case.Case) (i : ℕ) (x : code_case.Case) (known : Label) (e : Stop) (whole : Checking Cases) → i < length labels → x ≡ get_or labels i x → known_at kind before x (drop (i + 1) labels) ≡ Ok known → Fails e (body_at scope x) → walked scope kind before (map typed_views.case_of done) (drop i labels) ≡ whole → Fails e whole
+labelled_fails done scope kind before labels i x known (stops.Fault f) whole within is h k so =
+    sym so
+    ∙ first_is scope kind before (map typed_views.case_of done) labels i x within is
+    ∙ ap (λ y. first_label scope kind before (map typed_views.case_of done) x (drop (i + 1) labels) y (body_at scope x)) h
+    ∙ ap (first_label scope kind before (map typed_views.case_of done) x (drop (i + 1) labels) (Ok known)) k
+labelled_fails done scope kind before labels i x known stops.NoMemory whole within is h k so = tt
+
+pub cases_end : (done : List typed_case.Case) (scope : Scope) (kind : Option Kind) (before : List Label) (labels : List code_case.Case) (i : ℕ) (whole : Checking Cases) → length labels ≤ i → walked scope kind before (map typed_views.case_of done) (drop i labels) ≡ whole → whole ≡ Ok (cases (map typed_views.case_of done))
+cases_end done scope kind before labels i whole past so =
+    sym so
+    ∙ ap (walked scope kind before (map typed_views.case_of done)) (drop_of_length-le labels past)
+    ∙ ap Ok (cases_none (map typed_views.case_of done))
+
+-- the scope of a block, and what a `for` leaves behind it
+
+abbrev pub at_first : Scope → ℕ → Scope
+at_first scope n = record { env = scope.env; first = n; gives = scope.gives; in_loop = scope.in_loop; in_switch = scope.in_switch }
+
+pub first_is_all : (scope : Scope) (n : ℕ) → n ≡ length scope.env.locals → at_first scope n ≡ block_of scope
+first_is_all scope n h = ap (at_first scope) h
+
+pub for_of_source : (source : code_stmt.Stmt) (f : Box code_stmt.Stmt Global) (c : Option code_expr.Expr) (es : Vec code_expr.Expr Global) (b : Box code_stmt.Stmt Global) → source.kind ≡ kinds.For f c es b → stmt_of source ≡ written.For source.place (stmt_of f.value) (option_map expr_of c) (map expr_of es.items) (stmt_of b.value)
+for_of_source source f c es b is = ap (stmt_at source.place) is ∙ search (rules, kinds.the_lemmas)
+
+pub any_ok : {A E : Type 0} (P : Type 0) (r : Result A E) → P → IfOk r (λ x. P)
+any_ok P (Ok x) p = p
+any_ok P (Err e) p = tt

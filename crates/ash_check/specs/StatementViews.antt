@@ -1,0 +1,36 @@
+-- What the walk over statements stands for.
+use Rattle.std.specs.Prelude.{List, Option, map, option_map}
+use Rattle.std.specs.declared.vec.Vec.{Vec}
+use Rattle.std.specs.declared.alloc.Global.{Global}
+use Rattle.ash_registry.specs.Registered.{registered}
+use Rattle.ash_typed.specs.declared.tree.statements.Stmt as stmt_code
+use Rattle.ash_typed.specs.declared.tree.statements.Case as case_code
+use Rattle.ash_typed.specs.declared.tree.statements.Initialization as initialization_code
+use Rattle.ash_typed.specs.StatementTree.{Initialization, Stmts, Cases, cases}
+use Rattle.ash_typed.specs.BodyViews.{value_of, case_of, body_of}
+use Rattle.ash_typed.specs.Environment.{Declared}
+use Rattle.ash_typed.specs.Expressions.{Typed}
+use Rattle.ash_typed.specs.Statements.{Scope}
+use Rattle.ash_check.specs.declared.environment.Declared as declared
+use Rattle.ash_check.specs.declared.scopes.Scope as scope
+use Rattle.ash_check.specs.declared.typed.Typed as typed
+use Rattle.ash_check.specs.Views.{declared_of, heads_of, typed_of}
+
+abbrev pub locals_of : Vec declared.Declared Global → List Declared
+locals_of locals = map declared_of locals.items
+
+-- what a statement sees, with these locals
+abbrev pub scope_of : scope.Scope → List Declared → Scope
+scope_of s locals = record { env = record { heads = heads_of s.heads.now; registered = registered s.registry.now; this = s.this; locals = locals }; first = s.first; gives = s.gives; in_loop = s.in_loop; in_switch = s.in_switch }
+
+abbrev pub values_of : Vec initialization_code.Initialization Global → List Initialization
+values_of values = map value_of values.items
+
+abbrev pub stmts_in : Vec stmt_code.Stmt Global → Stmts
+stmts_in body = body_of body.items
+
+abbrev pub cases_in : Vec case_code.Case Global → Cases
+cases_in labels = cases (map case_of labels.items)
+
+abbrev pub maybe_typed_of : Option typed.Typed → Option Typed
+maybe_typed_of t = option_map typed_of t

@@ -1,0 +1,55 @@
+-- The cycle that is told of classes, as a reader would look for it: from the first class that leads back to itself, by the first of its shortest ways.
+use Rattle.std.specs.Prelude.{ℕ, zero, suc, Bool, false, List, [], ◌∷◌, length, Option, Some, None, option_map, slice_get, if◌then◌else◌}
+use Rattle.std.specs.Option.{option_or}
+use Rattle.std.specs.List.{list_any}
+use Rattle.std.specs.Str.{bytes_eq}
+use Rattle.ash_tree.specs.Tree.{Named, Prim, Object, Handle, Member, AField, Class}
+
+-- whether one class refers to another
+
+-- the object type of that name, or a handle of it
+abbrev pub is_of : List ℕ → Named → Bool
+is_of name (Prim place kind) = false
+is_of name (Object place text) = bytes_eq text name
+is_of name (Handle place text) = bytes_eq text name
+
+-- a field of that type, or with a handle of it
+abbrev pub is_field_of : List ℕ → Member → Bool
+is_field_of name (AField vars) = is_of name vars.of
+is_field_of name _ = false
+
+-- a member of the one class holds the other
+abbrev pub refers_to : Class → Class → Bool
+refers_to from to = list_any (is_field_of to.name) from.members
+
+abbrev pub refers : Option Class → Option Class → Bool
+refers (Some from) (Some to) = refers_to from to
+refers _ _ = false
+
+-- the class at the one place refers to the class at the other
+abbrev pub refers_at : List Class → ℕ → ℕ → Bool
+refers_at classes from to = refers (slice_get classes from) (slice_get classes to)
+
+-- the search
+
+-- what the first of the numbers below one gives that gives anything
+abbrev pub first_below : {A : Type 0} → (ℕ → Option A) → ℕ → Option A
+first_below given zero = None
+first_below given (suc n) = option_or (first_below given n) (given n)
+
+-- the places in between on the first way with so many of them: from place to place, to the first from which a way goes on
+abbrev pub foremost : (ℕ → ℕ → Bool) → (places count from to : ℕ) → Option (List ℕ)
+foremost goes places zero from to = if goes from to then Some [] else None
+foremost goes places (suc count) from to = first_below (λ next. if goes from next then option_map (λ others. next ∷ others) (foremost goes places count next to) else None) places
+
+-- the first of the shortest ways back to a place: there are fewer places in between than there are places
+abbrev pub shortest_back : (ℕ → ℕ → Bool) → (places place : ℕ) → Option (List ℕ)
+shortest_back goes places place = first_below (λ count. foremost goes places count place place) places
+
+-- the first place from which a way leads back, and those in between
+abbrev pub first_round : (ℕ → ℕ → Bool) → ℕ → Option (ℕ × List ℕ)
+first_round goes places = first_below (λ first. option_map (λ others. (first, others)) (shortest_back goes places first)) places
+
+-- the cycle that is told of classes, by their places; none where no class leads back to itself
+abbrev pub told_cycle : List Class → Option (ℕ × List ℕ)
+told_cycle classes = first_round (refers_at classes) (length classes)

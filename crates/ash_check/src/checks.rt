@@ -1,0 +1,85 @@
+//! The check of a script: its typed module with a rank for each class, or why it is refused.
+
+ghost use Rattle.std.specs.Prelude.{◌≡◌, ◌<◌, ℕ, List, length, map, string_bytes, All, IfOk, IfErr, OnOk, MatchResult};
+ghost use Rattle.ash_registry.specs.Registered.{registered};
+ghost use Rattle.ash_tree.specs.Views.{module_of as written_module};
+ghost use Rattle.ash_typed.specs.Modules.{module_of};
+ghost use Rattle.ash_typed.specs.TypedModules.{IsTyped};
+ghost use Rattle.ash_check.specs.Checks.{checked, Tells, told_of, name_at, round_of, GoesRoundIfCyclic};
+ghost use Rattle.ash_check.specs.References.{Refers, classes_of, seen};
+ghost use Rattle.ash_check.specs.Ways.{Reaches, AreRanks};
+
+use crate::acyclic::class_ranks;
+use crate::cycles::Cycle;
+use crate::faults::{CheckFault, ClassNames};
+use crate::items::module_typed;
+use crate::references::classes;
+use ash_registry::Registry;
+use ash_tree::Class;
+use ash_typed::Module;
+use std::alloc::{AllocError, Global};
+
+/// A script that was checked.
+#[derive(Debug, Drop)]
+pub struct Checked {
+    /// What the script declares, typed.
+    pub module: Module,
+    /// A rank for each class, by its place in `module.classes`: a number below that of the classes, and greater than the
+    /// rank of each class that it has a field of, or a field with a handle of.
+    pub ranks: Vec<usize>,
+}
+
+// The names of the classes at these places.
+fn names_at(alloc: Global, classes: &[&Class], places: &[usize]) -> Result<Vec<String>, AllocError>
+    requires { All (λ place. place < length classes.now) places.now }
+    ensures { IfOk result (λ names. map string_bytes names.items ≡ map (name_at (seen classes.now)) places.now) }
+{
+    let mut names = Vec::new(alloc);
+    for place in places {
+        names.push(classes[*place].name.clone()?)?;
+    }
+    Ok(names)
+}
+
+// The names of the classes on a way round.
+fn round_names(
+    alloc: Global,
+    script: &ash_tree::Module,
+    cycle: &Cycle,
+) -> Result<ClassNames, AllocError>
+    requires first { cycle.now.first < length (classes_of (written_module script.now)) }
+    requires others { All (λ place. place < length (classes_of (written_module script.now))) cycle.now.others.items }
+    ensures { IfOk result (λ names. map string_bytes names.0.items ≡ round_of (classes_of (written_module script.now)) (cycle.now.first, cycle.now.others.items)) }
+{
+    let classes = classes(alloc, &script.items)?;
+    let mut places = Vec::new(alloc);
+    places.push(cycle.first)?;
+    places.extend_from_slice(&cycle.others)?;
+    Ok(ClassNames(names_at(alloc, &classes, &places)?))
+}
+
+/// Checks a script by itself and against what is registered: names, types, where phrases may stand, limits, and that
+/// none of its classes could form a cycle.
+///
+/// # Errors
+///
+/// The first fault in the order of the text: of an item its types and names, then its body; of a phrase its parts, then
+/// the phrase. Its offset is that of a byte of the source. `CheckFault::CyclicType` comes after all others.
+/// `CheckFault::NoMemory` says nothing of the script.
+pub fn check(
+    alloc: Global,
+    registry: &Registry,
+    script: &ash_tree::Module,
+) -> Result<Checked, CheckFault>
+    ensures answer { MatchResult result (λ done. checked (registered registry.now) (written_module script.now) ≡ Ok (module_of done.module)) (λ fault. Tells (checked (registered registry.now) (written_module script.now)) fault) }
+    ensures typed { IfOk result (λ done. IsTyped (registered registry.now) (written_module script.now) (module_of done.module)) }
+    ensures ranks { IfOk result (λ done. AreRanks (Refers (classes_of (written_module script.now))) (length (classes_of (written_module script.now))) done.ranks.items) }
+    ensures acyclic { OnOk result ((class : ℕ) → Reaches (Refers (classes_of (written_module script.now))) class class → ⊥) }
+    ensures round { IfErr result (λ fault. GoesRoundIfCyclic (classes_of (written_module script.now)) (told_of fault)) }
+{
+    let module = module_typed(alloc, registry, script)?;
+    match class_ranks(alloc, script)? {
+        Ok(ranks) => Ok(Checked { module, ranks }),
+        Err(cycle) => Err(CheckFault::CyclicType(round_names(alloc, script, &cycle)?)),
+    }
+}

@@ -1,0 +1,93 @@
+//! Statements that leave: `break`, `continue` and `return`.
+
+ghost use Rattle.std.specs.Prelude.{◌≡◌, map, option_map};
+ghost use Rattle.ash_tree.specs.Views as written;
+ghost use Rattle.ash_typed.specs.Views.{expr_of};
+ghost use Rattle.ash_typed.specs.BodyViews.{stmt_of};
+ghost use Rattle.ash_typed.specs.Statements as definition;
+ghost use Rattle.ash_check.specs.Gives.{Gives};
+ghost use Rattle.ash_check.specs.StatementViews.{scope_of};
+ghost use Rattle.ash_check.specs.Views.{declared_of, typed_of};
+
+use crate::environment::Declared;
+use crate::expressions::expression;
+use crate::scopes::Scope;
+use crate::stop::{Checking, broken};
+use crate::typed::{Typed, fitted};
+use crate::types::is_void;
+use ash_tree::{Expr, Place};
+use ash_typed::{Expr as TypedExpr, Rule, Stmt as TypedStmt, StmtKind as TypedKind, Ty};
+use std::alloc::Global;
+
+/// `break`, which has to leave a loop or a `switch`.
+#[tactic(auto, unfolding(ash_typed::specs::Statements::break_typed))]
+pub(crate) fn break_typed(leaves: bool, place: Place) -> Checking<TypedStmt>
+    ensures { Gives stmt_of result (definition.break_typed leaves place) }
+{
+    if !leaves {
+        return Err(broken(Rule::Misplaced, place.at));
+    }
+    Ok(TypedStmt {
+        line: place.line,
+        kind: TypedKind::Break,
+    })
+}
+
+/// `continue`, which has to stand in a loop.
+#[tactic(auto, unfolding(ash_typed::specs::Statements::continue_typed))]
+pub(crate) fn continue_typed(leaves: bool, place: Place) -> Checking<TypedStmt>
+    ensures { Gives stmt_of result (definition.continue_typed leaves place) }
+{
+    if !leaves {
+        return Err(broken(Rule::Misplaced, place.at));
+    }
+    Ok(TypedStmt {
+        line: place.line,
+        kind: TypedKind::Continue,
+    })
+}
+
+/// Whether a function of this type returns without a value.
+fn gives_nothing(of: Ty) -> bool
+    ensures { result ≡ definition.gives_nothing of }
+{
+    matches!(of, Ty::Void | Ty::Unknown)
+}
+
+/// A value that is returned at this offset.
+#[tactic(auto, unfolding(ash_typed::specs::Statements::returned))]
+fn returned(alloc: Global, of: Ty, at: usize, value: Typed) -> Checking<TypedExpr>
+    ensures { Gives expr_of result (definition.returned of at (typed_of value)) }
+{
+    if is_void(of) {
+        return Err(broken(Rule::TypeMismatch, at));
+    }
+    fitted(alloc, of, value)
+}
+
+/// `return`, with a value where its function gives one.
+#[tactic(auto, unfolding(ash_typed::specs::Statements::return_typed))]
+pub(crate) fn return_typed(
+    alloc: Global,
+    scope: &Scope,
+    locals: &[Declared],
+    place: Place,
+    value: &Option<Expr>,
+) -> Checking<TypedStmt>
+    ensures { Gives stmt_of result (definition.return_typed (scope_of scope.now (map declared_of locals.now)) place (option_map written.expr_of value.now)) }
+{
+    let value = match value {
+        None if !gives_nothing(scope.gives) => {
+            return Err(broken(Rule::TypeMismatch, place.at));
+        }
+        None => None,
+        Some(value) => {
+            let value = expression(&(&*scope).environment(locals), alloc, false, value)?;
+            Some(returned(alloc, scope.gives, place.at, value)?)
+        }
+    };
+    Ok(TypedStmt {
+        line: place.line,
+        kind: TypedKind::Return(value),
+    })
+}

@@ -1,0 +1,115 @@
+//! Labels of a `switch`.
+
+ghost use Rattle.std.specs.Prelude.{◌≡◌, ◌<◌, ◌+◌, length, map, drop};
+ghost use Rattle.std.specs.List.{list_any};
+ghost use Rattle.ash_tree.specs.Tree.{cases};
+ghost use Rattle.ash_tree.specs.Views.{case_of};
+ghost use Rattle.ash_typed.specs.Statements as walk;
+ghost use Rattle.ash_typed.specs.Switches as definition;
+ghost use Rattle.ash_check.specs.Gives.{Gives};
+
+use crate::stop::{Checking, broken};
+use crate::types::holds;
+use ash_tree::{Case, Label};
+use ash_typed::{Kind, Rule, Ty};
+
+/// The integer type of the value, where it has one.
+pub(crate) fn kind_in(of: Ty) -> Option<Kind>
+    ensures { result ≡ definition.kind_in of }
+{
+    match of {
+        Ty::Integer(kind) => Some(kind),
+        _ => None,
+    }
+}
+
+/// Whether a type holds what is this much below zero.
+fn holds_minus(kind: Kind, number: u64) -> bool
+    ensures { result ≡ definition.holds_minus kind number }
+{
+    match kind {
+        Kind::Int => number <= 1 << 31,
+        Kind::Int64 => number <= 1 << 63,
+        Kind::Uint | Kind::Uint64 => number == 0,
+    }
+}
+
+/// Whether a type holds the constant of a label. No range is known without an integer type.
+#[tactic(auto, unfolding(ash_typed::specs::Switches::is_within))]
+fn is_within(kind: Option<Kind>, label: Label) -> bool
+    ensures { result ≡ definition.is_within kind label }
+{
+    match (kind, label) {
+        (Some(kind), Label::Case(number)) => holds(kind, number),
+        (Some(kind), Label::CaseMinus(number)) => holds_minus(kind, number),
+        _ => true,
+    }
+}
+
+/// Whether two labels have equal constants: `-0` is `0`.
+fn is_same_constant(one: Label, other: Label) -> bool
+    ensures { result ≡ definition.is_same_constant one other }
+{
+    match (one, other) {
+        (Label::Case(m), Label::Case(n)) | (Label::CaseMinus(m), Label::CaseMinus(n)) => m == n,
+        (Label::Case(m), Label::CaseMinus(n)) | (Label::CaseMinus(m), Label::Case(n)) => {
+            m == 0 && n == 0
+        }
+        _ => false,
+    }
+}
+
+fn any_is_same(before: &[Label], label: Label) -> bool
+    ensures { result ≡ list_any (definition.is_same_constant label) before.now }
+{
+    for other in before {
+        if is_same_constant(label, *other) {
+            return true;
+        }
+    }
+    false
+}
+
+/// Whether no label stands behind this one.
+pub(crate) fn is_last(labels: &[Case], i: usize) -> bool
+    requires { i < length labels.now }
+    ensures { result ≡ walk.is_last (cases (map case_of (drop (i + 1) labels.now))) }
+{
+    i + 1 == labels.len()
+}
+
+/// The constant of a label at this offset, behind the labels before it.
+#[tactic(auto, unfolding(ash_typed::specs::Switches::constant_typed))]
+fn constant(kind: Option<Kind>, before: &[Label], at: usize, label: Label) -> Checking<Label>
+    ensures { Gives (λ l. l) result (definition.constant_typed kind before.now at label) }
+{
+    if !is_within(kind, label) {
+        return Err(broken(Rule::ConstantOutOfRange, at));
+    }
+    if any_is_same(before, label) {
+        return Err(broken(Rule::DuplicateCase, at));
+    }
+    Ok(label)
+}
+
+/// A label at this offset: `default` has to be the last one.
+#[tactic(auto, unfolding(ash_typed::specs::Switches::label_typed))]
+pub(crate) fn label(
+    kind: Option<Kind>,
+    before: &[Label],
+    is_last: bool,
+    at: usize,
+    label: Label,
+) -> Checking<Label>
+    ensures { Gives (λ l. l) result (definition.label_typed kind before.now is_last at label) }
+{
+    match label {
+        Label::Default => {
+            if !is_last {
+                return Err(broken(Rule::Misplaced, at));
+            }
+            Ok(label)
+        }
+        _ => constant(kind, before, at, label),
+    }
+}
