@@ -10,8 +10,8 @@ use Rattle.ash_lex.specs.Tokens.{Lexeme, Spells, FirstFault, IsRefusal}
 use Rattle.ash_lex.specs.declared.faults.LexFault.{LexFault}
 use Rattle.ash_lex.specs.declared.faults.LexFault.TheVariants as faults
 use Rattle.ash_lex.proofs.OneReading.{tokens_agree, faults_agree, tokens_or_fault}
-use Rattle.ash_meaning.specs.declared.refusal.Refusal.{Refusal}
-use Rattle.ash_meaning.specs.declared.refusal.Refusal.TheVariants as refusals
+use Rattle.ash_meaning.specs.Refusals.{Refusal}
+use Rattle.ash_meaning.specs.Refusals as refusals
 use Rattle.ash_meaning.specs.Lexing.{IsText, IsNoText, lexical, Lexes}
 use Rattle.ash_meaning.specs.Scanning.{scan, told, lexed}
 use Rattle.ash_meaning.proofs.ScanLaws.{IsScan, scan-is}

@@ -1,5 +1,5 @@
 -- What is typed: each word is an `int`, and each variable has its place.
-use Rattle.std.proofs.Common.{◌≡◌, ℕ, ◌<◌, ◌≤◌, Bool, true, false, cond, List, length, Option, Some, None, option_map, refl}
+use Rattle.std.proofs.Common.{◌≡◌, ℕ, ◌<◌, ◌≤◌, Bool, true, false, cond, length, Option, Some, None, option_map, refl}
 use Rattle.std.specs.List.{AllByRecursion}
 use Rattle.ash_meaning.specs.declared.tree.Place.{Place}
 use Rattle.ash_meaning.specs.declared.tree.Place.TheVariants.{Local, Global}

@@ -5,8 +5,8 @@ use Rattle.std.specs.Str.{IsUtf8, IsValidUpTo}
 use Rattle.ash_lex.specs.Tokens.{Lexeme, Spells, FirstFault}
 use Rattle.ash_lex.specs.declared.faults.LexFault.{LexFault}
 use Rattle.ash_lex.specs.declared.faults.LexFault.TheVariants as faults
-use Rattle.ash_meaning.specs.declared.refusal.Refusal.{Refusal}
-use Rattle.ash_meaning.specs.declared.refusal.Refusal.TheVariants as refusals
+use Rattle.ash_meaning.specs.Refusals.{Refusal}
+use Rattle.ash_meaning.specs.Refusals as refusals
 
 -- how many bytes a source has at most
 abbrev pub LONGEST : ℕ

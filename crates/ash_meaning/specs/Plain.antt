@@ -4,8 +4,8 @@ use Rattle.ash_host.specs.declared.word.Word.{Word}
 use Rattle.ash_registry.specs.Calls.{Call as Registration}
 use Rattle.ash_meaning.specs.declared.plain.Script as declared
 use Rattle.ash_meaning.specs.declared.request.Argument.{Argument}
-use Rattle.ash_meaning.specs.declared.refusal.Refusal.{Refusal}
-use Rattle.ash_meaning.specs.declared.refusal.Refusal.TheVariants as refusals
+use Rattle.ash_meaning.specs.Refusals.{Refusal}
+use Rattle.ash_meaning.specs.Refusals as refusals
 use Rattle.ash_meaning.specs.Kept.{IsAdmitted}
 use Rattle.ash_meaning.specs.Meaning.{End, call, load_globals}
 use Rattle.ash_meaning.specs.State.{State, Script}

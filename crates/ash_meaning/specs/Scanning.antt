@@ -15,8 +15,8 @@ use Rattle.ash_lex.specs.declared.words.UnsupportedWord.{UnsupportedWord}
 use Rattle.ash_lex.specs.declared.faults.LexFault.{LexFault}
 use Rattle.ash_lex.specs.declared.faults.LexFault.TheVariants as faults
 use Rattle.ash_meaning.specs.Lexing.{LONGEST, lexical}
-use Rattle.ash_meaning.specs.declared.refusal.Refusal.{Refusal}
-use Rattle.ash_meaning.specs.declared.refusal.Refusal.TheVariants as refusals
+use Rattle.ash_meaning.specs.Refusals.{Refusal}
+use Rattle.ash_meaning.specs.Refusals as refusals
 
 -- past so many bytes that part tokens, past a token, or a fault
 pub data Step : Type 0 where

@@ -2,7 +2,8 @@
 use Rattle.std.specs.Prelude.{ℕ, List, [], string_bytes, Result, Ok, Err}
 use Rattle.ash_host.specs.declared.word.Word.{Word}
 use Rattle.ash_registry.specs.Calls.{Call as Registration}
-use Rattle.ash_meaning.specs.declared.refusal.Refusal.{Refusal}
+use Rattle.ash_meaning.specs.Refusals.{Refusal, refusal_of}
+use Rattle.ash_meaning.specs.declared.refusal.Refusal as refusal
 use Rattle.ash_meaning.specs.declared.request.Argument as argument
 use Rattle.ash_meaning.specs.declared.request.Request as request
 use Rattle.ash_meaning.specs.declared.request.Request.TheVariants as requests
@@ -62,14 +63,14 @@ abbrev pub reply_of : reply.Reply → Reply
 reply_of (replies.Answer a) = answered a
 reply_of (replies.Value word) = Value word
 reply_of (replies.Seq seq) = Number seq
-reply_of (replies.Refused refusal) = Refused refusal
+reply_of (replies.Refused refusal) = Refused (refusal_of refusal)
 
 -- the reply of a call that answers or refuses
-abbrev pub answer_of : Result answer.Answer Refusal → Reply
+abbrev pub answer_of : Result answer.Answer refusal.Refusal → Reply
 answer_of (Ok a) = answered a
-answer_of (Err refusal) = Refused refusal
+answer_of (Err refusal) = Refused (refusal_of refusal)
 
 -- the reply of a look-up that gives a word or refuses
-abbrev pub word_of : Result Word Refusal → Reply
+abbrev pub word_of : Result Word refusal.Refusal → Reply
 word_of (Ok word) = Value word
-word_of (Err refusal) = Refused refusal
+word_of (Err refusal) = Refused (refusal_of refusal)

@@ -7,12 +7,13 @@ use Rattle.ash_host.specs.declared.word.Word.TheVariants.{Int}
 use Rattle.ash_registry.specs.Calls.{Call as Registration}
 use Rattle.ash_meaning.specs.declared.request.Argument.{Argument}
 use Rattle.ash_meaning.specs.declared.request.Argument.TheVariants as arguments
-use Rattle.ash_meaning.specs.declared.refusal.Refusal.{Refusal}
-use Rattle.ash_meaning.specs.declared.refusal.Refusal.TheVariants as refusals
+use Rattle.ash_meaning.specs.Refusals.{Refusal}
+use Rattle.ash_meaning.specs.Refusals as refusals
 use Rattle.ash_meaning.specs.Tree.{Module, Function, Global as Variable}
 use Rattle.ash_meaning.specs.Meaning.{End, Finished, call, load_globals}
 use Rattle.ash_meaning.specs.State.{Script, State, Request, Load, Call, Global, Seq, Reply, Answered, Value, Number, Refused}
-use Rattle.ash_meaning.specs.Reading.{Reading, read_source, module_read, TakesToTell}
+use Rattle.ash_meaning.specs.Checking.{TakesToTell}
+use Rattle.ash_meaning.specs.Reading.{Reading, read_source, module_read}
 
 -- the first of a list that passes a test
 abbrev pub first_where : {A : Type 0} → (A → Bool) → List A → Option A

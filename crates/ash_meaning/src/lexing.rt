@@ -4,8 +4,7 @@ ghost use Rattle.std.specs.Prelude.{◌≡◌, ◌⊎◌, ◌↔◌, ℕ, List, 
 ghost use Rattle.ash_lex.specs.Tokens.{Lexeme, lexemes};
 ghost use Rattle.ash_meaning.specs.Lexing.{IsText, Lexes};
 ghost use Rattle.ash_meaning.specs.Scanning.{lexed};
-ghost use Rattle.ash_meaning.specs.declared.refusal.Refusal.{Refusal as Refused};
-ghost use Rattle.ash_meaning.specs.declared.refusal.Refusal.TheVariants.{NoMemory};
+ghost use Rattle.ash_meaning.specs.Refusals.{Refusal as Refused, NoMemory, refusal_of};
 
 use crate::refusal::Refusal;
 use ash_lex::{MAX_SOURCE, Token, lex};
@@ -16,7 +15,7 @@ use std::str;
 /// fault. The first of these that holds is told, or that memory was refused.
 pub(crate) fn tokens_of(alloc: Global, source: &[u8]) -> Result<Vec<Token>, Refusal>
     ensures spelled { IfOk result (λ tokens. Lexes source.now (Ok (lexemes tokens.items))) }
-    ensures refused { IfErr result (λ refusal. ((refusal ≡ NoMemory) × IsText source.now) ⊎ Lexes source.now (Err refusal)) }
+    ensures refused { IfErr result (λ refusal. ((refusal_of refusal ≡ NoMemory) × IsText source.now) ⊎ Lexes source.now (Err (refusal_of refusal))) }
 {
     if source.len() > MAX_SOURCE {
         return Err(Refusal::SourceTooLong);

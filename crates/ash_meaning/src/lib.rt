@@ -1,10 +1,12 @@
 //! The meaning of scripts and of requests. Its specs say what a source is read as, and what each phrase and each
 //! request does; its code resolves the names of a script's tree and is the plain evaluator, which walks the typed tree.
-//! It stands on `ash_host`, on `ash_lex` and `ash_parse`, which read sources, and on `ash_registry`, whose names no module
-//! may declare. It promises that a request is answered as the specs say, each refusal being the first that holds.
+//! It stands on `ash_host`; on `ash_lex`, `ash_parse` and `ash_check`, which read and type sources; and on `ash_registry`,
+//! whose names no module may declare. It promises that a request is answered as the specs say, each refusal being the
+//! first that holds.
 #![tactic(auto)]
 
 mod arguments;
+pub mod checking;
 mod evaluator;
 pub mod kept;
 mod lexing;

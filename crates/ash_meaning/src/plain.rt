@@ -7,6 +7,7 @@ ghost use Rattle.ash_registry.specs.Calls.{Call as Registration};
 ghost use Rattle.ash_registry.specs.Registered.{registered};
 ghost use Rattle.ash_meaning.specs.Kept.{IsInt, IsAdmitted, Admits, script_of as stored_script, state_of as stored_state, scripts_in};
 ghost use Rattle.ash_meaning.specs.Plain.{script_of, IsKept, AreKept, IsLoaded, RefusesLoad, IsCalled, RefusesCall};
+ghost use Rattle.ash_meaning.specs.Refusals.{refusal_of};
 ghost use Rattle.ash_meaning.specs.State.{empty, Load, Call, answer_of, word_of, end_of, request_of, reply_of};
 ghost use Rattle.ash_meaning.specs.Step.{Steps, find_function, find_script, is_module_name, place_from, names_of, told, value_in, word_named};
 ghost use Rattle.ash_meaning.specs.Tree.{function_of, module_of};
@@ -80,7 +81,7 @@ fn loaded(
     requires { IsTrue (is_module_name name.now) }
     ensures run { IfOk result (λ r. IsLoaded (registered registry.now) budget name.now source.now (end_of r.0) r.1) }
     ensures kept { IfOk result (λ r. IsKept (registered registry.now) r.1) }
-    ensures refused { IfErr result (λ e. RefusesLoad (registered registry.now) source.now e) }
+    ensures refused { IfErr result (λ e. RefusesLoad (registered registry.now) source.now (refusal_of e)) }
 {
     let tree = read_source(alloc, registry, source)?;
     let name = String::from_str(alloc, name)?;
@@ -142,7 +143,7 @@ impl Script {
         budget: u64,
     ) -> Result<Outcome, Refusal>
         ensures run { IfOk result (λ outcome. IsCalled budget function.now arguments.now self.old (end_of outcome) self.new) }
-        ensures refused { IfErr result (λ e. RefusesCall function.now arguments.now self.old e) }
+        ensures refused { IfErr result (λ e. RefusesCall function.now arguments.now self.old (refusal_of e)) }
         ensures unchanged { OnErr result (self.new ≡ self.old) }
         ensures kept { (registered : List Registration) → IsKept registered self.old → IsKept registered self.new }
     {

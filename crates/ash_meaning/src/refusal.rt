@@ -1,13 +1,15 @@
 // Why a request is refused.
 
 ghost use Rattle.std.specs.Prelude.{◌≡◌};
+ghost use Rattle.ash_meaning.specs.Refusals.{refusal_of};
 
+use ash_check::{CheckFault, ClassNames};
 use ash_lex::LexFault;
 use ash_parse::{ParseFault, UnsupportedPart};
 use std::alloc::AllocError;
 
 /// Why a request is refused.
-#[derive(Clone, Copy, Debug, PartialEq, Eq)]
+#[derive(Debug, PartialEq, Eq, Drop)]
 pub enum Refusal {
     /// The source has more than 65,536 bytes.
     SourceTooLong,
@@ -25,6 +27,32 @@ pub enum Refusal {
     Unsupported { word: UnsupportedPart, at: usize },
     /// The token at this offset is the first that stands deeper than 64.
     TooDeep { at: usize },
+    /// A name, at this offset, that nothing has.
+    UnknownName { at: usize },
+    /// A type, at this offset, that nothing has.
+    UnknownType { at: usize },
+    /// A name, at this offset, that something else has.
+    NameTaken { at: usize },
+    /// An expression, at this offset, of a type that does not fit.
+    TypeMismatch { at: usize },
+    /// A call, at this offset, with more or fewer arguments than there are parameters.
+    WrongArgumentCount { at: usize },
+    /// An assignment, at this offset, to what is no place, or to a place that takes none.
+    NotAssignable { at: usize },
+    /// A function with a result, its name at this offset, that may end without one.
+    NoReturn { at: usize },
+    /// A phrase, at this offset, that may not stand there.
+    Misplaced { at: usize },
+    /// A class that reaches itself: it and the classes on a shortest way back.
+    CyclicType(ClassNames),
+    /// An object, at this offset, of a registered type that scripts can't construct.
+    NoFactory { at: usize },
+    /// One more, at this offset, than there may be.
+    TooMany { at: usize },
+    /// A constant of a `case`, at this offset, that its `switch` can't have.
+    ConstantOutOfRange { at: usize },
+    /// A constant of a `case`, at this offset, that an earlier one has.
+    DuplicateCase { at: usize },
     /// The source is a script, but not of the part of the language that can be run so far.
     NotYet,
     /// There is no module of this name.
@@ -52,9 +80,9 @@ pub enum Refusal {
 }
 
 impl From<AllocError> for Refusal {
-    ghost use Rattle.ash_meaning.specs.declared.refusal.Refusal.TheVariants.{NoMemory};
+    ghost use Rattle.ash_meaning.specs.Refusals.{NoMemory};
 
-    ghost from_gives = { λ _ refusal. refusal ≡ NoMemory };
+    ghost from_gives = { λ _ refusal. refusal_of refusal ≡ NoMemory };
 
     fn from(_: AllocError) -> Self {
         Refusal::NoMemory
@@ -64,7 +92,7 @@ impl From<AllocError> for Refusal {
 impl From<LexFault> for Refusal {
     ghost use Rattle.ash_meaning.specs.Lexing.{lexical};
 
-    ghost from_gives = { λ fault refusal. refusal ≡ lexical fault };
+    ghost from_gives = { λ fault refusal. refusal_of refusal ≡ lexical fault };
 
     fn from(fault: LexFault) -> Self {
         match fault {
@@ -78,9 +106,9 @@ impl From<LexFault> for Refusal {
 }
 
 impl From<ParseFault> for Refusal {
-    ghost use Rattle.ash_meaning.specs.Reading.{syntactic};
+    ghost use Rattle.ash_meaning.specs.Checking.{syntactic};
 
-    ghost from_gives = { λ fault refusal. refusal ≡ syntactic fault };
+    ghost from_gives = { λ fault refusal. refusal_of refusal ≡ syntactic fault };
 
     fn from(fault: ParseFault) -> Self {
         match fault {
@@ -88,6 +116,31 @@ impl From<ParseFault> for Refusal {
             ParseFault::Unsupported { word, at } => Refusal::Unsupported { word, at },
             ParseFault::TooDeep { at } => Refusal::TooDeep { at },
             ParseFault::NoMemory => Refusal::NoMemory,
+        }
+    }
+}
+
+impl From<CheckFault> for Refusal {
+    ghost use Rattle.ash_meaning.specs.Checking.{of_check};
+
+    ghost from_gives = { λ fault refusal. refusal_of refusal ≡ of_check fault };
+
+    fn from(fault: CheckFault) -> Self {
+        match fault {
+            CheckFault::UnknownName { at } => Refusal::UnknownName { at },
+            CheckFault::UnknownType { at } => Refusal::UnknownType { at },
+            CheckFault::NameTaken { at } => Refusal::NameTaken { at },
+            CheckFault::TypeMismatch { at } => Refusal::TypeMismatch { at },
+            CheckFault::WrongArgumentCount { at } => Refusal::WrongArgumentCount { at },
+            CheckFault::NotAssignable { at } => Refusal::NotAssignable { at },
+            CheckFault::NoReturn { at } => Refusal::NoReturn { at },
+            CheckFault::Misplaced { at } => Refusal::Misplaced { at },
+            CheckFault::CyclicType(names) => Refusal::CyclicType(names),
+            CheckFault::NoFactory { at } => Refusal::NoFactory { at },
+            CheckFault::TooMany { at } => Refusal::TooMany { at },
+            CheckFault::ConstantOutOfRange { at } => Refusal::ConstantOutOfRange { at },
+            CheckFault::DuplicateCase { at } => Refusal::DuplicateCase { at },
+            CheckFault::NoMemory => Refusal::NoMemory,
         }
     }
 }

@@ -160,13 +160,10 @@ fn read_what_can_be_run(rt: HostRuntime) -> Result<(), Fail> {
 fn not_yet_what_cannot_be_run(rt: HostRuntime) -> Result<(), Fail> {
     let alloc = rt.alloc();
     for source in [
-        b"int f() { return x; }".as_slice(),
-        b"class A { }",
+        b"class A { }".as_slice(),
         b"int n = 2147483648;",
         b"int n = 0x80000000;",
-        b"int f(a b) { return 1; }",
-        b"int f() { }",
-        b"int f() { return; }",
+        b"void f() { }",
         b"int f() { int a; return a; }",
         b"int n; int f() { n++; return n; }",
         b"int n = -1;",

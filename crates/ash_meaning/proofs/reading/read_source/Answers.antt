@@ -1,20 +1,14 @@
-use Rattle.std.proofs.Common.{◌≡◌, List, Ok, ap, sym, subst}
-use Rattle.ash_lex.specs.Tokens.{lexemes}
-use Rattle.ash_lex.specs.declared.tokens.Token.{Token}
 use Rattle.ash_registry.specs.Registered.{registered}
-use Rattle.ash_meaning.specs.Lexing.{Lexes}
-use Rattle.ash_meaning.proofs.ReadingLaws.{tokens_refused, module_found, module_refused}
+use Rattle.ash_tree.specs.Views.{module_of as items_of}
+use Rattle.ash_meaning.specs.Refusals.{refusal_of}
+use Rattle.ash_meaning.proofs.ReadingLaws.{check_refused, module_found, module_refused}
 use Rattle.ash_meaning.proofs.reading.read_source.Goals as goal
 
 pub returns-in-Err-clause-refused : goal.returns-in-Err-clause-refused
-returns-in-Err-clause-refused c = tokens_refused (registered c.args.registry.now) c.args.source.now c.in-Err.refusal c.in-Err.ensures.refused
+returns-in-Err-clause-refused c = check_refused (registered c.args.registry.now) c.args.source.now (refusal_of c.in-Err.refusal) c.in-Err.ensures.refused
 
 pub returns-in-Ok-clause-found : goal.returns-in-Ok-clause-found
-returns-in-Ok-clause-found c =
-    let spelled : Lexes c.args.source.now (Ok (lexemes c.deref.result.now)) = subst (λ (ts : List Token). Lexes c.args.source.now (Ok (lexemes ts))) (sym c.deref.ensures.value) c.in-Ok.ensures.spelled in
-    module_found (registered c.args.registry.now) c.args.source.now (lexemes c.deref.result.now) spelled c.read_tokens.result c.read_tokens.ensures.found
+returns-in-Ok-clause-found c = module_found (registered c.args.registry.now) c.args.source.now (items_of c.in-Ok.script) c.in-Ok.ensures.found c.read_script.result c.read_script.ensures.found
 
 pub returns-in-Ok-clause-refused : goal.returns-in-Ok-clause-refused
-returns-in-Ok-clause-refused c =
-    let spelled : Lexes c.args.source.now (Ok (lexemes c.deref.result.now)) = subst (λ (ts : List Token). Lexes c.args.source.now (Ok (lexemes ts))) (sym c.deref.ensures.value) c.in-Ok.ensures.spelled in
-    module_refused (registered c.args.registry.now) c.args.source.now (lexemes c.deref.result.now) spelled c.read_tokens.result c.read_tokens.ensures.refused
+returns-in-Ok-clause-refused c = module_refused (registered c.args.registry.now) c.args.source.now (items_of c.in-Ok.script) c.in-Ok.ensures.found c.read_script.result c.read_script.ensures.refused

@@ -1,0 +1,230 @@
+-- The function that checks a source says exactly what the relation says.
+use Rattle.std.proofs.Common.{◌≡◌, ◌↔◌, ℕ, ◌-◌, ◌⊎◌, inl, inr, List, [], ◌∷◌, length, Option, Some, None, option_map, Result, Ok, Err, IsOk, IfOk, IfErr, refl, sym, ◌∙◌, ap, subst}
+use Rattle.std.specs.List.{slice_get}
+use Rattle.std.proofs.lemmas.List.{length-map}
+use Rattle.std.proofs.lemmas.Option.{slice_get-map}
+use Rattle.ash_lex.specs.Tokens.{Lexeme, FirstFault, lexeme_of, lexemes}
+use Rattle.ash_lex.specs.declared.tokens.Token.{Token}
+use Rattle.ash_lex.specs.declared.faults.LexFault.{LexFault}
+use Rattle.ash_lex.specs.declared.faults.LexFault.TheVariants as faults
+use Rattle.ash_tree.specs.Tree.{Item}
+use Rattle.ash_tree.specs.Tokens.{Tokens, tokens_of, placed}
+use Rattle.ash_tree.specs.Grammar.{Derives}
+use Rattle.ash_tree.specs.Views.{module_of as items_of}
+use Rattle.ash_tree.specs.declared.tree.items.Module as script
+use Rattle.ash_parse.specs.declared.faults.ParseFault.{ParseFault}
+use Rattle.ash_parse.specs.declared.faults.ParseFault.TheVariants as parse_faults
+use Rattle.ash_parse.specs.declared.faults.UnsupportedPart.{UnsupportedPart}
+use Rattle.ash_parse.specs.Reading.{Halt, Unexpected, TooDeep, Reading as Parsing}
+use Rattle.ash_parse.specs.ItemReader.{module_at}
+use Rattle.ash_parse.specs.Faults.{end_of, fault_at, fault_of}
+use Rattle.ash_parse.specs.Faults as parse_spec
+use Rattle.ash_parse.specs.FirstFault.{FirstFault as FirstSyntaxFault, TellsFirst}
+use Rattle.ash_parse.proofs.ItemComplete.{module_read as parsed_again}
+use Rattle.ash_parse.proofs.WholeModules.{module_derived}
+use Rattle.ash_parse.proofs.FirstFaults.{module_stops_first, first_is_stop}
+use Rattle.ash_registry.specs.Calls.{Call}
+use Rattle.ash_typed.specs.declared.fault.Rule.{Rule}
+use Rattle.ash_typed.specs.declared.fault.Rule.TheVariants as rules
+use Rattle.ash_typed.specs.Modules.{Module as Typed}
+use Rattle.ash_check.specs.declared.faults.CheckFault.{CheckFault}
+use Rattle.ash_check.specs.Checks.{Told, Broken, Cyclic, checked, told_of, IsWhatIsTold, Tells}
+use Rattle.ash_meaning.specs.Lexing.{IsText, Lexes, lexical}
+use Rattle.ash_meaning.specs.Scanning.{scan, told, lexed}
+use Rattle.ash_meaning.specs.Checking.{Checking, tokens_in, end_by, end_in, syntactic, refusal_at, IsNoScript, broken_at, untyped, of_told, of_check, IsUntypedScript, ChecksTokens, Checks, no_tokens, has_tokens, unless_told, items_checked, script_checked, tokens_checked, checked_on, checked_source, TakesToTell, TakesToCheck}
+use Rattle.ash_meaning.specs.declared.refusal.Refusal as code
+use Rattle.ash_meaning.specs.Refusals.{Refusal, refusal_of}
+use Rattle.ash_meaning.specs.Refusals as refusals
+use Rattle.ash_meaning.proofs.LexingLaws.{lexed-is, lexed-only, of_text}
+use Rattle.ash_meaning.proofs.ScanLaws.{IsScan, scan-is}
+
+-- the code's tokens as the grammar sees them
+
+seen_tokens : (ts : List Token) → tokens_of ts ≡ tokens_in (lexemes ts)
+seen_tokens [] = refl
+seen_tokens (t ∷ ts) = ap (λ (l : Tokens). placed t ∷ l) (seen_tokens ts)
+
+seen_last : (o : Option Token) → parse_spec.end_by o ≡ end_by (option_map lexeme_of o)
+seen_last None = refl
+seen_last (Some t) = refl
+
+seen_end : (ts : List Token) → end_of ts ≡ end_in (lexemes ts)
+seen_end ts = rw (length-map ts lexeme_of, slice_get-map lexeme_of ts (length ts - 1)) (seen_last (slice_get ts (length ts - 1)))
+
+-- what checking tokens comes to
+
+items_is : (registered : List Call) (tokens : List Lexeme) (items : List Item) → Derives 0 (tokens_in tokens) items → (r : Result Typed Told) → checked registered items ≡ r → ChecksTokens registered tokens (unless_told items r)
+items_is registered tokens items derived (Ok typed) e = record { derived = derived; typed = subst (λ (r : Result Typed Told). IsOk r) (sym e) refl }
+items_is registered tokens items derived (Err why) e = inr (record { items = items; derived = derived; why = why; untyped_is = e; told = refl })
+
+script_is : (registered : List Call) (tokens : List Lexeme) (o : Parsing (List Item)) → module_at (tokens_in tokens) ≡ o → ChecksTokens registered tokens (script_checked registered tokens o)
+script_is registered tokens (Ok script) e = items_is registered tokens script.0 (module_derived (tokens_in tokens) script.0 script.1 e) (checked registered script.0) refl
+script_is registered tokens (Err halt) e = inl (record { halt = halt; first = module_stops_first (tokens_in tokens) halt e; told = refl })
+
+tokens_is : (registered : List Call) (tokens : List Lexeme) → ChecksTokens registered tokens (tokens_checked registered tokens)
+unfolding tokens_checked
+tokens_is registered tokens = script_is registered tokens (module_at (tokens_in tokens)) refl
+
+-- and to nothing else
+
+parsed : (registered : List Call) (tokens : List Lexeme) (items : List Item) → Derives 0 (tokens_in tokens) items → tokens_checked registered tokens ≡ items_checked registered items
+unfolding tokens_checked
+parsed registered tokens items derived = ap (script_checked registered tokens) (parsed_again (tokens_in tokens) items derived)
+
+when_typed : (items : List Item) (r : Result Typed Told) → IsOk r → unless_told items r ≡ Ok items
+when_typed items (Ok typed) h = refl
+when_typed items (Err why) h = absurd (cc)
+
+stopped : (registered : List Call) (tokens : List Lexeme) (refusal : Refusal) → IsNoScript tokens refusal → tokens_checked registered tokens ≡ Err refusal
+unfolding tokens_checked
+stopped registered tokens refusal h = ap (script_checked registered tokens) (first_is_stop (tokens_in tokens) h.halt h.first) ∙ ap (λ (r : Refusal). Err r) (sym h.told)
+
+refused : (registered : List Call) (tokens : List Lexeme) (refusal : Refusal) → IsUntypedScript registered tokens refusal → tokens_checked registered tokens ≡ Err refusal
+refused registered tokens refusal h = parsed registered tokens h.items h.derived ∙ ap (unless_told h.items) h.untyped_is ∙ ap (λ (r : Refusal). Err r) (sym h.told)
+
+tokens_only : (registered : List Call) (tokens : List Lexeme) (checking : Checking) → ChecksTokens registered tokens checking → tokens_checked registered tokens ≡ checking
+tokens_only registered tokens (Ok items) h = parsed registered tokens items h.derived ∙ when_typed items (checked registered items) h.typed
+tokens_only registered tokens (Err refusal) (inl h) = stopped registered tokens refusal h
+tokens_only registered tokens (Err refusal) (inr h) = refused registered tokens refusal h
+
+-- what checking a source comes to
+
+checked_on-is : (registered : List Call) (source : List ℕ) (l : Result (List Lexeme) Refusal) → Lexes source l → Checks registered source (checked_on registered l)
+checked_on-is registered source (Ok ts) h = has_tokens ts h (tokens_is registered ts)
+checked_on-is registered source (Err refusal) h = no_tokens refusal refl h
+
+pub checked_source-is : (registered : List Call) (source : List ℕ) → Checks registered source (checked_source registered source)
+unfolding checked_source
+checked_source-is registered source = checked_on-is registered source (lexed source) (lexed-is source)
+
+pub checked_source-only : (registered : List Call) (source : List ℕ) (checking : Checking) → Checks registered source checking → checked_source registered source ≡ checking
+unfolding checked_source
+checked_source-only registered source checking (no_tokens refusal e h) = ap (checked_on registered) (lexed-only source (Err refusal) h) ∙ sym e
+checked_source-only registered source checking (has_tokens ts h checks) = ap (checked_on registered) (lexed-only source (Ok ts) h) ∙ tokens_only registered ts checking checks
+
+pub checked_source-exact : (registered : List Call) (source : List ℕ) (checking : Checking) → (checked_source registered source ≡ checking) ↔ Checks registered source checking
+checked_source-exact registered source checking = (λ e. subst (Checks registered source) e (checked_source-is registered source), checked_source-only registered source checking)
+
+-- a source with tokens is checked as they are
+of_tokens : (registered : List Call) (source : List ℕ) (ts : List Lexeme) → Lexes source (Ok ts) → checked_source registered source ≡ tokens_checked registered ts
+unfolding checked_source
+of_tokens registered source ts h = ap (checked_on registered) (lexed-only source (Ok ts) h)
+
+-- and one without is refused
+pub of_refusal : (registered : List Call) (source : List ℕ) (refusal : Refusal) → Lexes source (Err refusal) → checked_source registered source ≡ Err refusal
+of_refusal registered source refusal h = checked_source-only registered source (Err refusal) (no_tokens refusal refl h)
+
+-- a text takes memory to check
+
+takes_fault : (source : List ℕ) (fault : LexFault) → FirstFault source fault → TakesToTell (lexical fault)
+takes_fault source (faults.BadCharacter at) h = tt
+takes_fault source (faults.UnclosedComment at) h = tt
+takes_fault source (faults.NumberTooLarge at) h = tt
+takes_fault source faults.SourceTooLong h = absurd h.5
+takes_fault source faults.NoMemory h = absurd h.5
+
+takes_rule : (rule : Rule) (at : ℕ) → TakesToTell (broken_at rule at)
+takes_rule rules.UnknownName at = tt
+takes_rule rules.UnknownType at = tt
+takes_rule rules.NameTaken at = tt
+takes_rule rules.TypeMismatch at = tt
+takes_rule rules.WrongArgumentCount at = tt
+takes_rule rules.NotAssignable at = tt
+takes_rule rules.NoReturn at = tt
+takes_rule rules.Misplaced at = tt
+takes_rule rules.NoFactory at = tt
+takes_rule rules.TooMany at = tt
+takes_rule rules.ConstantOutOfRange at = tt
+takes_rule rules.DuplicateCase at = tt
+
+pub takes_untyped : (why : Told) → TakesToTell (untyped why)
+takes_untyped (Broken fault) = takes_rule fault.rule fault.at
+takes_untyped (Cyclic names) = tt
+
+takes_items : (items : List Item) (r : Result Typed Told) → TakesToCheck (unless_told items r)
+takes_items items (Ok typed) = tt
+takes_items items (Err why) = takes_untyped why
+
+takes_part : (at : ℕ) (part : Option UnsupportedPart) → TakesToTell (syntactic (fault_at at part))
+takes_part at None = tt
+takes_part at (Some part) = tt
+
+pub takes_halt : (tokens : List Lexeme) (halt : Halt) → TakesToTell (refusal_at tokens halt)
+takes_halt tokens (Unexpected []) = tt
+takes_halt tokens (Unexpected ((m, p) ∷ rest)) = takes_part p.at _
+takes_halt tokens (TooDeep rest) = tt
+
+takes_script : (registered : List Call) (tokens : List Lexeme) (o : Parsing (List Item)) → TakesToCheck (script_checked registered tokens o)
+takes_script registered tokens (Ok script) = takes_items script.0 (checked registered script.0)
+takes_script registered tokens (Err halt) = takes_halt tokens halt
+
+takes_tokens : (registered : List Call) (tokens : List Lexeme) → TakesToCheck (tokens_checked registered tokens)
+unfolding tokens_checked
+takes_tokens registered tokens = takes_script registered tokens (module_at (tokens_in tokens))
+
+takes_told : (registered : List Call) (source : List ℕ) (r : Result (List Lexeme) LexFault) → IsScan source r → TakesToCheck (checked_on registered (told r))
+takes_told registered source (Ok ts) h = takes_tokens registered ts
+takes_told registered source (Err fault) h = takes_fault source fault h
+
+takes_text : (registered : List Call) (source : List ℕ) → IsText source → TakesToCheck (checked_source registered source)
+unfolding checked_source
+takes_text registered source text = subst (λ l. TakesToCheck (checked_on registered l)) (sym (of_text source text)) (takes_told registered source (scan source) (scan-is source))
+
+-- what the code answers of a source
+
+pub tokens_refused : (registered : List Call) (source : List ℕ) (refusal : Refusal) → ((refusal ≡ refusals.NoMemory) × IsText source) ⊎ Lexes source (Err refusal) → ((refusal ≡ refusals.NoMemory) × TakesToCheck (checked_source registered source)) ⊎ (checked_source registered source ≡ Err refusal)
+tokens_refused registered source refusal (inl h) = inl (h.0, takes_text registered source h.1)
+tokens_refused registered source refusal (inr h) = inr (of_refusal registered source refusal h)
+
+pub source_found : (registered : List Call) (source : List ℕ) (ts : List Lexeme) → Lexes source (Ok ts) → (r : Result script.Module code.Refusal) → IfOk r (λ found. tokens_checked registered ts ≡ Ok (items_of found)) → IfOk r (λ found. checked_source registered source ≡ Ok (items_of found))
+source_found registered source ts h (Ok found) e = of_tokens registered source ts h ∙ e
+source_found registered source ts h (Err refusal) e = tt
+
+refused_by : (registered : List Call) (source : List ℕ) (ts : List Lexeme) → Lexes source (Ok ts) → (refusal : Refusal) → (refusal ≡ refusals.NoMemory) ⊎ (tokens_checked registered ts ≡ Err refusal) → ((refusal ≡ refusals.NoMemory) × TakesToCheck (checked_source registered source)) ⊎ (checked_source registered source ≡ Err refusal)
+refused_by registered source ts h refusal (inl e) = inl (e, takes_text registered source h.0)
+refused_by registered source ts h refusal (inr e) = inr (of_tokens registered source ts h ∙ e)
+
+pub source_refused : (registered : List Call) (source : List ℕ) (ts : List Lexeme) → Lexes source (Ok ts) → (r : Result script.Module code.Refusal) → IfErr r (λ refusal. (refusal_of refusal ≡ refusals.NoMemory) ⊎ (tokens_checked registered ts ≡ Err (refusal_of refusal))) → IfErr r (λ refusal. ((refusal_of refusal ≡ refusals.NoMemory) × TakesToCheck (checked_source registered source)) ⊎ (checked_source registered source ≡ Err (refusal_of refusal)))
+source_refused registered source ts h (Ok found) e = tt
+source_refused registered source ts h (Err refusal) e = refused_by registered source ts h (refusal_of refusal) e
+
+-- what the parser answers
+
+script_checked-is : (registered : List Call) (ts : List Token) (items : List Item) → Derives 0 (tokens_of ts) items → tokens_checked registered (lexemes ts) ≡ items_checked registered items
+script_checked-is registered ts items d = parsed registered (lexemes ts) items (subst (λ (l : Tokens). Derives 0 l items) (seen_tokens ts) d)
+
+pub script_found : (registered : List Call) (ts : List Token) (items : List Item) → Derives 0 (tokens_of ts) items → (r : Result script.Module code.Refusal) → IfOk r (λ found. items_checked registered items ≡ Ok (items_of found)) → IfOk r (λ found. tokens_checked registered (lexemes ts) ≡ Ok (items_of found))
+script_found registered ts items e (Ok found) h = script_checked-is registered ts items e ∙ h
+script_found registered ts items e (Err refusal) h = tt
+
+told_script : (registered : List Call) (ts : List Token) (items : List Item) → Derives 0 (tokens_of ts) items → (refusal : Refusal) → (refusal ≡ refusals.NoMemory) ⊎ (items_checked registered items ≡ Err refusal) → (refusal ≡ refusals.NoMemory) ⊎ (tokens_checked registered (lexemes ts) ≡ Err refusal)
+told_script registered ts items e refusal (inl h) = inl h
+told_script registered ts items e refusal (inr h) = inr (script_checked-is registered ts items e ∙ h)
+
+pub script_refused : (registered : List Call) (ts : List Token) (items : List Item) → Derives 0 (tokens_of ts) items → (r : Result script.Module code.Refusal) → IfErr r (λ refusal. (refusal_of refusal ≡ refusals.NoMemory) ⊎ (items_checked registered items ≡ Err (refusal_of refusal))) → IfErr r (λ refusal. (refusal_of refusal ≡ refusals.NoMemory) ⊎ (tokens_checked registered (lexemes ts) ≡ Err (refusal_of refusal)))
+script_refused registered ts items e (Ok found) h = tt
+script_refused registered ts items e (Err refusal) h = told_script registered ts items e (refusal_of refusal) h
+
+halt_is : (registered : List Call) (ts : List Token) (fault : ParseFault) (halt : Halt) → module_at (tokens_of ts) ≡ Err halt → fault ≡ fault_of (tokens_of ts) (end_of ts) halt → tokens_checked registered (lexemes ts) ≡ Err (syntactic fault)
+unfolding tokens_checked
+halt_is registered ts fault halt e told =
+    let same : fault ≡ fault_of (tokens_in (lexemes ts)) (end_in (lexemes ts)) halt = told ∙ ap (λ (l : Tokens). fault_of l (end_of ts) halt) (seen_tokens ts) ∙ ap (λ n. fault_of (tokens_in (lexemes ts)) n halt) (seen_end ts) in
+    ap (script_checked registered (lexemes ts)) (ap module_at (sym (seen_tokens ts)) ∙ e) ∙ ap (λ (f : ParseFault). Err (syntactic f)) (sym same)
+
+by_fault : (registered : List Call) (ts : List Token) (fault : ParseFault) → TellsFirst FirstSyntaxFault ts fault → (syntactic fault ≡ refusals.NoMemory) ⊎ (tokens_checked registered (lexemes ts) ≡ Err (syntactic fault))
+by_fault registered ts parse_faults.NoMemory h = inl refl
+by_fault registered ts (parse_faults.Unexpected at) h = inr (halt_is registered ts (parse_faults.Unexpected at) h.0 (first_is_stop (tokens_of ts) h.0 h.2) h.1)
+by_fault registered ts (parse_faults.Unsupported word at) h = inr (halt_is registered ts (parse_faults.Unsupported word at) h.0 (first_is_stop (tokens_of ts) h.0 h.2) h.1)
+by_fault registered ts (parse_faults.TooDeep at) h = inr (halt_is registered ts (parse_faults.TooDeep at) h.0 (first_is_stop (tokens_of ts) h.0 h.2) h.1)
+
+pub fault_read : (registered : List Call) (ts : List Token) (fault : ParseFault) → TellsFirst FirstSyntaxFault ts fault → (refusal : Refusal) → refusal ≡ syntactic fault → (refusal ≡ refusals.NoMemory) ⊎ (tokens_checked registered (lexemes ts) ≡ Err refusal)
+fault_read registered ts fault h refusal is = subst (λ (r : Refusal). (r ≡ refusals.NoMemory) ⊎ (tokens_checked registered (lexemes ts) ≡ Err r)) (sym is) (by_fault registered ts fault h)
+
+-- what the check of types answers
+
+tells_is : (items : List Item) (answer : Result Typed Told) (o : Option Told) → IsWhatIsTold o answer → (of_told o ≡ refusals.NoMemory) ⊎ (unless_told items answer ≡ Err (of_told o))
+tells_is items answer None h = inl refl
+tells_is items answer (Some why) h = inr (ap (unless_told items) h)
+
+pub typing_refused : (registered : List Call) (items : List Item) (fault : CheckFault) → Tells (checked registered items) fault → (refusal : Refusal) → refusal ≡ of_check fault → (refusal ≡ refusals.NoMemory) ⊎ (items_checked registered items ≡ Err refusal)
+typing_refused registered items fault h refusal is = subst (λ (r : Refusal). (r ≡ refusals.NoMemory) ⊎ (items_checked registered items ≡ Err r)) (sym is) (tells_is items (checked registered items) (told_of fault) h)

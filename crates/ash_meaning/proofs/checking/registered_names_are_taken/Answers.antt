@@ -1,0 +1,5 @@
+use Rattle.ash_meaning.proofs.TakenNames.{checked_free}
+use Rattle.ash_meaning.proofs.checking.registered_names_are_taken.Goals as goal
+
+pub returns : goal.returns
+returns c = checked_free

@@ -1,0 +1,186 @@
+-- What checking a source comes to: the items of its script, or the refusal for which it is none that is typed.
+--
+-- A source that has no tokens is refused for that, one whose tokens are no script for their first fault, and a script
+-- that is not typed for what the check of types tells of it.
+use Rattle.std.specs.Prelude.{◌≡◌, ◌⊎◌, ◌-◌, ℕ, false, List, [], ◌∷◌, length, map, find, is_some, Option, Some, None, Result, Ok, Err, IsOk}
+use Rattle.std.specs.List.{AllByRecursion, slice_get}
+use Rattle.ash_lex.specs.Tokens.{Meaning, Lexeme}
+use Rattle.ash_tree.specs.declared.tree.places.Place.{Place}
+use Rattle.ash_tree.specs.Tokens.{Tokens}
+use Rattle.ash_tree.specs.Tree.{Decl, Item, AClass, AFunction, AGlobal}
+use Rattle.ash_tree.specs.Grammar.{Derives}
+use Rattle.ash_parse.specs.declared.faults.ParseFault.{ParseFault}
+use Rattle.ash_parse.specs.declared.faults.ParseFault.TheVariants as faults
+use Rattle.ash_parse.specs.Reading.{Halt, Reading as Parsing}
+use Rattle.ash_parse.specs.ItemReader.{module_at}
+use Rattle.ash_parse.specs.Faults.{fault_of}
+use Rattle.ash_parse.specs.FirstFault.{FirstFault}
+use Rattle.ash_registry.specs.Calls.{Call as Registration, takes_name}
+use Rattle.ash_typed.specs.declared.fault.Rule.{Rule}
+use Rattle.ash_typed.specs.declared.fault.Rule.TheVariants as rules
+use Rattle.ash_typed.specs.Modules.{Module}
+use Rattle.ash_check.specs.Checks.{Told, Broken, Cyclic, checked, told_of}
+use Rattle.ash_check.specs.declared.faults.CheckFault.{CheckFault}
+use Rattle.ash_meaning.specs.Lexing.{Lexes}
+use Rattle.ash_meaning.specs.Scanning.{lexed}
+use Rattle.ash_meaning.specs.Refusals.{Refusal}
+use Rattle.ash_meaning.specs.Refusals as refusals
+
+-- the items of a script that is typed, or a refusal
+abbrev pub Checking : Type 0
+Checking = Result (List Item) Refusal
+
+-- tokens as the grammar sees them
+
+abbrev pub seen : Lexeme → Meaning × Place
+seen t = (t.meaning, record { at = t.from; line = t.line })
+
+abbrev pub tokens_in : List Lexeme → Tokens
+tokens_in tokens = map seen tokens
+
+abbrev pub end_by : Option Lexeme → ℕ
+end_by None = 0
+end_by (Some t) = t.to
+
+-- where the last of the tokens ends
+abbrev pub end_in : List Lexeme → ℕ
+end_in tokens = end_by (slice_get tokens (length tokens - 1))
+
+-- why tokens are no script
+
+-- the refusal that tells a fault of the grammar
+abbrev pub syntactic : ParseFault → Refusal
+syntactic (faults.Unexpected at) = refusals.Unexpected at
+syntactic (faults.Unsupported word at) = refusals.Unsupported word at
+syntactic (faults.TooDeep at) = refusals.TooDeep at
+syntactic faults.NoMemory = refusals.NoMemory
+
+-- the refusal that tells of a fault of tokens
+abbrev pub refusal_at : List Lexeme → Halt → Refusal
+refusal_at tokens halt = syntactic (fault_of (tokens_in tokens) (end_in tokens) halt)
+
+-- the tokens are no script, and are refused for their first fault by the grammar
+pub record IsNoScript (tokens : List Lexeme) (refusal : Refusal) : Type 0 where
+  pub halt : Halt
+  pub first : FirstFault (tokens_in tokens) halt
+  pub told : refusal ≡ refusal_at tokens halt
+
+-- why a script is not typed
+
+-- the refusal that tells a broken rule of typing, at an offset
+abbrev pub broken_at : Rule → ℕ → Refusal
+broken_at rules.UnknownName at = refusals.UnknownName at
+broken_at rules.UnknownType at = refusals.UnknownType at
+broken_at rules.NameTaken at = refusals.NameTaken at
+broken_at rules.TypeMismatch at = refusals.TypeMismatch at
+broken_at rules.WrongArgumentCount at = refusals.WrongArgumentCount at
+broken_at rules.NotAssignable at = refusals.NotAssignable at
+broken_at rules.NoReturn at = refusals.NoReturn at
+broken_at rules.Misplaced at = refusals.Misplaced at
+broken_at rules.NoFactory at = refusals.NoFactory at
+broken_at rules.TooMany at = refusals.TooMany at
+broken_at rules.ConstantOutOfRange at = refusals.ConstantOutOfRange at
+broken_at rules.DuplicateCase at = refusals.DuplicateCase at
+
+-- the refusal that tells what the check of types tells
+abbrev pub untyped : Told → Refusal
+untyped (Broken fault) = broken_at fault.rule fault.at
+untyped (Cyclic names) = refusals.CyclicType names
+
+-- the refusal that tells a fault of the check of types, which tells nothing where memory was refused
+abbrev pub of_told : Option Told → Refusal
+of_told (Some why) = untyped why
+of_told None = refusals.NoMemory
+
+abbrev pub of_check : CheckFault → Refusal
+of_check fault = of_told (told_of fault)
+
+-- The tokens are those of a script with these items, which is typed.
+pub record IsTypedScript (registered : List Registration) (tokens : List Lexeme) (items : List Item) : Type 0 where
+  pub derived : Derives 0 (tokens_in tokens) items
+  pub typed : IsOk (checked registered items)
+
+-- The tokens are those of a script that is refused for what the check of types tells.
+pub record IsUntypedScript (registered : List Registration) (tokens : List Lexeme) (refusal : Refusal) : Type 0 where
+  pub items : List Item
+  pub derived : Derives 0 (tokens_in tokens) items
+  pub why : Told
+  pub untyped_is : checked registered items ≡ Err why
+  pub told : refusal ≡ untyped why
+
+-- what checking the tokens of a source comes to
+abbrev pub ChecksTokens : List Registration → List Lexeme → Checking → Type 0
+ChecksTokens registered tokens (Ok items) = IsTypedScript registered tokens items
+ChecksTokens registered tokens (Err refusal) = IsNoScript tokens refusal ⊎ IsUntypedScript registered tokens refusal
+
+-- what checking a source comes to, where these calls are registered
+pub data Checks (registered : List Registration) (source : List ℕ) (checking : Checking) : Type 0 where
+  no_tokens : (refusal : Refusal) → checking ≡ Err refusal → Lexes source (Err refusal) → Checks registered source checking
+  has_tokens : (tokens : List Lexeme) → Lexes source (Ok tokens) → ChecksTokens registered tokens checking → Checks registered source checking
+
+-- The same as a function: that it gives what checking the source comes to is proved of it.
+
+abbrev pub unless_told : List Item → Result Module Told → Checking
+unless_told items (Ok typed) = Ok items
+unless_told items (Err why) = Err (untyped why)
+
+abbrev pub items_checked : List Registration → List Item → Checking
+items_checked registered items = unless_told items (checked registered items)
+
+abbrev pub script_checked : List Registration → List Lexeme → Parsing (List Item) → Checking
+script_checked registered tokens (Ok script) = items_checked registered script.0
+script_checked registered tokens (Err halt) = Err (refusal_at tokens halt)
+
+unfoldable pub tokens_checked : List Registration → List Lexeme → Checking
+tokens_checked registered tokens = script_checked registered tokens (module_at (tokens_in tokens))
+
+abbrev pub checked_on : List Registration → Result (List Lexeme) Refusal → Checking
+checked_on registered (Ok tokens) = tokens_checked registered tokens
+checked_on registered (Err refusal) = Err refusal
+
+unfoldable pub checked_source : List Registration → List ℕ → Checking
+checked_source registered source = checked_on registered (lexed source)
+
+-- The names of a module and those that are registered are one space.
+
+-- a name that nothing registered has
+abbrev pub IsFree : List Registration → List ℕ → Type 0
+IsFree registered name = is_some (find (takes_name name) registered) ≡ false
+
+-- the names that an item has in its module
+abbrev pub declared_in : Item → List (List ℕ)
+declared_in (AClass c) = c.name ∷ []
+declared_in (AFunction f) = f.name ∷ []
+declared_in (AGlobal v) = map (λ (d : Decl). d.name) v.decls
+
+-- no item has a registered name
+abbrev pub DeclareFreeNames : List Registration → List Item → Type 0
+DeclareFreeNames registered items = AllByRecursion (λ (item : Item). AllByRecursion (IsFree registered) (declared_in item)) items
+
+-- A source whose length alone refuses it takes no memory to check.
+abbrev pub TakesToTell : Refusal → Type 0
+TakesToTell (refusals.BadCharacter at) = Unit {0}
+TakesToTell (refusals.UnclosedComment at) = Unit {0}
+TakesToTell (refusals.NumberTooLarge at) = Unit {0}
+TakesToTell (refusals.Unexpected at) = Unit {0}
+TakesToTell (refusals.Unsupported word at) = Unit {0}
+TakesToTell (refusals.TooDeep at) = Unit {0}
+TakesToTell (refusals.UnknownName at) = Unit {0}
+TakesToTell (refusals.UnknownType at) = Unit {0}
+TakesToTell (refusals.NameTaken at) = Unit {0}
+TakesToTell (refusals.TypeMismatch at) = Unit {0}
+TakesToTell (refusals.WrongArgumentCount at) = Unit {0}
+TakesToTell (refusals.NotAssignable at) = Unit {0}
+TakesToTell (refusals.NoReturn at) = Unit {0}
+TakesToTell (refusals.Misplaced at) = Unit {0}
+TakesToTell (refusals.CyclicType names) = Unit {0}
+TakesToTell (refusals.NoFactory at) = Unit {0}
+TakesToTell (refusals.TooMany at) = Unit {0}
+TakesToTell (refusals.ConstantOutOfRange at) = Unit {0}
+TakesToTell (refusals.DuplicateCase at) = Unit {0}
+TakesToTell refusals.NotYet = Unit {0}
+TakesToTell _ = ⊥
+
+abbrev pub TakesToCheck : Checking → Type 0
+TakesToCheck (Ok items) = Unit {0}
+TakesToCheck (Err refusal) = TakesToTell refusal

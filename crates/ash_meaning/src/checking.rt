@@ -1,0 +1,100 @@
+// The script that a source spells, if it is typed.
+
+ghost use Rattle.std.specs.Prelude.{◌≡◌, ◌⊎◌, ◌↔◌, ℕ, List, Ok, Err, IsOk, IfOk, IfErr, OnOk};
+ghost use Rattle.ash_lex.specs.Tokens.{lexemes};
+ghost use Rattle.ash_tree.specs.Views.{module_of as items_of};
+ghost use Rattle.ash_tree.specs.Tree.{Item};
+ghost use Rattle.ash_registry.specs.Calls.{Call};
+ghost use Rattle.ash_registry.specs.Registered.{registered};
+ghost use Rattle.ash_typed.specs.Modules.{Module as Typed};
+ghost use Rattle.ash_check.specs.Checks.{checked};
+ghost use Rattle.ash_meaning.specs.Checking.{Checking, Checks, DeclareFreeNames, items_checked, tokens_checked, checked_source, TakesToCheck};
+ghost use Rattle.ash_meaning.specs.Refusals.{refusal_of, NoMemory};
+
+use crate::lexing::tokens_of;
+use crate::refusal::Refusal;
+use ash_check::check;
+use ash_lex::Token;
+use ash_parse::parse_module;
+use ash_registry::Registry;
+use ash_tree::Module;
+use std::alloc::Global;
+
+/// The script, if it is typed.
+fn typed_script(alloc: Global, registry: &Registry, script: Module) -> Result<Module, Refusal>
+    ensures found { IfOk result (λ found. items_checked (registered registry.now) (items_of script) ≡ Ok (items_of found)) }
+    ensures refused { IfErr result (λ refusal.
+        (refusal_of refusal ≡ NoMemory) ⊎ (items_checked (registered registry.now) (items_of script) ≡ Err (refusal_of refusal))) }
+{
+    check(alloc, registry, &script)?;
+    Ok(script)
+}
+
+/// The script with these tokens, or why it is refused.
+fn script_with(alloc: Global, registry: &Registry, tokens: &[Token]) -> Result<Module, Refusal>
+    ensures found { IfOk result (λ script. tokens_checked (registered registry.now) (lexemes tokens.now) ≡ Ok (items_of script)) }
+    ensures refused { IfErr result (λ refusal.
+        (refusal_of refusal ≡ NoMemory) ⊎ (tokens_checked (registered registry.now) (lexemes tokens.now) ≡ Err (refusal_of refusal))) }
+{
+    match parse_module(alloc, tokens) {
+        Ok(script) => typed_script(alloc, registry, script),
+        Err(fault) => Err(fault.into()),
+    }
+}
+
+/// The script that a source spells, where these calls are registered.
+///
+/// # Errors
+///
+/// A source is refused for the first of these that holds: it has more than 65,536 bytes, it is no UTF-8, it has a
+/// lexical fault, its tokens are no script or stand too deep, the script breaks a rule of typing, classes of it could
+/// form a cycle. Or memory was refused.
+pub(crate) fn checked_script(
+    alloc: Global,
+    registry: &Registry,
+    source: &[u8],
+) -> Result<Module, Refusal>
+    ensures found { IfOk result (λ script. checked_source (registered registry.now) source.now ≡ Ok (items_of script)) }
+    ensures refused { IfErr result (λ refusal.
+        ((refusal_of refusal ≡ NoMemory) × TakesToCheck (checked_source (registered registry.now) source.now))
+        ⊎ (checked_source (registered registry.now) source.now ≡ Err (refusal_of refusal))) }
+{
+    match tokens_of(alloc, source) {
+        Ok(tokens) => script_with(alloc, registry, &tokens),
+        Err(refusal) => Err(refusal),
+    }
+}
+
+/// Checks a source as `load` does, where these calls are registered, and runs nothing. It is `Ok` where nothing is told,
+/// also of a script that can't be run so far.
+///
+/// # Errors
+///
+/// The first of these that holds: `SourceTooLong`; `BadCharacter`, where it is no UTF-8; `BadCharacter`,
+/// `UnclosedComment` or `NumberTooLarge`, the first in the source; `Unexpected`, `Unsupported` or `TooDeep`, the first in
+/// the source; a rule of typing that is broken, the first in the order in which the script is walked; `CyclicType`. Or
+/// `NoMemory`, which a source that is too long never tells.
+pub fn check_source(alloc: Global, registry: &Registry, source: &[u8]) -> Result<(), Refusal>
+    ensures accepted { OnOk result (IsOk (checked_source (registered registry.now) source.now)) }
+    ensures refused { IfErr result (λ refusal.
+        ((refusal_of refusal ≡ NoMemory) × TakesToCheck (checked_source (registered registry.now) source.now))
+        ⊎ (checked_source (registered registry.now) source.now ≡ Err (refusal_of refusal))) }
+{
+    checked_script(alloc, registry, source)?;
+    Ok(())
+}
+
+/// Checking a source comes to one script that is typed, or to one refusal.
+pub fn one_checking()
+    ensures { (registered : List Call) (source : List ℕ) (checking : Checking) →
+        (checked_source registered source ≡ checking) ↔ Checks registered source checking }
+{}
+
+/// No script that is typed declares a registered name: those and the names of a module are one space.
+pub fn registered_names_are_taken()
+    ensures { (registered : List Call) (items : List Item) (typed : Typed) →
+        checked registered items ≡ Ok typed → DeclareFreeNames registered items }
+{}
+
+#[cfg(test)]
+mod tests;
