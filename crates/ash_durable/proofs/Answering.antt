@@ -2,8 +2,8 @@
 use Rattle.std.proofs.Common.{◌≡◌, inl, inr, ℕ, Bool, true, false, cond, List, length, nat_le, not, Option, Some, None, Ok, Err, is_some, refl, sym, ap, subst}
 use Rattle.ash_host.specs.declared.word.Word.{Word}
 use Rattle.ash_registry.specs.Calls.{Call as Registration}
-use Rattle.ash_meaning.specs.declared.refusal.Refusal.{Refusal}
-use Rattle.ash_meaning.specs.declared.refusal.Refusal.TheVariants as refusals
+use Rattle.ash_meaning.specs.Refusals.{Refusal}
+use Rattle.ash_meaning.specs.Refusals as refusals
 use Rattle.ash_meaning.specs.declared.request.Argument.{Argument}
 use Rattle.ash_meaning.specs.Tree.{Function}
 use Rattle.ash_meaning.specs.State.{State, Script, Request, Load, Call, Global, Seq, Reply, Answered, Refused}

@@ -1,7 +1,9 @@
 -- What one request of a host does, by what its state did and what was kept.
 use Rattle.std.proofs.Common.{◌≡◌, inl, inr, ℕ, false, Option, Some, None, is_some, unwrap_or, Result, Ok, Err, IfOk, OnErr, refl, sym, ◌∙◌, ap, subst}
-use Rattle.ash_meaning.specs.declared.refusal.Refusal.{Refusal}
-use Rattle.ash_meaning.specs.declared.refusal.Refusal.TheVariants as refusals
+use Rattle.ash_meaning.specs.declared.refusal.Refusal as code
+use Rattle.ash_meaning.specs.declared.refusal.Refusal.TheVariants as saving
+use Rattle.ash_meaning.specs.Refusals.{Refusal}
+use Rattle.ash_meaning.specs.Refusals as refusals
 use Rattle.ash_meaning.specs.declared.request.Answer.{Answer}
 use Rattle.ash_meaning.specs.State.{State, Request, Reply, Answered, Value, Number, Refused, answered, answer_of}
 use Rattle.ash_meaning.specs.Step.{Steps, step}
@@ -74,7 +76,7 @@ carries_lost device budget request old after first second answer refusal new ste
 }
 
 -- what keeping an answer gave
-pub record WasTold {D : Type 0} (device : Device D) (owed : Option ℕ) (old after : State) (first second : D) (answer : Answer) (result : Result Answer Refusal) (new : Hosted D) : Type 0 where
+pub record WasTold {D : Type 0} (device : Device D) (owed : Option ℕ) (old after : State) (first second : D) (answer : Answer) (result : Result Answer code.Refusal) (new : Hosted D) : Type 0 where
   pub kept : IfOk result (λ kept. (kept ≡ answer) × (new.state ≡ state_unless owed after) × (new.seq ≡ unwrap_or owed after.seq))
   pub lost : OnErr result ((new.state ≡ None) × (new.seq ≡ old.seq))
   pub second_is : new.second ≡ second
@@ -82,7 +84,7 @@ pub record WasTold {D : Type 0} (device : Device D) (owed : Option ℕ) (old aft
   pub keeps : (state : State) → IsRunning state (seen_host owed after first second) → Keeps device state first result new.first
 
 -- a request that is answered, if the answer is kept
-pub carries_answer : {D : Type 0} (device : Device D) (budget : ℕ) (request : Request) (owed : Option ℕ) (old after : State) (first second : D) (answer : Answer) (result : Result Answer Refusal) (new : Hosted D) → is_some owed ≡ false → Steps budget request old (answered answer) after → WasTold device owed old after first second answer result new → Carries device budget request (seen_host owed old first second) (answer_of result) new
+pub carries_answer : {D : Type 0} (device : Device D) (budget : ℕ) (request : Request) (owed : Option ℕ) (old after : State) (first second : D) (answer : Answer) (result : Result Answer code.Refusal) (new : Hosted D) → is_some owed ≡ false → Steps budget request old (answered answer) after → WasTold device owed old after first second answer result new → Carries device budget request (seen_host owed old first second) (answer_of result) new
 carries_answer device budget request (Some seq) old after first second answer result new runs steps told = absurd (cc)
 carries_answer device budget request None old after first second answer (Ok kept) new runs steps told =
     let keeps : Keeps {T = Answer} device after first (Ok kept) new.first = told.keeps after (record { registered_is = refl; state_is = refl; seq_is = refl }) in
@@ -102,11 +104,11 @@ carries_answer device budget request None old after first second answer (Ok kept
       second = told.second_is;
       registered = told.registered_is ∙ steps-registered budget request old after (answered answer) steps;
     }
-carries_answer device budget request None old after first second answer (Err refusals.DeviceFailed) new runs steps told =
-    let keeps : Keeps {T = Answer} device after first (Err refusals.DeviceFailed) new.first = told.keeps after (record { registered_is = refl; state_is = refl; seq_is = refl }) in
+carries_answer device budget request None old after first second answer (Err saving.DeviceFailed) new runs steps told =
+    let keeps : Keeps {T = Answer} device after first (Err saving.DeviceFailed) new.first = told.keeps after (record { registered_is = refl; state_is = refl; seq_is = refl }) in
     carries_lost device budget request old after first second answer refusals.DeviceFailed new steps told.lost.0 told.lost.1 told.second_is (told.registered_is ∙ steps-registered budget request old after (answered answer) steps) keeps.honesty tt keeps.failures
-carries_answer device budget request None old after first second answer (Err refusals.NoMemory) new runs steps told =
-    let keeps : Keeps {T = Answer} device after first (Err refusals.NoMemory) new.first = told.keeps after (record { registered_is = refl; state_is = refl; seq_is = refl }) in
+carries_answer device budget request None old after first second answer (Err saving.NoMemory) new runs steps told =
+    let keeps : Keeps {T = Answer} device after first (Err saving.NoMemory) new.first = told.keeps after (record { registered_is = refl; state_is = refl; seq_is = refl }) in
     carries_lost device budget request old after first second answer refusals.NoMemory new steps told.lost.0 told.lost.1 told.second_is (told.registered_is ∙ steps-registered budget request old after (answered answer) steps) keeps.honesty keeps.failures (ap device.failures keeps.failures)
 carries_answer device budget request None old after first second answer (Err _) new runs steps told =
     absurd (told.keeps after (record { registered_is = refl; state_is = refl; seq_is = refl })).failures

@@ -4,7 +4,7 @@ use Rattle.std.proofs.lemmas.Bool.Decides.{nat_tests}
 use Rattle.std.proofs.lemmas.Grind.{common_steps}
 use Rattle.ash_meaning.specs.State.{State, Load, Reply, Refused}
 use Rattle.ash_meaning.specs.Step.{step, TakesMemory}
-use Rattle.ash_meaning.specs.declared.refusal.Refusal.TheVariants as refusals
+use Rattle.ash_meaning.specs.Refusals as refusals
 use Rattle.ash_meaning.specs.Reading.{read_source}
 use Rattle.ash_meaning.proofs.ReadingLaws.{read_source-long}
 use Rattle.ash_durable.specs.Hosting.{Device, Hosted, IsAnswer, Replies, Carries}

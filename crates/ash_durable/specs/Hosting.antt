@@ -7,7 +7,8 @@ use Rattle.ash_image.specs.Image.{Snapshot, IsFile, IsClosed, file_of}
 use Rattle.ash_registry.specs.Calls.{Call}
 use Rattle.ash_registry.specs.Text.{text_of}
 use Rattle.ash_meaning.specs.declared.refusal.Refusal.{Refusal}
-use Rattle.ash_meaning.specs.declared.refusal.Refusal.TheVariants as refusals
+use Rattle.ash_meaning.specs.declared.refusal.Refusal.TheVariants as saving
+use Rattle.ash_meaning.specs.Refusals as refusals
 use Rattle.ash_meaning.specs.Kept.{Admits}
 use Rattle.ash_meaning.specs.State.{State, Request, Seq, Reply, Answered, Number, Refused}
 use Rattle.ash_meaning.specs.Step.{Steps, step}
@@ -108,8 +109,8 @@ Replies budget request None old reply new = (reply ≡ reply_owed request old.se
 -- An answer is kept, unless a disk fails, which its count shows, or memory is refused.
 abbrev pub KeepsWith : {D T : Type 0} → Device D → D → Result T Refusal → D → Type 0
 KeepsWith device old (Ok kept) new = device.failures new ≡ device.failures old
-KeepsWith device old (Err refusals.DeviceFailed) new = (device.failures old ≤ device.failures new) × Rose (device.failures old) (device.failures new)
-KeepsWith device old (Err refusals.NoMemory) new = new ≡ old
+KeepsWith device old (Err saving.DeviceFailed) new = (device.failures old ≤ device.failures new) × Rose (device.failures old) (device.failures new)
+KeepsWith device old (Err saving.NoMemory) new = new ≡ old
 KeepsWith device old (Err _) new = ⊥
 
 -- What keeping an answer left on the first disk.

@@ -147,9 +147,8 @@ impl<D: Disk> Host<D> {
     /// Loads a source as a module of this name: reads it and runs its initializers, with a budget in ticks. The
     /// module is kept where they finish.
     ///
-    /// Refusals, the first that holds: `Reopen`, `SequenceSpent`, `BadName`, `ModuleTaken`, `TooManyModules`, those of a
-    /// source: `SourceTooLong`, `BadCharacter`, `UnclosedComment`, `NumberTooLarge`, `Unexpected`,
-    /// `Unsupported`, `TooDeep`, `NotYet`.
+    /// Refusals, the first that holds: `Reopen`, `SequenceSpent`, `BadName`, `ModuleTaken`, `TooManyModules`, those that
+    /// `check_source` tells of a source, `NotYet`.
     /// At `DeviceFailed`, and at `NoMemory` where the answer could not be kept, a reopening is owed from then on.
     pub fn load(&mut self, name: &str, source: &[u8], budget: u64) -> Result<Answer, Refusal>
         ensures { Carries (record { honest = D.honest; seen = D.seen; clock = D.clock; leaves = D.leaves; failures = D.failures }) budget (Load name.now source.now) self.old (answer_of result) self.new }

@@ -16,5 +16,6 @@ pub mod host;
 mod saving;
 mod store;
 
+pub use ash_meaning::checking::check_source;
 pub use fault::{OpenRefused, StoreFault};
 pub use host::Host;
