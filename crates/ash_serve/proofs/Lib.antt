@@ -11,3 +11,4 @@ pub mod ReaderLemmas
 pub mod WriterLemmas
 pub mod RunningLemmas
 pub mod ServiceLemmas
+pub mod CheckingLemmas

@@ -1,10 +1,11 @@
 -- Bytes that are put one after another.
-use Rattle.std.proofs.Common.{◌≡◌, ℕ, ◌+◌, ◌<◌, ◌≤◌, List, [], ◌++◌, length, drop, get_or, refl, sym, ap, ◌∙◌, subst, arith, Ok, Err, Result, append_assoc, add-one, drop-cons}
+use Rattle.std.proofs.Common.{◌≡◌, ℕ, ◌+◌, ◌<◌, ◌≤◌, List, [], ◌++◌, length, drop, get_or, map, codes, refl, sym, ap, ◌∙◌, subst, arith, Ok, Err, Result, append_assoc, add-one, drop-cons}
 use Rattle.std.proofs.lemmas.List.{append-nil}
 use Rattle.std.proofs.lemmas.Grind.{common_steps}
 use Rattle.std.specs.Borrow.{Bor}
 use Rattle.std.specs.List.{flat_map}
 use Rattle.ash_serve.specs.Sink.{Outlet, IsOutlet, Holds, Stops, Puts, Flushes, Says}
+use Rattle.ash_serve.specs.Replies.{names_text}
 use Rattle.ash_serve.specs.declared.sink.WriteFault.{WriteFault}
 
 -- nothing was put
@@ -66,3 +67,13 @@ left-piece pieces i d h =
 
 pub left-none : (pieces : List (Bor (List ℕ))) (i : ℕ) → length pieces ≤ i → flat_map (λ (p : Bor (List ℕ)). p.now) (drop i pieces) ≡ []
 left-none pieces i h = let e : drop i pieces ≡ [] = grind (arith, common_steps) in rw e refl
+
+-- names, each behind a blank: the text of those that are left, from one name to the next
+pub left-name : {A : Type 0} (text : A → List ℕ) (names : List A) (i : ℕ) (name : A) → i < length names → get_or names i name ≡ name → names_text (map text (drop i names)) ≡ (codes " " ++ text name) ++ names_text (map text (drop (i + 1) names))
+left-name text names i name h e =
+    ap (λ xs. names_text (map text xs)) (drop-cons names i name h)
+    ∙ rw (add-one, e) refl
+
+-- a blank and a name, as pieces
+pub name-pieces : (blank bytes name : List ℕ) → blank ≡ codes " " → bytes ≡ name → blank ++ (bytes ++ []) ≡ codes " " ++ name
+name-pieces blank bytes name b e = rw (b, e) (ap (λ (x : List ℕ). codes " " ++ x) (append-nil name))

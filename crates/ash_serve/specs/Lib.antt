@@ -11,4 +11,5 @@ pub mod Reader
 pub mod Writer
 pub mod Running
 pub mod Program
+pub mod Checking
 pub mod Service

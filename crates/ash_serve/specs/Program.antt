@@ -1,5 +1,7 @@
 -- The statuses of the program.
 use Rattle.std.specs.Prelude.{ℕ}
+use Rattle.ash_serve.specs.declared.program.ending.Ending.{Ending}
+use Rattle.ash_serve.specs.declared.program.ending.Ending.TheVariants as endings
 use Rattle.ash_serve.specs.declared.program.fault.Fault.{Fault}
 use Rattle.ash_serve.specs.declared.program.fault.Fault.TheVariants.{Usage, NoMemory, Registry, Store, Run}
 
@@ -10,3 +12,8 @@ status_of NoMemory = 1
 status_of (Registry fault) = 1
 status_of (Store fault) = 1
 status_of (Run fault) = 1
+
+-- 1 where the script that was checked is refused
+abbrev pub ending_status : Ending → ℕ
+ending_status endings.Well = 0
+ending_status endings.Refused = 1

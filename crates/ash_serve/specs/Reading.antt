@@ -63,5 +63,5 @@ kept_part source = take 65537 source
 -- whether so many bytes came before the end, and what was kept of them
 abbrev pub ReadsBytes : {S : Type 0} → Feed S → S → Result Bool ReadFault → ℕ → List ℕ → S → Type 0
 ReadsBytes feed old (Ok true) count kept new = (bytes : List ℕ) × feed.takes old bytes new × (length bytes ≡ count) × (kept ≡ kept_part bytes)
-ReadsBytes feed old (Ok false) count kept new = (bytes : List ℕ) × feed.takes old bytes new × (length bytes < count) × feed.ended new
+ReadsBytes feed old (Ok false) count kept new = (bytes : List ℕ) × feed.takes old bytes new × (length bytes < count) × feed.ended new × (kept ≡ kept_part bytes)
 ReadsBytes feed old (Err fault) count kept new = (bytes : List ℕ) × Faults feed old bytes fault new × (length bytes < count)

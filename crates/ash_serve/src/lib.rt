@@ -4,7 +4,8 @@
 //!
 //! `source` and `sink` are what the loop needs of both ends; `line`, `words`, `number`, `spelled` and `bytes`
 //! read a request; `request` carries it out; `reply` puts its text; `turn` and `serve` make the loop; `reader`,
-//! `writer` and `run` are that loop over std's traits.
+//! `writer` and `run` are that loop over std's traits. `program` has what `ashd` does with its words; there `check`
+//! reads a script, has it checked, and tells what is found of it.
 #![tactic(auto)]
 
 mod bytes;

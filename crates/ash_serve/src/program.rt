@@ -1,5 +1,7 @@
 // The program `ashd`: what it does, and its statuses.
 
+pub mod check;
+pub mod ending;
 pub mod fault;
 pub mod registrations;
 pub mod service;
@@ -9,6 +11,8 @@ pub mod task;
 use crate::fault::RunFault;
 use ash_disk::MemoryDisk;
 use ash_durable::Host;
+use check::check_file;
+use ending::Ending;
 use fault::Fault;
 use registrations::registrations;
 use service::{serve_new, serve_stored};
@@ -17,7 +21,7 @@ use std::process::ExitCode;
 use std::rt::{Env, Files};
 use std::{env, io};
 use store::Store;
-use task::Task;
+use task::{Limits, Task};
 
 /// Runs the program, and gives the status to end with. A fault is told on standard error.
 pub fn main<R: Env + Files<File = File> + Input + Print + Eprint + AllocGlobal>(
@@ -28,7 +32,7 @@ pub fn main<R: Env + Files<File = File> + Input + Print + Eprint + AllocGlobal>(
         Err(fault) => Err(fault),
     };
     match end {
-        Ok(()) => ExitCode::SUCCESS,
+        Ok(ending) => ExitCode::from(ending.status()),
         Err(fault) => {
             let status = fault.status();
             let _ = eprintln!(rt; "ashd: {fault}");
@@ -46,38 +50,43 @@ fn words_of<R: Env + AllocGlobal>(rt: &R) -> Result<Vec<String>, Fault> {
     }
 }
 
-/// Does what a command line asks for. Faults come in this order: of the words, of the files, of what is registered, of
-/// the host, of the run.
+/// Does what a command line asks for, and says how the program ends. Faults come in this order: of the words, of the
+/// files, of what is registered, of the host or of memory, of the run.
 fn carry_out<R: Files<File = File> + Input + Print + AllocGlobal>(
     rt: &R,
     words: &[String],
-) -> Result<(), Fault> {
+) -> Result<Ending, Fault> {
     match Task::read(rt.alloc(), words)? {
-        Task::Try { limits } => {
-            let (a, b) = (MemoryDisk::new(rt.alloc()), MemoryDisk::new(rt.alloc()));
-            let registry = registrations(rt.alloc())?;
-            let writer = &mut io::writer(rt);
-            serve_new(
-                rt.alloc(),
-                a,
-                b,
-                registry,
-                rt.reader(),
-                writer,
-                limits.budget,
-            )
-        }
-        Task::Create { folder } => create(rt, folder),
-        Task::Serve { folder, limits } => {
-            let Store { a, b, lock } = Store::open(rt, folder)?;
-            let registry = registrations(rt.alloc())?;
-            let writer = &mut io::writer(rt);
-            let reader = rt.reader();
-            let end = serve_stored(rt.alloc(), a, b, registry, reader, writer, limits.budget);
-            drop(lock);
-            end
-        }
+        Task::Try { limits } => serve_in_memory(rt, limits)?,
+        Task::Create { folder } => create(rt, folder)?,
+        Task::Serve { folder, limits } => serve(rt, folder, limits)?,
+        Task::Check { file } => return check_path(rt, file),
     }
+    Ok(Ending::Well)
+}
+
+/// Serves standard input and output, with the store in memory.
+fn serve_in_memory<R: Input + Print + AllocGlobal>(rt: &R, limits: Limits) -> Result<(), Fault> {
+    let (a, b) = (MemoryDisk::new(rt.alloc()), MemoryDisk::new(rt.alloc()));
+    let registry = registrations(rt.alloc())?;
+    let writer = &mut io::writer(rt);
+    let reader = rt.reader();
+    serve_new(rt.alloc(), a, b, registry, reader, writer, limits.budget)
+}
+
+/// Serves standard input and output, with the store in a folder.
+fn serve<R: Files<File = File> + Input + Print + AllocGlobal>(
+    rt: &R,
+    folder: &str,
+    limits: Limits,
+) -> Result<(), Fault> {
+    let Store { a, b, lock } = Store::open(rt, folder)?;
+    let registry = registrations(rt.alloc())?;
+    let writer = &mut io::writer(rt);
+    let reader = rt.reader();
+    let end = serve_stored(rt.alloc(), a, b, registry, reader, writer, limits.budget);
+    drop(lock);
+    end
 }
 
 /// Makes a store in a folder, and says so. A folder that has one keeps it.
@@ -89,5 +98,23 @@ fn create<R: Files<File = File> + Print + AllocGlobal>(rt: &R, folder: &str) -> 
     match println!(rt; "created") {
         Ok(()) => Ok(()),
         Err(_) => Err(Fault::Run(RunFault::Write)),
+    }
+}
+
+/// Checks the script in a file, and tells what is found of it.
+fn check_path<R: Files<File = File> + Print + AllocGlobal>(
+    rt: &R,
+    path: &str,
+) -> Result<Ending, Fault> {
+    let file = File::open(rt, path).map_err(unread)?;
+    let registry = registrations(rt.alloc())?;
+    check_file(rt.alloc(), &registry, file, &mut io::writer(rt))
+}
+
+/// Why a script's file could not be opened.
+fn unread(error: io::Error) -> Fault {
+    match error.kind() {
+        io::ErrorKind::OutOfMemory => Fault::NoMemory,
+        _ => Fault::Run(RunFault::Read),
     }
 }

@@ -1,10 +1,11 @@
 // Putting a reply, piece by piece, as a line of text.
 
-ghost use Rattle.std.specs.Prelude.{◌≡◌, ◌∷◌, [], ◌++◌, codes};
+ghost use Rattle.std.specs.Prelude.{◌≡◌, ◌∷◌, [], ◌++◌, codes, map, string_bytes};
 ghost use Rattle.std.specs.List.{flat_map};
+ghost use Rattle.ash_meaning.specs.Refusals.{refusal_of};
 ghost use Rattle.ash_meaning.specs.State.{reply_of, end_of};
 ghost use Rattle.ash_serve.specs.Sink.{Puts, Says};
-ghost use Rattle.ash_serve.specs.Replies.{word_text, exception_text, refusal_name, details_in, refusal_text, place_text, finished_text, end_text, reply_text, seq_text};
+ghost use Rattle.ash_serve.specs.Replies.{word_text, exception_text, refusal_name, details_of, details_in, details_text, names_text, refusal_text, place_text, finished_text, end_text, reply_text, seq_text};
 
 use crate::sink::{Sink, WriteFault};
 use ash_host::Word;
@@ -19,6 +20,16 @@ pub(crate) fn say_reply<K: Sink>(sink: &mut K, reply: &Reply) -> Result<(), Writ
     ensures { Says K.outlet sink.old (reply_text (reply_of reply.now) ++ 10 ∷ []) result sink.new }
 {
     match put_reply(sink, reply) {
+        Err(fault) => Err(fault),
+        Ok(()) => end_line(sink),
+    }
+}
+
+/// Puts a refusal and the end of its line, and sends them.
+pub(crate) fn say_refusal<K: Sink>(sink: &mut K, refusal: &Refusal) -> Result<(), WriteFault>
+    ensures { Says K.outlet sink.old ((codes "refused " ++ refusal_text (refusal_of refusal.now)) ++ 10 ∷ []) result sink.new }
+{
+    match put_refusal(sink, refusal) {
         Err(fault) => Err(fault),
         Ok(()) => end_line(sink),
     }
@@ -57,7 +68,7 @@ fn put_reply<K: Sink>(sink: &mut K, reply: &Reply) -> Result<(), WriteFault>
             let mut digits = Buffer::new();
             put_all(sink, &[b"ok ".as_slice(), digits.format(*seq).as_bytes()])
         }
-        Reply::Refused(refusal) => put_refusal(sink, *refusal),
+        Reply::Refused(refusal) => put_refusal(sink, refusal),
     }
 }
 
@@ -178,75 +189,115 @@ fn put_exception<K: Sink>(sink: &mut K, exception: Exception) -> Result<(), Writ
 
 /// What a refusal tells of a source.
 #[derive(Clone, Copy, Debug)]
-enum Details {
+enum Details<'a> {
     Nothing,
     /// An offset in it.
     At(usize),
     /// The word of a part of the language that the profile does not have, and its offset.
     WordAt(UnsupportedPart, usize),
+    /// The names of classes.
+    Names(&'a [String]),
 }
 
 /// A refusal, with what it tells of the source.
-fn put_refusal<K: Sink>(sink: &mut K, refusal: Refusal) -> Result<(), WriteFault>
-    ensures { Puts K.outlet sink.old (codes "refused " ++ refusal_text refusal) result sink.new }
+fn put_refusal<K: Sink>(sink: &mut K, refusal: &Refusal) -> Result<(), WriteFault>
+    ensures { Puts K.outlet sink.old (codes "refused " ++ refusal_text (refusal_of refusal.now)) result sink.new }
 {
-    let name = refusal_name(refusal);
+    if let Err(fault) = sink.put(b"refused ") {
+        return Err(fault);
+    }
+    match sink.put(refusal_name(refusal)) {
+        Err(fault) => Err(fault),
+        Ok(()) => put_details(sink, details_in(refusal)),
+    }
+}
+
+/// What a refusal tells of the source, each part behind a blank.
+fn put_details<K: Sink>(sink: &mut K, details: Details<'_>) -> Result<(), WriteFault>
+    ensures { Puts K.outlet sink.old (details_text (details_of details.entry)) result sink.new }
+{
     let mut digits = Buffer::new();
-    match details_in(refusal) {
-        Details::Nothing => put_all(sink, &[b"refused ".as_slice(), name]),
-        Details::At(at) => {
-            let place = digits.format(at);
-            put_all(
-                sink,
-                &[b"refused ".as_slice(), name, b" ", place.as_bytes()],
-            )
-        }
+    match details {
+        Details::Nothing => put_all(sink, &[]),
+        Details::At(at) => put_all(sink, &[b" ".as_slice(), digits.format(at).as_bytes()]),
         Details::WordAt(word, at) => {
             let word = word.as_str();
             let place = digits.format(at);
             put_all(
                 sink,
-                &[
-                    b"refused ".as_slice(),
-                    name,
-                    b" ",
-                    word.as_bytes(),
-                    b" ",
-                    place.as_bytes(),
-                ],
+                &[b" ".as_slice(), word.as_bytes(), b" ", place.as_bytes()],
             )
         }
+        Details::Names(names) => put_names(sink, names),
     }
 }
 
+/// Names, each behind a blank.
+fn put_names<K: Sink>(sink: &mut K, names: &[String]) -> Result<(), WriteFault>
+    ensures { Puts K.outlet sink.old (names_text (map string_bytes names.now)) result sink.new }
+{
+    for name in names {
+        if let Err(fault) = put_all(sink, &[b" ".as_slice(), name.as_bytes()]) {
+            return Err(fault);
+        }
+    }
+    Ok(())
+}
+
 /// What a refusal tells of a source.
-fn details_in(refusal: Refusal) -> Details
-    ensures { result ≡ details_in refusal }
+fn details_in(refusal: &Refusal) -> Details<'_>
+    ensures { details_of result ≡ details_in (refusal_of refusal.now) }
 {
     match refusal {
         Refusal::BadCharacter { at }
         | Refusal::UnclosedComment { at }
         | Refusal::NumberTooLarge { at }
         | Refusal::Unexpected { at }
-        | Refusal::TooDeep { at } => Details::At(at),
-        Refusal::Unsupported { word, at } => Details::WordAt(word, at),
+        | Refusal::TooDeep { at }
+        | Refusal::UnknownName { at }
+        | Refusal::UnknownType { at }
+        | Refusal::NameTaken { at }
+        | Refusal::TypeMismatch { at }
+        | Refusal::WrongArgumentCount { at }
+        | Refusal::NotAssignable { at }
+        | Refusal::NoReturn { at }
+        | Refusal::Misplaced { at }
+        | Refusal::NoFactory { at }
+        | Refusal::TooMany { at }
+        | Refusal::ConstantOutOfRange { at }
+        | Refusal::DuplicateCase { at } => Details::At(*at),
+        Refusal::Unsupported { word, at } => Details::WordAt(*word, *at),
+        Refusal::CyclicType(names) => Details::Names(names.0.as_slice()),
         _ => Details::Nothing,
     }
 }
 
 /// The number and the name of a refusal.
-fn refusal_name(refusal: Refusal) -> &'static [u8]
-    ensures { result.now ≡ refusal_name refusal }
+fn refusal_name(refusal: &Refusal) -> &'static [u8]
+    ensures { result.now ≡ refusal_name (refusal_of refusal.now) }
 {
     match refusal {
-        Refusal::SourceTooLong => b"107 SourceTooLong",
         Refusal::BadCharacter { .. } => b"101 BadCharacter",
         Refusal::UnclosedComment { .. } => b"102 UnclosedComment",
         Refusal::NumberTooLarge { .. } => b"103 NumberTooLarge",
         Refusal::Unexpected { .. } => b"104 Unexpected",
         Refusal::Unsupported { .. } => b"105 Unsupported",
         Refusal::TooDeep { .. } => b"106 TooDeep",
+        Refusal::SourceTooLong => b"107 SourceTooLong",
         Refusal::NotYet => b"199 NotYet",
+        Refusal::UnknownName { .. } => b"301 UnknownName",
+        Refusal::UnknownType { .. } => b"302 UnknownType",
+        Refusal::NameTaken { .. } => b"303 NameTaken",
+        Refusal::TypeMismatch { .. } => b"304 TypeMismatch",
+        Refusal::WrongArgumentCount { .. } => b"305 WrongArgumentCount",
+        Refusal::NotAssignable { .. } => b"306 NotAssignable",
+        Refusal::NoReturn { .. } => b"307 NoReturn",
+        Refusal::Misplaced { .. } => b"308 Misplaced",
+        Refusal::CyclicType(_) => b"309 CyclicType",
+        Refusal::NoFactory { .. } => b"310 NoFactory",
+        Refusal::TooMany { .. } => b"311 TooMany",
+        Refusal::ConstantOutOfRange { .. } => b"312 ConstantOutOfRange",
+        Refusal::DuplicateCase { .. } => b"313 DuplicateCase",
         Refusal::NoModule => b"401 NoModule",
         Refusal::ModuleTaken => b"402 ModuleTaken",
         Refusal::NoFunction => b"403 NoFunction",

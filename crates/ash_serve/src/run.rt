@@ -13,7 +13,7 @@ use std::alloc::Global;
 use std::io::{Read, Write};
 
 /// How many bytes of a reply are held back at the most.
-const ROOM: usize = 8192;
+pub(crate) const ROOM: usize = 8192;
 
 /// Reads requests, has the host carry each out with this budget in ticks, and writes each reply, flushed, before
 /// the next request is read. Ends at the end of the input between two requests, or when `quit` is answered.

@@ -14,3 +14,5 @@ mod registered;
 mod rows;
 #[cfg(test)]
 mod store;
+#[cfg(test)]
+mod typing;

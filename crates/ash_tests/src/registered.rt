@@ -150,14 +150,19 @@ fn a_registered_name_is_taken(rt: HostRuntime) -> Result<(), Fail> {
         b"int Counter = 1;",
         b"int total() { return 1; }",
     ] {
-        assert!(rt; matches!(host.load("m", source, 1000), Err(Refusal::NotYet)));
+        assert!(rt;
+            matches!(
+                host.load("m", source, 1000),
+                Err(Refusal::NameTaken { at: 4 })
+            )
+        );
     }
     // A host that is opened again has what was registered.
     let mut host = ready(host.reopen())?;
     assert!(rt;
         matches!(
             host.load("m", b"int tally = 1;", 1000),
-            Err(Refusal::NotYet)
+            Err(Refusal::NameTaken { at: 4 })
         )
     );
     assert_eq!(rt; host.load("m", b"int add = 1;", 1000)?.seq, 1);

@@ -20,6 +20,8 @@ pub enum Task<'a> {
     Create { folder: &'a str },
     /// Serve standard input and output, with the store in this folder.
     Serve { folder: &'a str, limits: Limits },
+    /// Check the script in this file.
+    Check { file: &'a str },
 }
 
 /// What the scripts that are served may use.
@@ -49,6 +51,9 @@ impl<'a> Task<'a> {
                 folder: folder_of(matches)?,
                 limits: limits_of(matches)?,
             }),
+            Some(("check", matches)) => Ok(Task::Check {
+                file: file_of(matches)?,
+            }),
             _ => Err(Fault::Usage),
         }
     }
@@ -59,11 +64,13 @@ fn command<'a>(alloc: Global) -> Result<Command<'a>, AllocError> {
     let in_memory = with_limits(alloc, Command::new(alloc, "try"))?;
     let create = Command::new(alloc, "create").arg(folder_word(alloc))?;
     let serve = Command::new(alloc, "serve").arg(folder_word(alloc))?;
+    let check = Command::new(alloc, "check").arg(file_word(alloc))?;
     Command::new(alloc, "ashd")
         .subcommand_required(true)
         .subcommand(in_memory)?
         .subcommand(create)?
-        .subcommand(with_limits(alloc, serve)?)
+        .subcommand(with_limits(alloc, serve)?)?
+        .subcommand(check)
 }
 
 fn with_limits<'a>(alloc: Global, command: Command<'a>) -> Result<Command<'a>, AllocError> {
@@ -84,6 +91,12 @@ fn folder_word<'a>(alloc: Global) -> Arg<'a> {
         .action(ArgAction::Set)
 }
 
+fn file_word<'a>(alloc: Global) -> Arg<'a> {
+    Arg::new(alloc, "file")
+        .required(true)
+        .action(ArgAction::Set)
+}
+
 /// A request for help is a use of words like any other wrong one.
 fn refusal(kind: ErrorKind) -> Fault {
     match kind {
@@ -98,6 +111,11 @@ fn folder_of<'a>(matches: &ArgMatches<'a>) -> Result<&'a str, Fault> {
         Some(folder) if !folder.is_empty() => Ok(folder),
         _ => Err(Fault::Usage),
     }
+}
+
+/// The file that is named. An empty name is one that no file has.
+fn file_of<'a>(matches: &ArgMatches<'a>) -> Result<&'a str, Fault> {
+    matches.get_str("file").ok_or(Fault::Usage)
 }
 
 fn limits_of(matches: &ArgMatches) -> Result<Limits, Fault> {

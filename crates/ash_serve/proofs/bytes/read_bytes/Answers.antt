@@ -18,7 +18,7 @@ pub returns-in-Ok-None-clause-read : goal.returns-in-Ok-None-clause-read
 returns-in-Ok-None-clause-read g c =
     let i = c.loop-i.invariant.read in
     let e = gives_end g.S.Source.feed _ _ _ _ c.next.ensures c.in-Ok-None.is c.in-Ok-None.field-0-is in
-    (i.0, takes_then g.S.Source.feed g.met.S.Source.is_feed _ _ _ i.0 i.1 e.0, omega (arith, i.2), e.1)
+    (i.0, takes_then g.S.Source.feed g.met.S.Source.is_feed _ _ _ i.0 i.1 e.0, omega (arith, i.2), e.1, i.3)
 
 pub loop-i-preserved : goal.loop-i-preserved
 loop-i-preserved g c =

@@ -7,7 +7,8 @@ returns-in-Err-clause-taken g c start line w l e =
 
 pub returns-in-Ok-false-clause-taken : goal.returns-in-Ok-false-clause-taken
 returns-in-Ok-false-clause-taken g c start line w l e =
-    load_cut g.S.Source.feed g.met.S.Source.is_feed g.H.Carrier.carries c.args.budget start c.args.source.now c.read_bytes.new.source c.args.host.now line c.args.name.now c.args.count w l e (rw c.in-Ok-false.field-0-test at c.in-Ok-false.ensures.read)
+    let cut = rw c.in-Ok-false.field-0-test at c.in-Ok-false.ensures.read in
+    load_cut g.S.Source.feed g.met.S.Source.is_feed g.H.Carrier.carries c.args.budget start c.args.source.now c.read_bytes.new.source c.args.host.now line c.args.name.now c.args.count w l e (cut.0, cut.1, cut.2, cut.3)
 
 pub returns-in-Err-skip_line-clause-taken : goal.returns-in-Err-skip_line-clause-taken
 returns-in-Err-skip_line-clause-taken g c start line w l e =

@@ -1,0 +1,144 @@
+-- Checking a script: from what was read and told to what came of it.
+use Rattle.std.proofs.Common.{◌≡◌, ◌<◌, ◌≤◌, ◌⊎◌, ℕ, ◌^◌, Bool, true, false, List, [], ◌++◌, length, refl, sym, ap, ◌∙◌, subst, arith, Option, Some, None, Ok, Err, Result, inl, inr, ⊎_elim}
+use Rattle.std.proofs.lemmas.List.{append-nil, take_all, take_at}
+use Rattle.std.specs.Io.KnownBytes.{Consumes, IsAtEnd, Appends, Keeps}
+use Rattle.ash_registry.specs.Calls.{Call as Registration}
+use Rattle.ash_meaning.specs.declared.refusal.Refusal as code
+use Rattle.ash_meaning.specs.declared.refusal.Refusal.TheVariants as the
+use Rattle.ash_meaning.specs.Refusals.{Refusal, refusal_of}
+use Rattle.ash_meaning.specs.Refusals as refusals
+use Rattle.ash_meaning.specs.Checking.{Checking, TakesToCheck}
+use Rattle.ash_serve.specs.Source.{Feed}
+use Rattle.ash_serve.specs.Sink.{Outlet}
+use Rattle.ash_serve.specs.Reading.{kept_part, ReadsBytes}
+use Rattle.ash_serve.specs.Serving.{fault_of}
+use Rattle.ash_serve.specs.Checking.{found_line, judged, Judges, Tells, ReadsScript, ChecksScript, IsScriptOf, ChecksFile}
+use Rattle.ash_serve.specs.Reader.{left_of, allowance_of, reader_feed}
+use Rattle.ash_serve.specs.Writer.{writer_outlet}
+use Rattle.ash_serve.specs.declared.reader.Reader.{Reader}
+use Rattle.ash_serve.specs.declared.writer.Writer.{Writer}
+use Rattle.ash_serve.specs.declared.source.ReadFault.{ReadFault}
+use Rattle.ash_serve.specs.declared.source.ReadFault.TheVariants as reads
+use Rattle.ash_serve.specs.declared.fault.RunFault.TheVariants as faults
+use Rattle.ash_serve.specs.declared.program.ending.Ending.{Ending}
+use Rattle.ash_serve.specs.declared.program.fault.Fault.{Fault}
+use Rattle.ash_serve.specs.declared.program.fault.Fault.TheVariants as program
+
+-- so few bytes are all kept
+kept-whole : (bytes : List ℕ) → length bytes ≤ 65537 → kept_part bytes ≡ bytes
+unfolding kept_part
+kept-whole bytes h = take_all 65537 bytes h
+
+kept-front : (front rest : List ℕ) → length front ≡ 65537 → kept_part (front ++ rest) ≡ front
+unfolding kept_part
+kept-front front rest e = take_at front rest 65537 e
+
+-- Judging a source.
+
+abbrev TellsNoMemory : Checking → Type 0
+TellsNoMemory (Err refusals.NoMemory) = Unit {0}
+TellsNoMemory _ = ⊥
+
+pub takes_memory : (checking : Checking) (refusal : code.Refusal) → ((refusal_of refusal ≡ refusals.NoMemory) × TakesToCheck checking) ⊎ (checking ≡ Err (refusal_of refusal)) → refusal ≡ the.NoMemory → checking ≡ Err refusals.SourceTooLong → ⊥
+takes_memory checking refusal h n e =
+    ⊎_elim
+    (λ (t : (refusal_of refusal ≡ refusals.NoMemory) × TakesToCheck checking). subst TakesToCheck e t.1)
+    (λ (r : checking ≡ Err (refusal_of refusal)). subst TellsNoMemory (sym (subst (λ (x : code.Refusal). checking ≡ Err (refusal_of x)) n r) ∙ e) cc)
+    h
+
+-- Over a source and a sink.
+
+-- what is kept of 65,537 bytes, or of fewer where the source ends, is the script
+pub script_read : {S : Type 0} (feed : Feed S) (s t : S) (came : Bool) (kept : List ℕ) → ReadsBytes feed s (Ok came) 65537 kept t → ReadsScript feed s kept t
+script_read feed s t true kept h = subst (λ (x : List ℕ). ReadsScript feed s x t) (sym (h.3 ∙ kept-whole h.0 (omega (arith, h.2)))) (h.1, inl h.2)
+script_read feed s t false kept h = subst (λ (x : List ℕ). ReadsScript feed s x t) (sym (h.4 ∙ kept-whole h.0 (omega (arith, h.2)))) (h.1, inr (h.2, h.3))
+
+-- a read failed before that
+pub script_unread : {S K : Type 0} (feed : Feed S) (outlet : Outlet K) (registered : List Registration) (s t : S) (k : K) (fault : ReadFault) (kept : List ℕ) → ReadsBytes feed s (Err fault) 65537 kept t → ChecksScript feed outlet registered s k (Err (program.Run (fault_of fault))) t k
+script_unread feed outlet registered s t k reads.TooLong kept h = (h.0, h.2, h.1, refl)
+script_unread feed outlet registered s t k reads.Failed kept h = (h.0, h.2, h.1, refl)
+
+-- there was no memory to judge it
+pub script_unjudged : {S K : Type 0} (feed : Feed S) (outlet : Outlet K) (registered : List Registration) (s t : S) (k : K) (script : List ℕ) (fault : Fault) → ReadsScript feed s script t → Judges registered script (Err fault) → ChecksScript feed outlet registered s k (Err fault) t k
+script_unjudged feed outlet registered s t k script program.NoMemory h j = (inr (script, h, j), refl)
+script_unjudged feed outlet registered s t k script program.Usage h j = absurd j
+script_unjudged feed outlet registered s t k script (program.Registry fault) h j = absurd j
+script_unjudged feed outlet registered s t k script (program.Store fault) h j = absurd j
+script_unjudged feed outlet registered s t k script (program.Run fault) h j = absurd j
+
+-- the script was read, and what is found of it was told
+pub script_told : {S K : Type 0} (feed : Feed S) (outlet : Outlet K) (registered : List Registration) (s t : S) (k o : K) (script : List ℕ) (found : Option Refusal) (r : Result Ending Fault) → ReadsScript feed s script t → found ≡ judged registered script → Tells outlet k found r o → ChecksScript feed outlet registered s k r t o
+script_told feed outlet registered s t k o script found (Ok ending) h e w = (script, h, subst (λ (x : Option Refusal). Tells outlet k x (Ok ending) o) e w)
+script_told feed outlet registered s t k o script found (Err (program.Run faults.Write)) h e w = (script, h, subst (λ (x : Option Refusal). Tells outlet k x (Err (program.Run faults.Write)) o) e w)
+script_told feed outlet registered s t k o script found (Err (program.Run faults.Truncated)) h e w = absurd w
+script_told feed outlet registered s t k o script found (Err (program.Run faults.TooLong)) h e w = absurd w
+script_told feed outlet registered s t k o script found (Err (program.Run faults.Read)) h e w = absurd w
+script_told feed outlet registered s t k o script found (Err (program.Run faults.NoMemory)) h e w = absurd w
+script_told feed outlet registered s t k o script found (Err program.Usage) h e w = absurd w
+script_told feed outlet registered s t k o script found (Err program.NoMemory) h e w = absurd w
+script_told feed outlet registered s t k o script found (Err (program.Registry fault)) h e w = absurd w
+script_told feed outlet registered s t k o script found (Err (program.Store fault)) h e w = absurd w
+
+-- Over a reader and a writer.
+
+script_of : (file left : Option (List ℕ)) (script : List ℕ) → Consumes file left script → (length script ≡ 65537) ⊎ ((length script < 65537) × IsAtEnd left) → IsScriptOf file script
+script_of None left script h r = tt
+script_of (Some xs) None script h r = absurd h
+script_of (Some xs) (Some ys) script h r =
+    ⊎_elim
+    (λ (full : length script ≡ 65537). sym (ap kept_part h ∙ kept-front script ys full))
+    (λ (e : (length script < 65537) × (ys ≡ [])).
+    let all : xs ≡ script = h ∙ (ap (λ (y : List ℕ). script ++ y) e.1 ∙ append-nil script) in
+    sym (ap kept_part all ∙ kept-whole script (omega (arith, e.0))))
+    r
+
+keeps-same : {W : Type 0} (contents : W → Option (List ℕ)) (k o : Writer W) → o ≡ k → Keeps (contents k.writer.now) (contents o.writer.now)
+keeps-same contents k o e = subst (λ (y : Writer _). Keeps (contents k.writer.now) (contents y.writer.now)) (sym e) (keeps (contents k.writer.now))
+  where
+    keeps : (known : Option (List ℕ)) → Keeps known known
+    keeps None = tt
+    keeps (Some xs) = refl
+
+file-checked : {R W : Type 0} (remaining : R → Option (List ℕ)) (contents : W → Option (List ℕ)) (registered : List Registration) (s t : Reader R) (k o : Writer W) (file : Option (List ℕ)) (r : Result Ending Fault) → left_of remaining s ≡ file → allowance_of s ≡ 2 ^ 40 → k.buffer.items ≡ [] → ChecksScript (reader_feed remaining) (writer_outlet contents) registered s k r t o → ChecksFile registered file (contents k.writer.now) r (contents o.writer.now)
+file-checked remaining contents registered s t k o file (Ok ending) e a b w = (
+  w.0,
+  script_of file (left_of remaining t) w.0 (subst (λ (y : Option (List ℕ)). Consumes y (left_of remaining t) w.0) e w.1.0.0) w.1.1,
+  w.2.0,
+  subst (λ (y : List ℕ). Appends (contents k.writer.now) (contents o.writer.now) (y ++ found_line (judged registered w.0))) b w.2.1.sent.0,
+)
+file-checked remaining contents registered s t k o file (Err (program.Run faults.Write)) e a b w = (
+  w.0,
+  script_of file (left_of remaining t) w.0 (subst (λ (y : Option (List ℕ)). Consumes y (left_of remaining t) w.0) e w.1.0.0) w.1.1,
+  w.2.out,
+  w.2.lost,
+  w.2.broke.0,
+  subst (λ (y : List ℕ). y ++ found_line (judged registered w.0) ≡ w.2.out ++ w.2.lost) b w.2.whole,
+)
+file-checked remaining contents registered s t k o file (Err (program.Run faults.Read)) e a b w = keeps-same contents k o w.3
+file-checked remaining contents registered s t k o file (Err (program.Run faults.TooLong)) e a b w = absurd (omega (arith, w.1, w.2.0.1, w.2.1, a))
+file-checked remaining contents registered s t k o file (Err (program.Run faults.Truncated)) e a b w = absurd w
+file-checked remaining contents registered s t k o file (Err (program.Run faults.NoMemory)) e a b w = absurd w
+file-checked remaining contents registered s t k o file (Err program.Usage) e a b w = absurd w
+file-checked remaining contents registered s t k o file (Err program.NoMemory) e a b w = keeps-same contents k o w.1
+file-checked remaining contents registered s t k o file (Err (program.Registry fault)) e a b w = absurd w
+file-checked remaining contents registered s t k o file (Err (program.Store fault)) e a b w = absurd w
+
+-- the sink writes into the writer that it was made with
+checked-name : {R W : Type 0} (remaining : R → Option (List ℕ)) (contents : W → Option (List ℕ)) (registered : List Registration) (s t : Reader R) (k o : Writer W) (r : Result Ending Fault) → ChecksScript (reader_feed remaining) (writer_outlet contents) registered s k r t o → o.writer.ghost_name ≡ k.writer.ghost_name
+checked-name remaining contents registered s t k o (Ok ending) w = w.2.1.sent.1
+checked-name remaining contents registered s t k o (Err (program.Run faults.Write)) w = w.2.broke.1
+checked-name remaining contents registered s t k o (Err (program.Run faults.Read)) w = ap (λ (y : Writer _). y.writer.ghost_name) w.3
+checked-name remaining contents registered s t k o (Err (program.Run faults.TooLong)) w = ap (λ (y : Writer _). y.writer.ghost_name) w.3
+checked-name remaining contents registered s t k o (Err (program.Run faults.Truncated)) w = absurd w
+checked-name remaining contents registered s t k o (Err (program.Run faults.NoMemory)) w = absurd w
+checked-name remaining contents registered s t k o (Err program.Usage) w = absurd w
+checked-name remaining contents registered s t k o (Err program.NoMemory) w = ap (λ (y : Writer _). y.writer.ghost_name) w.1
+checked-name remaining contents registered s t k o (Err (program.Registry fault)) w = absurd w
+checked-name remaining contents registered s t k o (Err (program.Store fault)) w = absurd w
+
+-- the script was checked, where x is what the writer ends as
+pub file_checked : {R W : Type 0} (remaining : R → Option (List ℕ)) (contents : W → Option (List ℕ)) (registered : List Registration) (s t : Reader R) (k o : Writer W) (file : Option (List ℕ)) (r : Result Ending Fault) (before x : W) → left_of remaining s ≡ file → allowance_of s ≡ 2 ^ 40 → k.buffer.items ≡ [] → k.writer.now ≡ before → (o.writer.ghost_name ≡ k.writer.ghost_name → x ≡ o.writer.now) → ChecksScript (reader_feed remaining) (writer_outlet contents) registered s k r t o → ChecksFile registered file (contents before) r (contents x)
+file_checked remaining contents registered s t k o file r before x e a b n f w =
+    let checked = file-checked remaining contents registered s t k o file r e a b w in
+    subst (λ (y : _). ChecksFile registered file (contents y) r (contents x)) n
+    (subst (λ (y : _). ChecksFile registered file (contents k.writer.now) r (contents y)) (sym (f (checked-name remaining contents registered s t k o r w))) checked)
