@@ -4,7 +4,7 @@ use Rattle.ash_lex.specs.declared.signs.Sign.{Sign}
 use Rattle.ash_tree.specs.Tokens.{Tokens}
 use Rattle.ash_tree.specs.Expressions.{IsInner, no_more_exprs, no_links}
 use Rattle.ash_parse.specs.Reading.{next_is_sign}
-use Rattle.ash_parse.specs.ExpressionReader.{Below, next_expr_with, is_suffix, suffix_with, is_link, link_by, operator_at, binary_with, below_at, chain_by, assign_with, unary_with, limit_at}
+use Rattle.ash_parse.specs.ExpressionReader.{next_expr_with, is_suffix, suffix_with, is_link, link_by, operator_at, binary_with, below_at, assign_with, unary_with, limit_at}
 use Rattle.ash_parse.proofs.Readings.{Finds}
 use Rattle.ash_parse.proofs.ExpressionShorter.{suffix_shorter, more_exprs_strict, links_strict}
 use Rattle.ash_parse.proofs.ExpressionSound.{IsPart, whole_sound, part_sound, suffix_sound, grow_exprs, link_from_sound, binary_sound}
@@ -54,14 +54,3 @@ pub below-none : (room : ℕ) (whole : Bool) (ts : Tokens) → room ≡ 0 → be
 unfolding below_at
 below-none zero whole ts h = refl
 below-none (suc room) whole ts h = absurd (omega arith)
-
--- a level is a chain of the one below
-pub binary-none : (below : Below) (n : ℕ) (ts : Tokens) → n ≡ 0 → binary_with below n ts ≡ unary_with below ts
-unfolding binary_with
-binary-none below zero ts h = refl
-binary-none below (suc n) ts h = absurd (omega arith)
-
-pub binary-some : (below : Below) (n : ℕ) (ts : Tokens) → 0 < n → binary_with below n ts ≡ chain_by (n - 1) (binary_with below (n - 1)) ts
-unfolding binary_with
-binary-some below zero ts h = absurd (omega arith)
-binary-some below (suc n) ts h = let e : suc n - 1 ≡ n = omega arith in rw e refl

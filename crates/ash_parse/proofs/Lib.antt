@@ -4,6 +4,7 @@ pub mod ExpressionShorter
 pub mod ExpressionSound
 pub mod Loop
 pub mod ExpressionLoops
+pub mod Climbing
 pub mod Types
 pub mod StatementShorter
 pub mod StatementSound

@@ -129,6 +129,15 @@ unfoldable pub operator_at : ℕ → Tokens → Option (BinaryOp × Tokens)
 operator_at n [] = None
 operator_at n ((m, p) ∷ ts) = operator_by n (binary_operator m) ts
 
+abbrev pub level_by : Option BinaryOp → ℕ
+level_by None = 0
+level_by (Some operator) = level operator
+
+-- the level of the operator that stands next; 0 where none does
+unfoldable pub next_level : Tokens → ℕ
+next_level [] = 0
+next_level ((m, p) ∷ ts) = level_by (binary_operator m)
+
 unfoldable pub is_link : ℕ → Tokens → Bool
 is_link n ts = is_some (operator_at n ts)
 

@@ -89,40 +89,34 @@ fn branches<'a>(alloc: Global, room: u32, condition: Expr, tokens: &'a [Token]) 
     Ok((nodes::conditional(alloc, condition, then, otherwise)?, rest))
 }
 
-/// What operators up to this level join; without a level a `unary`.
+/// What operators up to this level join, from the tightest level on; without a level a `unary`.
 #[cycle(expressions)]
 fn binary(alloc: Global, level: u32, room: u32, tokens: &[Token]) -> Reading<'_, Expr>
     requires loosest { level ≤ LEVELS }
     requires room { room ≤ DEPTH }
     ensures { Gives (λ x. (expr_of x.0, tokens_of x.1.now)) result (reader.binary_with (reader.below_at room) level (tokens_of tokens.now)) }
 {
-    if level == 0 {
-        return unary(alloc, room, tokens);
+    let (mut joined, mut rest) = unary(alloc, room, tokens)?;
+    let mut reached = 0;
+    let mut next = next_level(rest);
+    'climb: while reached < next && next <= level {
+        let (links, behind) = links(alloc, next - 1, room, rest)?;
+        joined = nodes::binary(alloc, joined, links)?;
+        rest = behind;
+        reached = next;
+        next = next_level(rest);
     }
-    chain(alloc, level - 1, room, tokens)
+    Ok((joined, rest))
 }
 
-/// What the operators that join operands of this level join.
-#[cycle(expressions)]
-#[tactic(auto, unfolding(crate::specs::ExpressionReader::chain_by))]
-fn chain(alloc: Global, level: u32, room: u32, tokens: &[Token]) -> Reading<'_, Expr>
-    requires loosest { level < LEVELS }
-    requires room { room ≤ DEPTH }
-    ensures { Gives (λ x. (expr_of x.0, tokens_of x.1.now)) result (reader.chain_by level (reader.binary_with (reader.below_at room) level) (tokens_of tokens.now)) }
-{
-    let (first, rest) = binary(alloc, level, room, tokens)?;
-    let (links, rest) = links(alloc, level, room, rest)?;
-    Ok((nodes::binary(alloc, first, links)?, rest))
-}
-
-/// The operators that join operands of this level, each with its right operand.
+/// The operators that join operands of this level, each with its right operand: mostly one stands alone.
 #[cycle(expressions)]
 fn links(alloc: Global, level: u32, room: u32, tokens: &[Token]) -> Reading<'_, Vec<Link>>
     requires loosest { level < LEVELS }
     requires room { room ≤ DEPTH }
     ensures { Gives (λ x. (map operation_of x.0.items, tokens_of x.1.now)) result (reader.links_by level (reader.binary_with (reader.below_at room) level) (tokens_of tokens.now)) }
 {
-    let mut links = Vec::new(alloc);
+    let mut links = Vec::with_capacity(alloc, 1)?;
     let mut rest = tokens;
     'more: while begins_link(level, rest) {
         let (next, behind) = link(alloc, level, room, rest)?;
@@ -144,6 +138,20 @@ fn link(alloc: Global, level: u32, room: u32, tokens: &[Token]) -> Reading<'_, L
     };
     let (operand, rest) = binary(alloc, level, room, rest)?;
     Ok((Link { operator, operand }, rest))
+}
+
+/// The level of the operator that stands next; 0 where none does.
+#[tactic(auto, unfolding(crate::specs::ExpressionReader::next_level))]
+fn next_level(tokens: &[Token]) -> u32
+    ensures { result ≡ reader.next_level (tokens_of tokens.now) }
+{
+    let Some((next, _)) = tokens.split_first() else {
+        return 0;
+    };
+    match binary_operator(&next.kind) {
+        Some(operator) => level(operator),
+        None => 0,
+    }
 }
 
 /// An operator that joins operands of this level.
@@ -195,6 +203,9 @@ fn postfix(alloc: Global, room: u32, tokens: &[Token]) -> Reading<'_, Expr>
     ensures { Gives (λ x. (expr_of x.0, tokens_of x.1.now)) result (reader.postfix_with (reader.below_at room) (tokens_of tokens.now)) }
 {
     let (operand, rest) = primary(alloc, room, tokens)?;
+    if !begins_suffix(rest) {
+        return Ok((operand, rest));
+    }
     let (suffixes, rest) = suffixes(alloc, room, rest)?;
     Ok((nodes::postfix(alloc, operand, suffixes)?, rest))
 }
@@ -212,12 +223,13 @@ fn begins_suffix(tokens: &[Token]) -> bool
     )
 }
 
+/// `suffix { suffix }`: mostly one stands alone.
 #[cycle(expressions)]
 fn suffixes(alloc: Global, room: u32, tokens: &[Token]) -> Reading<'_, Vec<Suffix>>
     requires { room ≤ DEPTH }
     ensures { Gives (λ x. (map suffix_of x.0.items, tokens_of x.1.now)) result (reader.suffixes_with (reader.below_at room) (tokens_of tokens.now)) }
 {
-    let mut suffixes = Vec::new(alloc);
+    let mut suffixes = Vec::with_capacity(alloc, 1)?;
     let mut rest = tokens;
     'more: while begins_suffix(rest) {
         let (next, behind) = suffix(alloc, room, rest)?;
@@ -364,7 +376,7 @@ fn more_expressions<'a>(
     requires { room ≤ DEPTH }
     ensures { Gives (λ x. (map expr_of x.0.items, tokens_of x.1.now)) result (put (expr_of first) (reader.more_exprs_with (reader.below_at room) (tokens_of tokens.now))) }
 {
-    let mut all = Vec::new(alloc);
+    let mut all = Vec::with_capacity(alloc, 1)?;
     all.push(first)?;
     let mut rest = tokens;
     'more: while next_is_sign(Sign::Comma, rest) {

@@ -207,7 +207,7 @@ fn next_decl(alloc: Global, room: u32, tokens: &[Token]) -> Reading<'_, Decl>
     decl(alloc, room, rest)
 }
 
-/// `{ "," decl }`, behind the first
+/// `{ "," decl }`, behind the first: mostly one stands alone
 fn more_decls<'a>(
     alloc: Global,
     room: u32,
@@ -217,7 +217,7 @@ fn more_decls<'a>(
     requires { room ≤ DEPTH }
     ensures { Gives (λ x. (map decl_of x.0.items, tokens_of x.1.now)) result (put (decl_of first) (reader.more_decls_with (exprs.below_at room) (tokens_of tokens.now))) }
 {
-    let mut all = Vec::new(alloc);
+    let mut all = Vec::with_capacity(alloc, 1)?;
     all.push(first)?;
     let mut rest = tokens;
     'more: while next_is_sign(Sign::Comma, rest) {

@@ -1,14 +1,16 @@
-use Rattle.std.proofs.Common.{◌≡◌, ◌∙◌, sym, map, arith, true, false}
+use Rattle.std.proofs.Common.{◌≡◌, ◌<◌, ◌≤◌, ◌∙◌, refl, sym, map, arith, true, false}
 use Rattle.std.proofs.lemmas.List.{length-map}
 use Rattle.std.proofs.lemmas.Result.{err_from_is_err_and}
 use Rattle.ash_lex.specs.declared.signs.Sign.TheVariants as signs
 use Rattle.ash_tree.specs.Tokens.{tokens_of, placed}
 use Rattle.ash_tree.specs.Views.{expr_of, suffix_of, operation_of}
 use Rattle.ash_parse.specs.Reading.{put, next_is_sign}
-use Rattle.ash_parse.specs.ExpressionReader.{below_at, binary_with, is_link, link_by, links_by, is_suffix, suffix_with, suffixes_with, next_expr_with, more_exprs_with}
-use Rattle.ash_parse.proofs.Loop.{goes_on, ends, is_done}
-use Rattle.ash_parse.proofs.ExpressionLoops.{no_sign_left, no_suffix_left, no_link_left, next_expr_shrinks, suffix_shrinks, link_shrinks, below-whole, below-part, below-none, binary-none, binary-some}
+use Rattle.ash_parse.specs.ExpressionReader.{below_at, binary_with, is_link, link_by, links_by, is_suffix, suffix_with, suffixes_with, postfix_with, next_expr_with, more_exprs_with}
+use Rattle.ash_parse.proofs.Loop.{loop_done, goes_on, ends, is_done}
+use Rattle.ash_parse.proofs.ExpressionLoops.{no_sign_left, no_suffix_left, no_link_left, next_expr_shrinks, suffix_shrinks, link_shrinks, below-whole, below-part, below-none}
+use Rattle.ash_parse.proofs.Climbing.{climb_begins, operand_fails, climbs, climb_fails, climb_ends}
 use Rattle.ash_parse.proofs.expressions.+expressions.Goals as goal
+use Rattle.ash_parse.proofs.expressions.+expressions.Goals.{binary-then-climb-test+else-next-level, binary-else-climb-test}
 
 pub below-returns-then-room-eq0 : goal.below-returns-then-room-eq0
 below-returns-then-room-eq0 t c = rw (below-none c.args.room c.args.whole (tokens_of c.args.tokens.now) c.if-room-eq0.true) c.limit.ensures
@@ -19,16 +21,37 @@ below-returns-then-whole t c = rw (c.if-whole.true, below-whole c.args.room (tok
 pub below-returns-else-whole : goal.below-returns-else-whole
 below-returns-else-whole t c = rw (c.if-whole.false, below-part c.args.room (tokens_of c.args.tokens.now) (omega arith)) c.unary.ensures
 
-pub binary-returns-then-level-eq0 : goal.binary-returns-then-level-eq0
-binary-returns-then-level-eq0 t c = rw (binary-none (below_at c.args.room) c.args.level (tokens_of c.args.tokens.now) c.if-level-eq0.true) c.unary.ensures
+pub binary-returns-in_err-joined : goal.binary-returns-in_err-joined
+binary-returns-in_err-joined t c =
+    let p = err_from_is_err_and c.from_residual.result c.from_residual.ensures.1 in
+    rw (p.1, p.2) (operand_fails (below_at c.args.room) c.in_err-joined.field-0.0 c.args.level (tokens_of c.args.tokens.now) c.in_err-joined.ensures)
+
+pub binary-climb-init : goal.binary-climb-init
+binary-climb-init t c = record {
+  next = c.next_level-next.ensures;
+  so_far = climb_begins (below_at c.args.room) c.args.level (tokens_of c.args.tokens.now) (expr_of c.in_ok-joined.joined, tokens_of c.in_ok-joined.rest.now) c.in_ok-joined.ensures;
+}
+
+pub binary-returns-in_err-links : goal.binary-returns-in_err-links
+binary-returns-in_err-links t c =
+    let p = err_from_is_err_and c.from_residual-in_err-links.result c.from_residual-in_err-links.ensures.1 in
+    rw (p.1, p.2) (climb_fails c.args.room c.requires.room c.in_err-links.field-0.0 c.args.level c.climb.reached c.climb.next (expr_of c.climb.joined) (tokens_of c.climb.rest.now) (binary_with (below_at c.args.room) c.args.level (tokens_of c.args.tokens.now)) c.climb.invariant.next (omega arith) (omega arith) c.in_err-links.ensures c.climb.invariant.so_far)
+
+pub binary-climb-preserved : goal.binary-climb-preserved
+binary-climb-preserved t c = record {
+  next = c.next_level-next-in-climb.ensures;
+  so_far = rw c.in_ok-joined-2.ensures (climbs c.args.room c.requires.room c.args.level c.climb.reached c.climb.next (expr_of c.climb.joined) (tokens_of c.climb.rest.now) (tokens_of c.in_ok-links.behind.now) (map operation_of c.in_ok-links.links.items) (binary_with (below_at c.args.room) c.args.level (tokens_of c.args.tokens.now)) c.climb.invariant.next (omega arith) (omega arith) c.in_ok-links.ensures c.climb.invariant.so_far);
+}
 
 pub binary-returns : goal.binary-returns
-binary-returns t c = rw (binary-some (below_at c.args.room) c.args.level (tokens_of c.args.tokens.now) (omega arith)) c.chain.ensures
+binary-returns t c =
+    let over : c.climb.reached < c.climb.next → c.climb.next ≤ c.args.level → ⊥ = λ l u. (elim c.climb-test.branch [ binary-then-climb-test+else-next-level w ↦ omega arith | binary-else-climb-test w ↦ omega arith ]) in
+    climb_ends c.args.room c.requires.room c.args.level c.climb.reached c.climb.next (expr_of c.climb.joined, tokens_of c.climb.rest.now) (binary_with (below_at c.args.room) c.args.level (tokens_of c.args.tokens.now)) c.climb.invariant.next over c.climb.invariant.so_far
 
 pub links-returns-in_err-next : goal.links-returns-in_err-next
 unfolding links_by
 links-returns-in_err-next t c =
-    let p = err_from_is_err_and c.from_residual.result c.from_residual.ensures.1 in
+    let p = err_from_is_err_and c.from_residual-in_err-next.result c.from_residual-in_err-next.ensures.1 in
     let more : is_link c.args.level (tokens_of c.more.rest.now) ≡ true = sym c.begins_link.ensures ∙ c.more-test.true in
     rw (p.1, p.2) (ends (is_link c.args.level) (link_by c.args.level (binary_with (below_at c.args.room) c.args.level)) (link_shrinks c.args.room c.requires.room c.args.level) (no_link_left c.args.level) c.in_err-next.field-0.0 (map operation_of c.more.links.items) (tokens_of c.more.rest.now) (links_by c.args.level (binary_with (below_at c.args.room) c.args.level) (tokens_of c.args.tokens.now)) more c.in_err-next.ensures c.more.invariant)
 
@@ -49,10 +72,16 @@ links-returns t c =
     let more : is_link c.args.level (tokens_of c.more.rest.now) ≡ false = sym c.begins_link.ensures ∙ c.more-test.false in
     is_done (is_link c.args.level) (link_by c.args.level (binary_with (below_at c.args.room) c.args.level)) (link_shrinks c.args.room c.requires.room c.args.level) (no_link_left c.args.level) (map operation_of c.more.links.items) (tokens_of c.more.rest.now) (links_by c.args.level (binary_with (below_at c.args.room) c.args.level) (tokens_of c.args.tokens.now)) more c.more.invariant
 
+pub postfix-returns-then-not-begins_suffix : goal.postfix-returns-then-not-begins_suffix
+unfolding postfix_with suffixes_with
+postfix-returns-then-not-begins_suffix t c =
+    let none : is_suffix (tokens_of c.in_ok-operand.rest.now) ≡ false = sym c.begins_suffix.ensures ∙ c.if-not-begins_suffix.true in
+    rw (c.in_ok-operand.ensures, loop_done is_suffix (suffix_with (below_at c.args.room)) (suffix_shrinks c.args.room c.requires) no_suffix_left (tokens_of c.in_ok-operand.rest.now) none) refl
+
 pub suffixes-returns-in_err-next : goal.suffixes-returns-in_err-next
 unfolding suffixes_with
 suffixes-returns-in_err-next t c =
-    let p = err_from_is_err_and c.from_residual.result c.from_residual.ensures.1 in
+    let p = err_from_is_err_and c.from_residual-in_err-next.result c.from_residual-in_err-next.ensures.1 in
     let more : is_suffix (tokens_of c.more.rest.now) ≡ true = sym c.begins_suffix.ensures ∙ c.more-test.true in
     rw (p.1, p.2) (ends (is_suffix) (suffix_with (below_at c.args.room)) (suffix_shrinks c.args.room c.requires) (no_suffix_left) c.in_err-next.field-0.0 (map suffix_of c.more.suffixes.items) (tokens_of c.more.rest.now) (suffixes_with (below_at c.args.room) (tokens_of c.args.tokens.now)) more c.in_err-next.ensures c.more.invariant)
 

@@ -1,9 +1,10 @@
-use Rattle.std.proofs.Common.{◌≡◌, ◌+◌, ◌*◌, length, map}
+use Rattle.std.proofs.Common.{◌≡◌, ◌+◌, ◌-◌, ◌*◌, length, map}
 use Rattle.ash_tree.specs.Tokens.{tokens_of}
 use Rattle.ash_tree.specs.Views.{expr_of, suffix_of, operation_of}
 use Rattle.ash_parse.specs.Reading.{put}
-use Rattle.ash_parse.specs.ExpressionReader.{more_exprs_with, suffixes_with, links_by, binary_with, below_at}
+use Rattle.ash_parse.specs.ExpressionReader.{next_level, more_exprs_with, suffixes_with, links_by, binary_with, below_at}
 use Rattle.ash_parse.proofs.Loop.{with_front}
+use Rattle.ash_parse.proofs.Climbing.{rises}
 use Rattle.ash_parse.proofs.expressions.+expressions.Given as goal
 
 -- a phrase stands above those that it is made of, and below what is one deeper
@@ -18,9 +19,6 @@ decreases-branches l = l.room * 64 + 1
 
 abbrev pub decreases-binary : goal.decreases-binary
 decreases-binary l = l.room * 64 + (10 + l.level * 4)
-
-abbrev pub decreases-chain : goal.decreases-chain
-decreases-chain l = l.room * 64 + (13 + l.level * 4)
 
 abbrev pub decreases-links : goal.decreases-links
 decreases-links l = l.room * 64 + (12 + l.level * 4)
@@ -81,3 +79,12 @@ invariant-more_expressions-more l = with_front (map expr_of l.all.items) (more_e
 
 abbrev pub decreases-more_expressions-more : goal.decreases-more_expressions-more
 decreases-more_expressions-more l = length l.rest
+
+abbrev pub invariant-binary-climb : goal.invariant-binary-climb
+invariant-binary-climb l = record {
+  next : l.next ≡ next_level (tokens_of l.rest);
+  so_far : rises (below_at l.room) (l.level - l.reached) l.reached (expr_of l.joined, tokens_of l.rest) ≡ binary_with (below_at l.room) l.level (tokens_of l.fn.tokens);
+}
+
+abbrev pub decreases-binary-climb : goal.decreases-binary-climb
+decreases-binary-climb l = l.level - l.reached
