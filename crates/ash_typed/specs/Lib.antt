@@ -3,6 +3,7 @@ pub mod Types
 pub mod Tree
 pub mod StatementTree
 pub mod Views
+pub mod Flat
 pub mod Environment
 pub mod Heads
 pub mod Expressions

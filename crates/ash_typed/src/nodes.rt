@@ -1,10 +1,11 @@
 //! Nodes of typed trees.
 
-ghost use Rattle.std.specs.Prelude.{◌≡◌, map, option_map, IfOk};
+ghost use Rattle.std.specs.Prelude.{◌≡◌, [], ◌∷◌, ◌++◌, map, option_map, IfOk};
 ghost use Rattle.ash_typed.specs.Tree.{Read, Held, Invoke, Alter, Conditional, Assign, Update, Count, Call, exprs, place_in, converted};
 ghost use Rattle.ash_typed.specs.StatementTree.{Block, Switch, labelled, cases};
 ghost use Rattle.ash_typed.specs.Views.{expr_of, place_of, linked, chained, all_linked, all_chained};
 ghost use Rattle.ash_typed.specs.BodyViews.{stmt_of, case_of, body_of};
+ghost use Rattle.ash_typed.specs.Flat.{base_of, links_of, first_of, operands_of};
 
 use crate::tree::expressions::{Expr, Link, Operand, Place};
 use crate::tree::operations::{Change, Conversion, Member, Method, Operation, Step, Target};
@@ -20,10 +21,12 @@ pub fn call(target: Target, arguments: Vec<Expr>) -> Expr
     Expr::Call { target, arguments }
 }
 
-/// What a link makes of an expression.
+/// What a link makes of an expression. A path takes it as one link more, so that it nests no deeper.
 #[tactic(auto, using(crate::proofs::Rows::path_is, crate::proofs::Rows::all_linked_append))]
 pub fn link(alloc: Global, base: Expr, next: Link) -> Result<Expr, AllocError>
-    ensures { IfOk result (λ e. expr_of e ≡ linked (expr_of base) next) }
+    ensures value { IfOk result (λ e. expr_of e ≡ linked (expr_of base) next) }
+    ensures same_base { IfOk result (λ e. base_of e ≡ base_of base) }
+    ensures one_path { IfOk result (λ e. links_of e ≡ links_of base ++ next ∷ []) }
 {
     match base {
         Expr::Path { base, mut links } => {
@@ -31,7 +34,7 @@ pub fn link(alloc: Global, base: Expr, next: Link) -> Result<Expr, AllocError>
             Ok(Expr::Path { base, links })
         }
         base => {
-            let mut links = Vec::new(alloc);
+            let mut links = Vec::with_capacity(alloc, 1)?;
             links.push(next)?;
             let base = Box::new(alloc, base)?;
             Ok(Expr::Path { base, links })
@@ -41,7 +44,9 @@ pub fn link(alloc: Global, base: Expr, next: Link) -> Result<Expr, AllocError>
 
 /// What an object holds.
 pub fn member(alloc: Global, object: Expr, member: Member) -> Result<Expr, AllocError>
-    ensures { IfOk result (λ e. expr_of e ≡ Read (Held (expr_of object) member)) }
+    ensures value { IfOk result (λ e. expr_of e ≡ Read (Held (expr_of object) member)) }
+    ensures same_base { IfOk result (λ e. base_of e ≡ base_of object) }
+    ensures one_path { IfOk result (λ e. links_of e ≡ links_of object ++ Link.Member member ∷ []) }
 {
     link(alloc, object, Link::Member(member))
 }
@@ -54,15 +59,19 @@ pub fn invoke(
     method: Method,
     arguments: Vec<Expr>,
 ) -> Result<Expr, AllocError>
-    ensures { IfOk result (λ e. expr_of e ≡ Invoke (expr_of object) method (exprs (map expr_of arguments.items))) }
+    ensures value { IfOk result (λ e. expr_of e ≡ Invoke (expr_of object) method (exprs (map expr_of arguments.items))) }
+    ensures same_base { IfOk result (λ e. base_of e ≡ base_of object) }
+    ensures one_path { IfOk result (λ e. links_of e ≡ links_of object ++ Link.Invoke method arguments ∷ []) }
 {
     link(alloc, object, Link::Invoke { method, arguments })
 }
 
-/// What an operator makes of an expression.
+/// What an operator makes of an expression. A chain takes it as one operator more, so that it nests no deeper.
 #[tactic(auto, using(crate::proofs::Rows::chain_is, crate::proofs::Rows::all_chained_append))]
 pub fn operate(alloc: Global, first: Expr, next: Operand) -> Result<Expr, AllocError>
-    ensures { IfOk result (λ e. expr_of e ≡ chained (expr_of first) next) }
+    ensures value { IfOk result (λ e. expr_of e ≡ chained (expr_of first) next) }
+    ensures same_first { IfOk result (λ e. first_of e ≡ first_of first) }
+    ensures one_chain { IfOk result (λ e. operands_of e ≡ operands_of first ++ next ∷ []) }
 {
     match first {
         Expr::Chain {
@@ -73,7 +82,7 @@ pub fn operate(alloc: Global, first: Expr, next: Operand) -> Result<Expr, AllocE
             Ok(Expr::Chain { first, operands })
         }
         first => {
-            let mut operands = Vec::new(alloc);
+            let mut operands = Vec::with_capacity(alloc, 1)?;
             operands.push(next)?;
             let first = Box::new(alloc, first)?;
             Ok(Expr::Chain { first, operands })
