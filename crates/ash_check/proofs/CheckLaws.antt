@@ -11,14 +11,14 @@ use Rattle.ash_typed.specs.declared.fault.Rule.{Rule}
 use Rattle.ash_typed.specs.declared.fault.Rule.TheVariants as rules
 use Rattle.ash_typed.specs.Modules.{Module}
 use Rattle.ash_typed.specs.Items.{module_typed}
+use Rattle.ash_expressions.specs.declared.stop.Stop.{Stop}
+use Rattle.ash_expressions.specs.declared.stop.Stop.TheVariants as stops
+use Rattle.ash_expressions.specs.Gives.{Fails}
+use Rattle.ash_classes.specs.Ways.{IsWay}
+use Rattle.ash_classes.specs.References.{Holds, Refers, classes_of}
+use Rattle.ash_classes.specs.ToldCycle.{told_cycle}
 use Rattle.ash_check.specs.declared.faults.CheckFault.{CheckFault}
-use Rattle.ash_check.specs.declared.stop.Stop.{Stop}
-use Rattle.ash_check.specs.declared.stop.Stop.TheVariants as stops
-use Rattle.ash_check.specs.Gives.{Fails}
 use Rattle.ash_check.specs.Told.{told_at, stopped}
-use Rattle.ash_check.specs.Ways.{IsWay}
-use Rattle.ash_check.specs.References.{Holds, Refers, classes_of}
-use Rattle.ash_check.specs.ToldCycle.{told_cycle}
 use Rattle.ash_check.specs.Checks.{Told, Cyclic, name_at, round_of, unless_round, checked_by, checked, broken_at, told_of, IsWhatIsTold, Tells, HoldsNamed, LeadsTo, GoesRound}
 
 -- what is told

@@ -1,16 +1,4 @@
-pub mod Markings
-pub mod Rounds
-pub mod WaysBack
-pub mod Ranked
-pub mod Searches
 pub mod ReturnLaws
-pub mod ReferenceLaws
-pub mod ToldLaws
-pub mod Shortcuts
-pub mod ToldSearches
 pub mod ReturnTests
-pub mod Loops
-pub mod Nodes
-pub mod Placing
 pub mod CheckLaws
 pub mod StatementLaws

@@ -11,8 +11,8 @@ use Rattle.ash_tree.specs.declared.tree.expressions.Expr as code_expr
 use Rattle.ash_tree.specs.Tree.{Expr, Stmt, Stmts, Case, Cases, Block, If, IfElse, Switch, Break, Return, no_stmt, stmt, labelled, no_case, next_case, stmts, cases}
 use Rattle.ash_tree.specs.Views.{stmt_at, stmt_of, case_of, expr_of}
 use Rattle.ash_tree.proofs.Rows.{stmts_of-row}
+use Rattle.ash_classes.proofs.Searches.{IsAnyOf}
 use Rattle.ash_check.specs.Returning.{Breaks, break, in_block, in_if, in_then, in_else, BreaksIn, first_breaks, later_breaks, BreaksOut, first_label, later_label, HasDefault, default_first, default_later, Returns, return, block, both, switch, ReturnsIn, first_returns, later_returns, ReturnsLast, last_label, label_before}
-use Rattle.ash_check.proofs.Searches.{IsAnyOf}
 
 pub if_is : (p : Place) (c : code_expr.Expr) (s : Box code_stmt.Stmt Global) → stmt_at p (stmt_views.If c s) ≡ If p (expr_of c) (stmt_of s.value)
 if_is p c s = search (rules, stmt_views.the_lemmas)

@@ -11,10 +11,10 @@ use Rattle.ash_typed.specs.declared.fault.Rule.TheVariants as rules
 use Rattle.ash_typed.specs.Checking.{Checking}
 use Rattle.ash_typed.specs.Modules.{Module}
 use Rattle.ash_typed.specs.Items.{module_typed}
+use Rattle.ash_classes.specs.References.{Holds, classes_of}
+use Rattle.ash_classes.specs.ToldCycle.{told_cycle}
 use Rattle.ash_check.specs.declared.faults.CheckFault.{CheckFault}
 use Rattle.ash_check.specs.declared.faults.CheckFault.TheVariants as faults
-use Rattle.ash_check.specs.References.{Holds, classes_of}
-use Rattle.ash_check.specs.ToldCycle.{told_cycle}
 
 -- why a script is refused, without where names lie in memory
 pub data Told : Type 0 where

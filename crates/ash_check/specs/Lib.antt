@@ -1,12 +1,5 @@
 pub mod Told
-pub mod Gives
-pub mod Places
-pub mod Views
 pub mod WalkViews
 pub mod StatementViews
-pub mod Ways
-pub mod Marking
-pub mod References
-pub mod ToldCycle
 pub mod Returning
 pub mod Checks

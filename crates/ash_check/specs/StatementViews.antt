@@ -11,10 +11,10 @@ use Rattle.ash_typed.specs.BodyViews.{value_of, case_of, body_of}
 use Rattle.ash_typed.specs.Environment.{Declared}
 use Rattle.ash_typed.specs.Expressions.{Typed}
 use Rattle.ash_typed.specs.Statements.{Scope}
-use Rattle.ash_check.specs.declared.environment.Declared as declared
+use Rattle.ash_expressions.specs.declared.environment.Declared as declared
+use Rattle.ash_expressions.specs.declared.typed.Typed as typed
+use Rattle.ash_expressions.specs.Views.{declared_of, heads_of, typed_of}
 use Rattle.ash_check.specs.declared.scopes.Scope as scope
-use Rattle.ash_check.specs.declared.typed.Typed as typed
-use Rattle.ash_check.specs.Views.{declared_of, heads_of, typed_of}
 
 abbrev pub locals_of : Vec declared.Declared Global → List Declared
 locals_of locals = map declared_of locals.items

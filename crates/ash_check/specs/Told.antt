@@ -3,10 +3,10 @@ use Rattle.std.specs.Prelude.{ℕ}
 use Rattle.ash_typed.specs.declared.fault.Rule.{Rule}
 use Rattle.ash_typed.specs.declared.fault.Rule.TheVariants as rules
 use Rattle.ash_typed.specs.declared.fault.Fault.{Fault}
+use Rattle.ash_expressions.specs.declared.stop.Stop.{Stop}
+use Rattle.ash_expressions.specs.declared.stop.Stop.TheVariants as stops
 use Rattle.ash_check.specs.declared.faults.CheckFault.{CheckFault}
 use Rattle.ash_check.specs.declared.faults.CheckFault.TheVariants as faults
-use Rattle.ash_check.specs.declared.stop.Stop.{Stop}
-use Rattle.ash_check.specs.declared.stop.Stop.TheVariants as stops
 
 abbrev pub told_at : Rule → ℕ → CheckFault
 told_at rules.UnknownName at = faults.UnknownName at

@@ -1,5 +1,5 @@
 -- What the structs of the walk over a module's items stand for.
-use Rattle.std.specs.Prelude.{ℕ, List, [], Option, None, Some, map, option_map}
+use Rattle.std.specs.Prelude.{List, [], Option, None, Some, map, option_map}
 use Rattle.std.specs.Borrow.{Bor}
 use Rattle.ash_registry.specs.declared.registry.Registry.{Registry}
 use Rattle.ash_registry.specs.Registered.{registered}
@@ -13,11 +13,9 @@ use Rattle.ash_typed.specs.Modules.{variables_of, class_of, module_of}
 use Rattle.ash_typed.specs.declared.tree.items.Variables as variables
 use Rattle.ash_typed.specs.declared.tree.items.Class as class
 use Rattle.ash_typed.specs.declared.tree.items.Module as script
+use Rattle.ash_expressions.specs.Places.{texts}
 use Rattle.ash_check.specs.declared.names.Names as names
 use Rattle.ash_check.specs.declared.items.Routine as routine
-
-abbrev pub texts : List (Bor (List ℕ)) → List (List ℕ)
-texts names = map (λ (name : Bor (List ℕ)). name.now) names
 
 abbrev pub registered_in : Option (Bor Registry) → List host.Call
 registered_in None = []

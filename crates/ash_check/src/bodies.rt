@@ -5,15 +5,14 @@ ghost use Rattle.ash_tree.specs.Tree.{stmts};
 ghost use Rattle.ash_tree.specs.Views.{stmt_of};
 ghost use Rattle.ash_typed.specs.Bodies as definition;
 ghost use Rattle.ash_typed.specs.BodyViews.{body_of};
-ghost use Rattle.ash_check.specs.Gives.{Gives};
+ghost use Rattle.ash_expressions.specs.Gives.{Gives};
+ghost use Rattle.ash_expressions.specs.Views.{declared_of, environment_of};
 ghost use Rattle.ash_check.specs.Returning.{ReturnsIn};
-ghost use Rattle.ash_check.specs.Views.{declared_of, environment_of};
 
-use crate::environment::{Declared, Environment};
 use crate::returning::any_returns;
 use crate::scopes::Scope;
 use crate::statements::block;
-use crate::stop::Checking;
+use ash_expressions::{Checking, Declared, Environment};
 use ash_tree::Stmt;
 use ash_typed::Ty;
 use std::alloc::Global;

@@ -5,15 +5,13 @@ ghost use Rattle.ash_registry.specs.Registered.{registered};
 ghost use Rattle.ash_tree.specs.Views.{module_of as written_module};
 ghost use Rattle.ash_typed.specs.Modules.{module_of};
 ghost use Rattle.ash_typed.specs.TypedModules.{IsTyped};
+ghost use Rattle.ash_classes.specs.References.{Refers, classes_of, seen};
+ghost use Rattle.ash_classes.specs.Ways.{Reaches, AreRanks};
 ghost use Rattle.ash_check.specs.Checks.{checked, Tells, told_of, name_at, round_of, GoesRoundIfCyclic};
-ghost use Rattle.ash_check.specs.References.{Refers, classes_of, seen};
-ghost use Rattle.ash_check.specs.Ways.{Reaches, AreRanks};
 
-use crate::acyclic::class_ranks;
-use crate::cycles::Cycle;
 use crate::faults::{CheckFault, ClassNames};
 use crate::items::module_typed;
-use crate::references::classes;
+use ash_classes::{Cycle, class_ranks, classes};
 use ash_registry::Registry;
 use ash_tree::Class;
 use ash_typed::Module;

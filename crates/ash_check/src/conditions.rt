@@ -5,15 +5,12 @@ ghost use Rattle.ash_tree.specs.Views as written;
 ghost use Rattle.ash_typed.specs.Views.{expr_of};
 ghost use Rattle.ash_typed.specs.BodyViews.{stmt_of};
 ghost use Rattle.ash_typed.specs.Statements as definition;
-ghost use Rattle.ash_check.specs.Gives.{Gives};
+ghost use Rattle.ash_expressions.specs.Gives.{Gives};
+ghost use Rattle.ash_expressions.specs.Views.{environment_of, typed_of, all_typed_of};
 ghost use Rattle.ash_check.specs.StatementViews.{maybe_typed_of};
-ghost use Rattle.ash_check.specs.Views.{environment_of, typed_of, all_typed_of};
 ghost use Rattle.ash_check.specs.WalkViews.{maybe_expr};
 
-use crate::environment::Environment;
-use crate::expressions::expression;
-use crate::stop::Checking;
-use crate::typed::{Typed, truth};
+use ash_expressions::{Checking, Environment, Typed, expression, truth};
 use ash_tree::Expr;
 use ash_typed::{Expr as TypedExpr, Stmt, StmtKind};
 use std::alloc::{AllocError, Global};

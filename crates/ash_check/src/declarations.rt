@@ -6,16 +6,14 @@ ghost use Rattle.ash_tree.specs.Tree.{place_of_type};
 ghost use Rattle.ash_tree.specs.Views.{type_of, initializer_of, decl_of};
 ghost use Rattle.ash_typed.specs.BodyViews.{value_of};
 ghost use Rattle.ash_typed.specs.Declarations as definition;
-ghost use Rattle.ash_check.specs.Gives.{Gives};
-ghost use Rattle.ash_check.specs.Views.{class_of, typed_of, callee_of, environment_of};
+ghost use Rattle.ash_expressions.specs.Gives.{Gives};
+ghost use Rattle.ash_expressions.specs.Views.{class_of, typed_of, callee_of, environment_of};
 ghost use Rattle.ash_check.specs.WalkViews.{maybe_expr};
 
-use crate::calls::called;
-use crate::environment::{Callee, Environment, Parameters};
-use crate::expressions::{all_typed, expression};
 use crate::heads::ty_named;
-use crate::stop::{Checking, broken};
-use crate::typed::{Typed, fitted};
+use ash_expressions::{
+    Callee, Checking, Environment, Parameters, Typed, all_typed, broken, called, expression, fitted,
+};
 use ash_tree::{Decl, Initializer, Place, Type};
 use ash_typed::{Expr, Initialization, ObjectType, Rule, Target, Ty};
 use std::alloc::Global;

@@ -4,7 +4,7 @@ ghost use Rattle.std.specs.Prelude.{◌≡◌};
 ghost use Rattle.ash_check.specs.declared.faults.CheckFault.TheVariants.{NoMemory};
 ghost use Rattle.ash_check.specs.Told.{told, stopped};
 
-use crate::stop::Stop;
+use ash_expressions::Stop;
 use ash_typed::{Fault, Rule};
 use std::alloc::{AllocError, AllocFailed};
 use std::fmt;

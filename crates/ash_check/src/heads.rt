@@ -4,10 +4,9 @@ ghost use Rattle.std.specs.Prelude.{◌≡◌, ◌++◌, map, option_map, IfOk, 
 ghost use Rattle.ash_registry.specs.Registered.{registered};
 ghost use Rattle.ash_tree.specs.Views.{type_of, vars_of, parameter_of, function_of as written_function, member_of, class_of as written_class, item_of, module_of};
 ghost use Rattle.ash_typed.specs.Heads as definition;
-ghost use Rattle.ash_check.specs.Views.{declared_of, function_of, class_of, heads_of};
+ghost use Rattle.ash_expressions.specs.Views.{declared_of, function_of, class_of, heads_of};
 
-use crate::environment::{Class, Declared, Function, Heads};
-use crate::types::ty_of;
+use ash_expressions::{Class, Declared, Function, Heads, ty_of};
 use ash_registry::{Call, Registry};
 use ash_tree::{Item, Member, Module, Parameter, Type, TypeKind, Vars};
 use ash_typed::{ObjectType, Ty};

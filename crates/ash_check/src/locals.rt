@@ -4,13 +4,12 @@ ghost use Rattle.std.specs.Prelude.{◌≡◌, ◌++◌, map, IfOk};
 ghost use Rattle.ash_tree.specs.Views.{decl_of, vars_of};
 ghost use Rattle.ash_typed.specs.Heads.{declared};
 ghost use Rattle.ash_typed.specs.Statements as definition;
-ghost use Rattle.ash_check.specs.Gives.{Gives};
+ghost use Rattle.ash_expressions.specs.Gives.{Gives};
 ghost use Rattle.ash_check.specs.StatementViews.{locals_of, scope_of, values_of};
 
 use crate::declarations::{decl_typed, known, place_of, ty_in};
-use crate::environment::Declared;
 use crate::scopes::Scope;
-use crate::stop::Checking;
+use ash_expressions::{Checking, Declared};
 use ash_tree::{Decl, Vars};
 use ash_typed::{Initialization, Ty};
 use std::alloc::Global;

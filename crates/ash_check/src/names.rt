@@ -4,10 +4,11 @@ ghost use Rattle.std.specs.Prelude.{◌≡◌, false, [], ◌∷◌, ◌++◌, O
 ghost use Rattle.std.specs.List.{list_any};
 ghost use Rattle.std.specs.Str.{bytes_eq};
 ghost use Rattle.ash_typed.specs.Items as definition;
-ghost use Rattle.ash_check.specs.Gives.{Gives};
-ghost use Rattle.ash_check.specs.WalkViews.{texts, names_of};
+ghost use Rattle.ash_expressions.specs.Gives.{Gives};
+ghost use Rattle.ash_expressions.specs.Places.{texts};
+ghost use Rattle.ash_check.specs.WalkViews.{names_of};
 
-use crate::stop::{Checking, broken};
+use ash_expressions::{Checking, broken};
 use ash_registry::Registry;
 use ash_typed::Rule;
 use indexmap::IndexSet;

@@ -6,12 +6,11 @@ ghost use Rattle.ash_tree.specs.Views.{decl_of};
 ghost use Rattle.ash_typed.specs.Environment.{declares};
 ghost use Rattle.ash_typed.specs.Heads.{declared};
 ghost use Rattle.ash_typed.specs.Statements as definition;
-ghost use Rattle.ash_check.specs.Gives.{Gives};
+ghost use Rattle.ash_expressions.specs.Gives.{Gives};
+ghost use Rattle.ash_expressions.specs.Views.{declared_of, environment_of};
 ghost use Rattle.ash_check.specs.StatementViews.{scope_of};
-ghost use Rattle.ash_check.specs.Views.{declared_of, environment_of};
 
-use crate::environment::{Declared, Environment, Heads};
-use crate::stop::{Checking, broken};
+use ash_expressions::{Checking, Declared, Environment, Heads, broken};
 use ash_registry::Registry;
 use ash_tree::Decl;
 use ash_typed::{Rule, Ty};

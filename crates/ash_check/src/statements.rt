@@ -1,29 +1,26 @@
 //! The walk over statements: their parts in the order of the text, then the statement.
 
-ghost use Rattle.std.specs.Prelude.{◌≡◌, [], map, IfOk};
-ghost use Rattle.ash_tree.specs.Tree.{If, While, DoWhile, Switch, stmts, cases};
+ghost use Rattle.std.specs.Prelude.{◌≡◌, [], map, option_map, IfOk};
+ghost use Rattle.ash_tree.specs.Tree.{Declare, Evaluate, Block, If, IfElse, While, DoWhile, For, Switch, stmts, cases};
 ghost use Rattle.ash_tree.specs.Views as written;
 ghost use Rattle.ash_typed.specs.BodyViews.{stmt_of};
 ghost use Rattle.ash_typed.specs.Statements as definition;
-ghost use Rattle.ash_check.specs.Gives.{Gives};
+ghost use Rattle.ash_expressions.specs.Gives.{Gives};
 ghost use Rattle.ash_check.specs.StatementViews.{locals_of, scope_of, stmts_in, cases_in};
+ghost use Rattle.ash_expressions.specs.Views.{declared_of};
 
 use crate::conditions::{do_while_made, for_made, if_else_made, if_made, maybe_typed, while_made};
-use crate::environment::Declared;
-use crate::expressions::{all_typed, expression};
 use crate::jumps::{break_typed, continue_typed, return_typed};
 use crate::locals::vars_typed;
 use crate::scopes::Scope;
-use crate::stop::Checking;
 use crate::switches::{is_last, kind_in, label};
-use crate::typed::integer;
-use ash_tree::{Case, Expr, Place, Stmt, StmtKind};
+use ash_expressions::{Checking, Declared, all_typed, expression, integer};
+use ash_tree::{Case, Expr, Place, Stmt, StmtKind, Vars};
 use ash_typed::{Case as TypedCase, Kind, Stmt as TypedStmt, StmtKind as TypedKind, nodes};
 use std::alloc::Global;
 
 /// A statement. Its variables are added to the locals.
 #[cycle(statements)]
-#[tactic(auto, unfolding(ash_typed::specs::Statements::if_else_typed, ash_typed::specs::Statements::for_typed))]
 fn statement<'n>(
     alloc: Global,
     scope: &Scope<'_, 'n>,
@@ -34,29 +31,14 @@ fn statement<'n>(
     ensures seen { IfOk result (λ _. scope_of scope.now (locals_of locals.new) ≡ definition.behind (scope_of scope.now (locals_of locals.old)) (written.stmt_of source.now)) }
 {
     let place = source.place;
-    let line = place.line;
     match &source.kind {
         StmtKind::Empty => Ok(TypedStmt {
-            line,
+            line: place.line,
             kind: TypedKind::Empty,
         }),
-        StmtKind::Vars(vars) => {
-            let values = vars_typed(alloc, scope, locals, vars)?;
-            let kind = TypedKind::Declare(values);
-            Ok(TypedStmt { line, kind })
-        }
-        StmtKind::Expr(value) => {
-            let value = expression(&(&*scope).environment(locals), alloc, false, value)?;
-            let kind = TypedKind::Evaluate(value.tree);
-            Ok(TypedStmt { line, kind })
-        }
-        StmtKind::Block(body) => {
-            let inner = Scope {
-                first: locals.len(),
-                ..*scope
-            };
-            Ok(nodes::block(line, block(alloc, &inner, locals, body)?))
-        }
+        StmtKind::Vars(vars) => declaration(alloc, scope, locals, place, vars),
+        StmtKind::Expr(value) => evaluation(alloc, scope, locals, place, value),
+        StmtKind::Block(body) => inner_block(alloc, scope, locals, place, body),
         StmtKind::If { condition, then } => {
             if_typed(alloc, scope, locals, place, then, condition)
         }
@@ -64,12 +46,7 @@ fn statement<'n>(
             condition,
             then,
             otherwise,
-        } => {
-            let condition = expression(&(&*scope).environment(locals), alloc, false, condition)?;
-            let then = branch(alloc, scope, locals, then)?;
-            let otherwise = branch(alloc, scope, locals, otherwise)?;
-            if_else_made(alloc, line, condition, then, otherwise)
-        }
+        } => if_else_typed(alloc, scope, locals, place, then, otherwise, condition),
         StmtKind::While { condition, body } => {
             while_typed(alloc, scope, locals, place, body, condition)
         }
@@ -81,24 +58,7 @@ fn statement<'n>(
             condition,
             steps,
             body,
-        } => {
-            let kept = locals.len();
-            let head = Scope {
-                first: kept,
-                ..*scope
-            };
-            let first = statement(alloc, &head, locals, first)?;
-            let env = head.environment(locals);
-            let condition = maybe_typed(alloc, &env, condition)?;
-            let steps = all_typed(&env, alloc, steps)?;
-            let repeated = Scope {
-                in_loop: true,
-                ..head
-            };
-            let body = branch(alloc, &repeated, locals, body)?;
-            locals.truncate(kept);
-            for_made(alloc, line, first, condition, steps, body)
-        }
+        } => for_typed(alloc, scope, locals, place, first, body, condition, steps),
         StmtKind::Switch { value, cases } => {
             switch_typed(alloc, scope, locals, place, cases, value)
         }
@@ -106,6 +66,41 @@ fn statement<'n>(
         StmtKind::Continue => continue_typed(scope.in_loop, place),
         StmtKind::Return(value) => return_typed(alloc, scope, locals, place, value),
     }
+}
+
+/// Variables, which are added to the locals.
+fn declaration<'n>(
+    alloc: Global,
+    scope: &Scope<'_, 'n>,
+    locals: &mut Vec<Declared<'n>>,
+    place: Place,
+    vars: &'n Vars,
+) -> Checking<TypedStmt>
+    ensures typed { Gives stmt_of result (definition.stmt_typed (scope_of scope.now (locals_of locals.old)) (Declare place (written.vars_of vars.now))) }
+    ensures seen { IfOk result (λ _. scope_of scope.now (locals_of locals.new) ≡ definition.behind (scope_of scope.now (locals_of locals.old)) (Declare place (written.vars_of vars.now))) }
+{
+    let values = vars_typed(alloc, scope, locals, vars)?;
+    Ok(TypedStmt {
+        line: place.line,
+        kind: TypedKind::Declare(values),
+    })
+}
+
+/// An expression, whose value is let go.
+fn evaluation(
+    alloc: Global,
+    scope: &Scope,
+    locals: &[Declared],
+    place: Place,
+    value: &Expr,
+) -> Checking<TypedStmt>
+    ensures { Gives stmt_of result (definition.stmt_typed (scope_of scope.now (map declared_of locals.now)) (Evaluate place (written.expr_of value.now))) }
+{
+    let value = expression(&(&*scope).environment(locals), alloc, false, value)?;
+    Ok(TypedStmt {
+        line: place.line,
+        kind: TypedKind::Evaluate(value.tree),
+    })
 }
 
 /// A statement that is no statement of a block: none of its variables is left behind it.
@@ -145,6 +140,28 @@ pub(crate) fn block<'n>(
     Ok(typed)
 }
 
+/// `{ body }`: none of its names is taken yet.
+#[cycle(statements)]
+fn inner_block<'n>(
+    alloc: Global,
+    scope: &Scope<'_, 'n>,
+    locals: &mut Vec<Declared<'n>>,
+    place: Place,
+    body: &'n [Stmt],
+) -> Checking<TypedStmt>
+    ensures typed { Gives stmt_of result (definition.stmt_typed (scope_of scope.now (locals_of locals.old)) (Block place (stmts (map written.stmt_of body.now)))) }
+    ensures kept { IfOk result (λ _. locals_of locals.new ≡ locals_of locals.old) }
+{
+    let inner = Scope {
+        first: locals.len(),
+        ..*scope
+    };
+    let body = block(alloc, &inner, locals, body)?;
+    let typed = nodes::block(place.line, body);
+    Ok(typed)
+}
+
+/// `if (condition) inner`
 #[cycle(statements)]
 #[tactic(auto, unfolding(ash_typed::specs::Statements::if_typed))]
 fn if_typed<'n>(
@@ -163,6 +180,28 @@ fn if_typed<'n>(
     if_made(alloc, place.line, condition, inner)
 }
 
+/// `if (condition) inner else other`
+#[cycle(statements)]
+#[tactic(auto, unfolding(ash_typed::specs::Statements::if_else_typed))]
+fn if_else_typed<'n>(
+    alloc: Global,
+    scope: &Scope<'_, 'n>,
+    locals: &mut Vec<Declared<'n>>,
+    place: Place,
+    then: &'n Stmt,
+    otherwise: &'n Stmt,
+    condition: &Expr,
+) -> Checking<TypedStmt>
+    ensures typed { Gives stmt_of result (definition.stmt_typed (scope_of scope.now (locals_of locals.old)) (IfElse place (written.expr_of condition.now) (written.stmt_of then.now) (written.stmt_of otherwise.now))) }
+    ensures kept { IfOk result (λ _. locals_of locals.new ≡ locals_of locals.old) }
+{
+    let condition = expression(&(&*scope).environment(locals), alloc, false, condition)?;
+    let then = branch(alloc, scope, locals, then)?;
+    let otherwise = branch(alloc, scope, locals, otherwise)?;
+    if_else_made(alloc, place.line, condition, then, otherwise)
+}
+
+/// `while (condition) inner`
 #[cycle(statements)]
 #[tactic(auto, unfolding(ash_typed::specs::Statements::while_typed))]
 fn while_typed<'n>(
@@ -185,6 +224,7 @@ fn while_typed<'n>(
     while_made(alloc, place.line, condition, inner)
 }
 
+/// `do inner while (condition);`
 #[cycle(statements)]
 #[tactic(auto, unfolding(ash_typed::specs::Statements::do_while_typed))]
 fn do_while_typed<'n>(
@@ -205,6 +245,40 @@ fn do_while_typed<'n>(
     let inner = branch(alloc, &repeated, locals, inner)?;
     let condition = expression(&(&*scope).environment(locals), alloc, false, condition)?;
     do_while_made(alloc, place.line, inner, condition)
+}
+
+/// `for (first; condition; steps) body`
+#[cycle(statements)]
+#[tactic(auto, unfolding(ash_typed::specs::Statements::for_typed))]
+fn for_typed<'n>(
+    alloc: Global,
+    scope: &Scope<'_, 'n>,
+    locals: &mut Vec<Declared<'n>>,
+    place: Place,
+    first: &'n Stmt,
+    body: &'n Stmt,
+    condition: &Option<Expr>,
+    steps: &[Expr],
+) -> Checking<TypedStmt>
+    ensures typed { Gives stmt_of result (definition.stmt_typed (scope_of scope.now (locals_of locals.old)) (For place (written.stmt_of first.now) (option_map written.expr_of condition.now) (map written.expr_of steps.now) (written.stmt_of body.now))) }
+    ensures kept { IfOk result (λ _. locals_of locals.new ≡ locals_of locals.old) }
+{
+    let kept = locals.len();
+    let head = Scope {
+        first: kept,
+        ..*scope
+    };
+    let first = statement(alloc, &head, locals, first)?;
+    let env = head.environment(locals);
+    let condition = maybe_typed(alloc, &env, condition)?;
+    let steps = all_typed(&env, alloc, steps)?;
+    let repeated = Scope {
+        in_loop: true,
+        ..head
+    };
+    let body = branch(alloc, &repeated, locals, body)?;
+    locals.truncate(kept);
+    for_made(alloc, place.line, first, condition, steps, body)
 }
 
 /// `switch (value) { labels }`

@@ -6,10 +6,9 @@ ghost use Rattle.ash_tree.specs.Tree.{cases};
 ghost use Rattle.ash_tree.specs.Views.{case_of};
 ghost use Rattle.ash_typed.specs.Statements as walk;
 ghost use Rattle.ash_typed.specs.Switches as definition;
-ghost use Rattle.ash_check.specs.Gives.{Gives};
+ghost use Rattle.ash_expressions.specs.Gives.{Gives};
 
-use crate::stop::{Checking, broken};
-use crate::types::holds;
+use ash_expressions::{Checking, broken, holds};
 use ash_tree::{Case, Label};
 use ash_typed::{Kind, Rule, Ty};
 

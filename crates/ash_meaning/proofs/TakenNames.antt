@@ -12,8 +12,8 @@ use Rattle.ash_typed.specs.Environment.{Environment}
 use Rattle.ash_typed.specs.Heads.{heads}
 use Rattle.ash_typed.specs.Modules.{Module}
 use Rattle.ash_typed.specs.Items.{Names, Row, Walked, is_taken, untaken, one_more, placed, known_ty, at_type, ty_in, result_typed, with_variable, no_variables, decls_typed, vars_typed, routine_of, routine_typed, one_more_class, class_typed, item_typed, items_typed, seen, nothing, module_typed}
+use Rattle.ash_classes.specs.References.{classes_of}
 use Rattle.ash_check.specs.Checks.{checked_by, checked}
-use Rattle.ash_check.specs.References.{classes_of}
 use Rattle.ash_meaning.specs.Checking.{IsFree, declared_in, DeclareFreeNames}
 
 bound : {A B : Type 0} (c : Checking A) (f : A → Checking B) (b : B) → (c >>= f) ≡ Ok b → (a : A) × (c ≡ Ok a) × (f a ≡ Ok b)

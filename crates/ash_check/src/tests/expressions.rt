@@ -1,10 +1,9 @@
 //! Expressions by themselves: their types, their faults, and what operators take their operands for.
 
-use crate::environment::{Class, Declared, Environment, Function, Heads};
-use crate::expressions::expression;
 use crate::faults::CheckFault;
-use crate::stop::{Checking, Stop};
-use crate::typed::Typed;
+use ash_expressions::{
+    Checking, Class, Declared, Environment, Function, Heads, Stop, Typed, expression,
+};
 use ash_lex::lex;
 use ash_parse::parse_module;
 use ash_registry::Registry;

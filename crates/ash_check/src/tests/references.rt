@@ -1,6 +1,6 @@
 //! Classes that reach themselves, with the ones that are told worked out by hand.
 
-use crate::acyclic::class_ranks;
+use ash_classes::class_ranks;
 use ash_tree::{Class, Decl, Initializer, Item, Member, Module, Place, Type, TypeKind, Vars};
 use std::alloc::{AllocError, Global};
 use std::test::Fail;

@@ -2,12 +2,12 @@ use Rattle.std.proofs.Common.{◌≡◌, ◌∙◌, ℕ, IfErr, OnOk, Some, None
 use Rattle.ash_registry.specs.Registered.{registered}
 use Rattle.ash_tree.specs.Views.{module_of as written_module}
 use Rattle.ash_typed.specs.Modules.{module_of}
-use Rattle.ash_check.specs.declared.cycles.Cycle.{Cycle}
+use Rattle.ash_classes.specs.declared.cycles.Cycle.{Cycle}
+use Rattle.ash_classes.specs.References.{Refers, classes_of}
+use Rattle.ash_classes.specs.ToldCycle.{told_cycle}
+use Rattle.ash_classes.specs.Ways.{IsTold}
 use Rattle.ash_check.specs.Checks.{checked, Cyclic, GoesRound}
-use Rattle.ash_check.specs.References.{Refers, classes_of}
 use Rattle.ash_check.specs.Told.{stopped}
-use Rattle.ash_check.specs.ToldCycle.{told_cycle}
-use Rattle.ash_check.specs.Ways.{IsTold}
 use Rattle.ash_check.proofs.CheckLaws.{stop_is_told, tells_if_err, typed_is_checked, cycle_is_told, way_begins_within, way_is_within, goes_round}
 use Rattle.ash_typed.proofs.ModuleLaws.{module_typed-exact}
 use Rattle.ash_check.proofs.checks.check.Goals as goal

@@ -1,10 +1,10 @@
 use Rattle.std.proofs.Common.{◌≡◌, ◌++◌, ◌+◌, ◌∙◌, ℕ, get_or, map, drop, ap, sym, string_bytes, Bor}
 use Rattle.ash_tree.specs.declared.tree.items.Class as code_class
 use Rattle.ash_tree.specs.Views.{class_of}
+use Rattle.ash_classes.specs.References.{seen}
+use Rattle.ash_classes.proofs.ReferenceLaws.{seen_at}
 use Rattle.ash_check.specs.Checks.{name_at}
-use Rattle.ash_check.specs.References.{seen}
 use Rattle.ash_check.proofs.CheckLaws.{name_is, one_more_name}
-use Rattle.ash_check.proofs.ReferenceLaws.{seen_at}
 use Rattle.ash_check.proofs.checks.names_at.Goals as goal
 
 pub loop-place-preserved : goal.loop-place-preserved

@@ -1,7 +1,7 @@
 use Rattle.std.proofs.Common.{◌≡◌, ◌++◌, map, drop}
 use Rattle.std.specs.Prelude.{string_bytes}
+use Rattle.ash_classes.specs.References.{seen}
 use Rattle.ash_check.specs.Checks.{name_at}
-use Rattle.ash_check.specs.References.{seen}
 use Rattle.ash_check.proofs.checks.names_at.Given as goal
 
 -- the names so far, with those of the places that are left

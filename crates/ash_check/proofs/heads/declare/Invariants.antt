@@ -1,7 +1,7 @@
 use Rattle.std.proofs.Common.{◌≡◌, ◌++◌, map, drop}
 use Rattle.ash_tree.specs.Views.{decl_of}
 use Rattle.ash_typed.specs.Heads.{declared}
-use Rattle.ash_check.specs.Views.{declared_of}
+use Rattle.ash_expressions.specs.Views.{declared_of}
 use Rattle.ash_check.proofs.heads.declare.Given as goal
 
 abbrev pub invariant-loop-decl : goal.invariant-loop-decl

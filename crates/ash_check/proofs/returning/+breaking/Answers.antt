@@ -3,8 +3,8 @@ use Rattle.ash_tree.specs.declared.tree.statements.Stmt as code_stmt
 use Rattle.ash_tree.specs.Tree.{stmts}
 use Rattle.ash_tree.specs.Views.{stmt_at, stmt_of, expr_of}
 use Rattle.ash_tree.proofs.Rows.{block_is}
+use Rattle.ash_classes.proofs.Searches.{found, passed_by, missed}
 use Rattle.ash_check.specs.Returning.{Breaks, BreaksIn}
-use Rattle.ash_check.proofs.Searches.{found, passed_by, missed}
 use Rattle.ash_check.proofs.ReturnLaws.{if_is, if_else_is, breaks_break, breaks_block, breaks_if, breaks_then, breaks_else, any_breaks}
 use Rattle.ash_check.proofs.returning.+breaking.Goals as goal
 

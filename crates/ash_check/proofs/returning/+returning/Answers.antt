@@ -4,8 +4,8 @@ use Rattle.ash_tree.specs.declared.tree.statements.Case as code_case
 use Rattle.ash_tree.specs.Tree.{stmts, cases}
 use Rattle.ash_tree.specs.Views.{stmt_at, stmt_of, expr_of, case_of}
 use Rattle.ash_tree.proofs.Rows.{block_is, switch_is}
+use Rattle.ash_classes.proofs.Searches.{found, passed_by, missed}
 use Rattle.ash_check.specs.Returning.{Returns, ReturnsIn, HasDefault, BreaksOut, ReturnsLast}
-use Rattle.ash_check.proofs.Searches.{found, passed_by, missed}
 use Rattle.ash_check.proofs.ReturnLaws.{if_else_is, any_returns, returns_return, returns_block, returns_both, returns_switch, returns_no_default, returns_breaks_out, last_is}
 use Rattle.ash_check.proofs.returning.+returning.Goals as goal
 use Rattle.ash_check.proofs.returning.+returning.Goals.{returns-then-has_default, returns-else-has_default}

@@ -3,8 +3,8 @@ use Rattle.ash_tree.specs.declared.tree.statements.Stmt as code_stmt
 use Rattle.ash_tree.specs.declared.tree.statements.Case as code_case
 use Rattle.ash_tree.specs.Tree.{stmts, cases}
 use Rattle.ash_tree.specs.Views.{stmt_of, case_of}
+use Rattle.ash_classes.proofs.Searches.{found, passed_by, missed}
 use Rattle.ash_check.specs.Returning.{BreaksIn, BreaksOut}
-use Rattle.ash_check.proofs.Searches.{found, passed_by, missed}
 use Rattle.ash_check.proofs.ReturnLaws.{any_breaks_out}
 use Rattle.ash_check.proofs.returning.breaks_out.Goals as goal
 

@@ -3,8 +3,8 @@ use Rattle.ash_tree.specs.declared.tree.statements.Label.TheVariants as labels
 use Rattle.ash_tree.specs.declared.tree.statements.Case as code_case
 use Rattle.ash_tree.specs.Tree.{cases}
 use Rattle.ash_tree.specs.Views.{case_of}
+use Rattle.ash_classes.proofs.Searches.{found, passed_by, missed}
 use Rattle.ash_check.specs.Returning.{HasDefault}
-use Rattle.ash_check.proofs.Searches.{found, passed_by, missed}
 use Rattle.ash_check.proofs.ReturnLaws.{any_default}
 use Rattle.ash_check.proofs.returning.has_default.Goals as goal
 

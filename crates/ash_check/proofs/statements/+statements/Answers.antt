@@ -1,4 +1,4 @@
-use Rattle.std.proofs.Common.{◌≡◌, Ok, sym, ap, subst, ◌∙◌, ◌+◌, length, map, drop, arith}
+use Rattle.std.proofs.Common.{◌≡◌, Ok, refl, sym, ap, subst, ◌∙◌, ◌+◌, length, map, drop, arith}
 use Rattle.std.proofs.lemmas.List.{length-map}
 use Rattle.std.proofs.lemmas.Result.{err_from_is_err_and}
 use Rattle.ash_tree.specs.declared.tree.statements.Case as code_case
@@ -8,9 +8,9 @@ use Rattle.ash_typed.specs.BodyViews as typed_views
 use Rattle.ash_typed.specs.Statements as definition
 use Rattle.ash_typed.specs.Statements.{stmts_typed}
 use Rattle.ash_typed.specs.Switches.{label_typed}
-use Rattle.ash_check.specs.Gives.{Gives, Fails}
+use Rattle.ash_expressions.specs.Gives.{Gives, Fails}
+use Rattle.ash_expressions.specs.Views.{declared_of}
 use Rattle.ash_check.specs.StatementViews.{locals_of, scope_of}
-use Rattle.ash_check.specs.Views.{declared_of}
 use Rattle.ash_check.proofs.StatementLaws.{Extends, at_first, extends_itself, extends_next, locals_go, block_step, block_end, block_of_source, switch_of_source, for_of_source, block_typed, block_fails, cases_step, label_fails, labelled_fails, cases_end, first_is_all, any_ok}
 use Rattle.ash_check.proofs.statements.+statements.Goals as goal
 
@@ -86,22 +86,24 @@ pub cases_typed-returns-clause-typed : goal.cases_typed-returns-clause-typed
 cases_typed-returns-clause-typed t c =
     cases_end c.loop-i.typed.items (scope_of c.args.scope.now (locals_of c.loop-i.locals)) c.args.kind c.loop-i.before.items c.args.labels.now c.loop-i.i _ c.loop-i-test.false c.loop-i.invariant.0
 
-pub statement-returns-in_err-block-in-Block-clause-typed : goal.statement-returns-in_err-block-in-Block-clause-typed
-statement-returns-in_err-block-in-Block-clause-typed t c =
-    let p = err_from_is_err_and c.from_residual-in_err-block-in-Block.result c.from_residual-in_err-block-in-Block.ensures.1 in
+pub inner_block-returns-in_err-body-clause-typed : goal.inner_block-returns-in_err-body-clause-typed
+inner_block-returns-in_err-body-clause-typed t c =
+    let p = err_from_is_err_and c.from_residual.result c.from_residual.ensures.1 in
     let scope = scope_of c.args.scope.now (locals_of c.args.locals.now) in
-    let source = c.args.source.now in
     let k : c.len.result ≡ length (locals_of c.args.locals.now) = omega (arith, c.len.ensures, c.args.locals.now.ok.0, length-map c.args.locals.now.items declared_of) in
-    let is = block_of_source source c.in-Block.body c.deref-in-Block.result.now c.in-Block.is c.deref-in-Block.ensures.value in
-    rw (p.1, p.2) (block_fails scope _ (stmt_of source) source.place _ c.in_err-block-in-Block.field-0.0 is (first_is_all scope c.len.result k) c.in_err-block-in-Block.ensures.typed)
+    rw (p.1, p.2) (block_fails scope _ _ c.args.place (written.stmts (map stmt_of c.args.body.now)) c.in_err-body.field-0.0 refl (first_is_all scope c.len.result k) c.in_err-body.ensures.typed)
 
-pub statement-returns-in_ok-block-in-Block-clause-typed : goal.statement-returns-in_ok-block-in-Block-clause-typed
-statement-returns-in_ok-block-in-Block-clause-typed t c =
+pub inner_block-returns-clause-typed : goal.inner_block-returns-clause-typed
+inner_block-returns-clause-typed t c =
     let scope = scope_of c.args.scope.now (locals_of c.args.locals.now) in
-    let source = c.args.source.now in
     let k : c.len.result ≡ length (locals_of c.args.locals.now) = omega (arith, c.len.ensures, c.args.locals.now.ok.0, length-map c.args.locals.now.items declared_of) in
-    let is = block_of_source source c.in-Block.body c.deref-in-Block.result.now c.in-Block.is c.deref-in-Block.ensures.value in
-    block_typed scope _ (stmt_of source) source.place _ _ is (first_is_all scope c.len.result k) c.in_ok-block-in-Block.ensures.typed ∙ ap Ok (sym c.block-in-Block.ensures)
+    block_typed scope _ _ c.args.place (written.stmts (map stmt_of c.args.body.now)) _ refl (first_is_all scope c.len.result k) c.in_ok-body.ensures.typed ∙ ap Ok (sym c.block-typed.ensures)
+
+pub statement-returns-in-Block-clause-typed : goal.statement-returns-in-Block-clause-typed
+statement-returns-in-Block-clause-typed t c =
+    let scope = scope_of c.args.scope.now (locals_of c.args.locals.now) in
+    let is = block_of_source c.args.source.now c.in-Block.body c.deref-in-Block.result.now c.in-Block.is c.deref-in-Block.ensures.value in
+    subst (λ (x : written.Stmt). Gives typed_views.stmt_of c.inner_block.result (definition.stmt_typed scope x)) (sym is) c.inner_block.ensures.typed
 
 pub statement-returns-in-Switch-clause-typed : goal.statement-returns-in-Switch-clause-typed
 statement-returns-in-Switch-clause-typed t c =
@@ -109,12 +111,10 @@ statement-returns-in-Switch-clause-typed t c =
     let is = switch_of_source c.args.source.now c.in-Switch.value c.in-Switch.cases c.deref-in-Switch.result.now c.in-Switch.is c.deref-in-Switch.ensures.value in
     subst (λ (x : written.Stmt). Gives typed_views.stmt_of c.switch_typed.result (definition.stmt_typed scope x)) (sym is) c.switch_typed.ensures.typed
 
-pub statement-returns-in_ok-body-in-For-clause-seen : goal.statement-returns-in_ok-body-in-For-clause-seen
-statement-returns-in_ok-body-in-For-clause-seen t c =
+pub for_typed-returns-clause-kept : goal.for_typed-returns-clause-kept
+for_typed-returns-clause-kept t c =
     let k : c.len-kept.result ≡ length c.args.locals.now.items = omega (arith, c.len-kept.ensures, c.args.locals.now.ok.0) in
     let scope = scope_of c.args.scope.now (locals_of c.args.locals.now) in
-    let is = for_of_source c.args.source.now c.in-For.first c.in-For.condition c.in-For.steps c.in-For.body c.in-For.is in
-    let first : Extends (locals_of c.args.locals.now) (locals_of c.statement.new.locals) = extends_next (locals_of c.args.locals.now) (at_first scope c.len-kept.result) (at_first (scope_of c.args.scope.now (locals_of c.statement.new.locals)) c.len-kept.result) (stmt_of c.deref-in-For.result.now) c.in_ok-first-in-For.ensures.seen (extends_itself (locals_of c.args.locals.now)) in
-    let all : Extends (locals_of c.args.locals.now) (locals_of c.branch-alloc-in-For.new.locals) = (first.0, c.in_ok-body-in-For.ensures.kept ∙ first.1) in
-    let go : locals_of c.truncate.new.self ≡ locals_of c.args.locals.now = locals_go c.args.locals.now.items c.branch-alloc-in-For.new.locals.items c.truncate.new.self.items c.len-kept.result k c.truncate.ensures.items all in
-    any_ok _ c.for_made.result (ap (scope_of c.args.scope.now) go ∙ sym (ap (definition.behind scope) is))
+    let first : Extends (locals_of c.args.locals.now) (locals_of c.statement.new.locals) = extends_next (locals_of c.args.locals.now) (at_first scope c.len-kept.result) (at_first (scope_of c.args.scope.now (locals_of c.statement.new.locals)) c.len-kept.result) (stmt_of c.args.first.now) c.in_ok-first.ensures.seen (extends_itself (locals_of c.args.locals.now)) in
+    let go : locals_of c.truncate.new.self ≡ locals_of c.args.locals.now = locals_go c.args.locals.now.items _ c.truncate.new.self.items c.len-kept.result k c.truncate.ensures.items (first.0, c.in_ok-body.ensures.kept ∙ first.1) in
+    any_ok _ c.for_made.result go

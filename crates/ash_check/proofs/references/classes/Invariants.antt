@@ -1,7 +1,0 @@
-use Rattle.std.proofs.Common.{◌≡◌, ◌++◌, drop, map}
-use Rattle.ash_tree.specs.Views.{item_of}
-use Rattle.ash_check.specs.References.{classes_of, seen}
-use Rattle.ash_check.proofs.references.classes.Given as goal
-
-abbrev pub invariant-loop-item : goal.invariant-loop-item
-invariant-loop-item l = seen l.classes.items ++ classes_of (map item_of (drop l.item-index l.items)) ≡ classes_of (map item_of l.items)

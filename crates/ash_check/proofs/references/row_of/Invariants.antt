@@ -1,7 +1,0 @@
-use Rattle.ash_tree.specs.Views.{class_of}
-use Rattle.ash_check.specs.References.{seen}
-use Rattle.ash_check.proofs.ReferenceLaws.{IsRowBefore}
-use Rattle.ash_check.proofs.references.row_of.Given as goal
-
-abbrev pub invariant-loop-place : goal.invariant-loop-place
-invariant-loop-place l = IsRowBefore (seen l.classes) (class_of l.to) l.place l.row.items

@@ -1,0 +1,9 @@
+pub mod Markings
+pub mod Rounds
+pub mod WaysBack
+pub mod Ranked
+pub mod Searches
+pub mod ReferenceLaws
+pub mod ToldLaws
+pub mod Shortcuts
+pub mod ToldSearches

@@ -1,0 +1,7 @@
+use Rattle.ash_classes.specs.References.{seen}
+use Rattle.ash_classes.specs.Marking.{rows_of}
+use Rattle.ash_classes.proofs.ReferenceLaws.{AreRowsBefore}
+use Rattle.ash_classes.proofs.references.referrers.Given as goal
+
+abbrev pub invariant-loop-to : goal.invariant-loop-to
+invariant-loop-to l = AreRowsBefore (seen l.classes) l.to-index (rows_of l.rows.items)

@@ -1,0 +1,93 @@
+//! Ranks of places, each greater than those of the places that one goes to from there; or a way round.
+
+ghost use Rattle.std.specs.Prelude.{◌≡◌, ℕ, length, IfOk, IfErr, OnOk};
+ghost use Rattle.ash_classes.specs.Ways.{IsForemost, IsTold, Reaches, AreRanks};
+ghost use Rattle.ash_classes.specs.Marking.{rows_of, Goes, AreWithin, IsAt, AreDistances, IsNearest, unmarked};
+
+use crate::distances::distances_to;
+use std::alloc::{AllocError, Global};
+
+/// A way round: from the first place to the others in turn, and back.
+#[derive(Debug, PartialEq, Eq, Drop)]
+pub struct Cycle {
+    pub first: usize,
+    pub others: Vec<usize>,
+}
+
+// The first place at that distance that one goes to.
+fn nearest(
+    referrers: &[Vec<usize>],
+    distances: &[Option<usize>],
+    from: usize,
+    distance: usize,
+) -> Option<usize>
+    requires { length distances.now ≡ length referrers.now }
+    ensures { IsNearest (Goes (rows_of referrers.now)) distances.now from distance result }
+{
+    for (place, row) in referrers.iter().enumerate() {
+        if distances[place] == Some(distance) && row.contains(&from) {
+            return Some(place);
+        }
+    }
+    None
+}
+
+// The places between on the foremost of the shortest ways back.
+fn way_back(
+    alloc: Global,
+    referrers: &[Vec<usize>],
+    distances: &[Option<usize>],
+    first: usize,
+    between: usize,
+) -> Result<Vec<usize>, AllocError>
+    requires distances { AreDistances (Goes (rows_of referrers.now)) (length referrers.now) first distances.now }
+    requires back { IsAt distances.now first between }
+    ensures { IfOk result (λ way. IsForemost (Goes (rows_of referrers.now)) first way.items first) }
+{
+    let mut way = Vec::new(alloc);
+    let mut at = first;
+    let mut left = between;
+    'steps: while left > 0 {
+        left -= 1;
+        let Some(next) = nearest(referrers, distances, at, left) else {
+            unreachable!();
+        };
+        way.push(next)?;
+        at = next;
+    }
+    Ok(way)
+}
+
+// How many places have no distance.
+fn count_unmarked(distances: &[Option<usize>]) -> usize
+    ensures { result ≡ unmarked distances.now }
+{
+    distances
+        .iter()
+        .filter(|distance| distance.is_none())
+        .count()
+}
+
+/// A rank for each place; or the way round from the first place that reaches itself, by the first of its shortest ways.
+///
+/// `referrers` has for each place those that go to it, each below the number of places.
+pub(crate) fn ranks(
+    alloc: Global,
+    referrers: &[Vec<usize>],
+) -> Result<Result<Vec<usize>, Cycle>, AllocError>
+    requires { AreWithin (rows_of referrers.now) }
+    ensures ranks { IfOk result (λ answer. IfOk answer (λ ranks. AreRanks (Goes (rows_of referrers.now)) (length referrers.now) ranks.items)) }
+    ensures acyclic { IfOk result (λ answer. OnOk answer ((place : ℕ) → Reaches (Goes (rows_of referrers.now)) place place → ⊥)) }
+    ensures cycle { IfOk result (λ answer. IfErr answer (λ cycle. IsTold (Goes (rows_of referrers.now)) cycle.first cycle.others.items)) }
+{
+    let mut ranks = Vec::new(alloc);
+    for first in 0..referrers.len() {
+        let distances = distances_to(alloc, referrers, first)?;
+        if let Some(between) = distances[first] {
+            let others = way_back(alloc, referrers, &distances, first, between)?;
+            return Ok(Err(Cycle { first, others }));
+        }
+        ranks.push(count_unmarked(&distances) - 1)?;
+    }
+    Ok(Ok(ranks))
+}

@@ -1,0 +1,108 @@
+-- What was made before a turn of a loop, with what is made of the rest.
+use Rattle.std.proofs.Common.{◌≡◌, ◌≤◌, false, List, [], ◌∷◌, ◌++◌, length, map, Option, Some, None, Ok, Err, refl, sym, ap, ◌∙◌, append_assoc, append-nil, arith}
+use Rattle.ash_tree.specs.Tree as written
+use Rattle.ash_typed.specs.declared.fault.Fault.{Fault}
+use Rattle.ash_typed.specs.declared.types.Ty.{Ty}
+use Rattle.ash_typed.specs.declared.tree.expressions.Expr as code
+use Rattle.ash_typed.specs.Checking.{Checking, ◌>>=◌}
+use Rattle.ash_typed.specs.Tree.{Expr, Exprs, no_expr, expr, exprs}
+use Rattle.ash_typed.specs.Views.{expr_of}
+use Rattle.ash_typed.specs.Environment.{Environment}
+use Rattle.ash_typed.specs.Expressions.{Typed, fitted, all_fitted, typed, all_typed}
+use Rattle.ash_expressions.specs.declared.stop.Stop.{Stop}
+use Rattle.ash_expressions.specs.declared.stop.Stop.TheVariants as reasons
+use Rattle.ash_expressions.specs.Gives.{Fails}
+use Rattle.ash_expressions.specs.Views.{first_and_rest}
+
+-- arguments that fit their parameters
+
+abbrev pub before : List Expr → Exprs → Exprs
+before [] es = es
+before (e ∷ done) es = expr e (before done es)
+
+abbrev pub fitted_after : List Expr → List Ty → List Typed → Checking Exprs
+fitted_after done ps ts = all_fitted ps ts >>= λ es. Ok (before done es)
+
+before-none : (done : List Expr) → before done no_expr ≡ exprs done
+before-none [] = refl
+before-none (e ∷ done) = ap (expr e) (before-none done)
+
+before-push : (done : List Expr) (e : Expr) (es : Exprs) → before done (expr e es) ≡ before (done ++ e ∷ []) es
+before-push [] e es = refl
+before-push (x ∷ done) e es = ap (expr x) (before-push done e es)
+
+bind_same : {A : Type 0} (r : Checking A) → (r >>= λ x. Ok x) ≡ r
+bind_same (Ok x) = refl
+bind_same (Err f) = refl
+
+pub none_before : (ps : List Ty) (ts : List Typed) → fitted_after [] ps ts ≡ all_fitted ps ts
+none_before ps ts = bind_same (all_fitted ps ts)
+
+pub no_argument : (done : List Expr) (ps : List Ty) (ts : List Typed) → length ts ≤ 0 → fitted_after done ps ts ≡ Ok (exprs done)
+no_argument done [] [] h = ap Ok (before-none done)
+no_argument done (p ∷ ps) [] h = ap Ok (before-none done)
+no_argument done ps (t ∷ ts) h = absurd (omega arith)
+
+no_first : (p : Ty) (ps : List Ty) → ◌≡◌ {A = Option (Ty × List Ty)} (Some (p, ps)) None → ⊥
+no_first p ps h = cc
+
+pub no_parameter : (done : List Expr) (ps : List Ty) (ts : List Typed) → first_and_rest ps ≡ None → fitted_after done ps ts ≡ Ok (exprs done)
+no_parameter done [] ts h = ap Ok (before-none done)
+no_parameter done (p ∷ ps) ts h = absurd (no_first p ps h)
+
+same_split : (q : Ty) (ps : List Ty) (p : Ty) (qs : List Ty) → ◌≡◌ {A = Option (Ty × List Ty)} (Some (q, ps)) (Some (p, qs)) → ◌≡◌ {A = Ty × List Ty} (q, ps) (p, qs)
+same_split q ps p qs h = cc
+
+split_is : (ps : List Ty) (p : Ty) (qs : List Ty) → first_and_rest ps ≡ Some (p, qs) → ps ≡ p ∷ qs
+split_is [] p qs h = absurd (no_first p qs (sym h))
+split_is (q ∷ ps) p qs h = ap (λ (x : Ty × List Ty). x.0 ∷ x.1) (same_split q ps p qs h)
+
+push_more : (done : List Expr) (e : Expr) (r : Checking Exprs) → ((r >>= λ es. Ok (expr e es)) >>= λ es. Ok (before done es)) ≡ (r >>= λ es. Ok (before (done ++ e ∷ []) es))
+push_more done e (Ok es) = ap Ok (before-push done e es)
+push_more done e (Err f) = refl
+
+-- what comes out of one argument, and then of those behind it
+abbrev first_then : List Expr → List Ty → List Typed → Checking Expr → Checking Exprs
+first_then done ps ts r = (r >>= λ e. all_fitted ps ts >>= λ es. Ok (expr e es)) >>= λ es. Ok (before done es)
+
+one_more : (done : List Expr) (ps : List Ty) (ts : List Typed) (p : Ty) (qs : List Ty) (t : Typed) (us : List Typed) → first_and_rest ps ≡ Some (p, qs) → ts ≡ t ∷ us → fitted_after done ps ts ≡ first_then done qs us (fitted p t)
+one_more done ps ts p qs t us h k = ap (λ x. fitted_after done x ts) (split_is ps p qs h) ∙ ap (λ x. fitted_after done (p ∷ qs) x) k
+
+pub stops : (done : List Expr) (ps : List Ty) (ts : List Typed) (p : Ty) (qs : List Ty) (t : Typed) (us : List Typed) (e : Stop) (whole : Checking Exprs) → first_and_rest ps ≡ Some (p, qs) → ts ≡ t ∷ us → Fails e (fitted p t) → fitted_after done ps ts ≡ whole → Fails e whole
+stops done ps ts p qs t us (reasons.Fault f) whole h k broken so = sym so ∙ one_more done ps ts p qs t us h k ∙ ap (first_then done qs us) broken
+stops done ps ts p qs t us reasons.NoMemory whole h k broken so = tt
+
+map_push : (es : List code.Expr) (e : code.Expr) → map expr_of (es ++ e ∷ []) ≡ map expr_of es ++ expr_of e ∷ []
+map_push [] e = refl
+map_push (x ∷ es) e = ap (λ r. expr_of x ∷ r) (map_push es e)
+
+pub goes_on : (done : List code.Expr) (e : code.Expr) (new : List code.Expr) (ps : List Ty) (ts : List Typed) (p : Ty) (qs : List Ty) (t : Typed) (us : List Typed) (whole : Checking Exprs) → new ≡ done ++ e ∷ [] → first_and_rest ps ≡ Some (p, qs) → ts ≡ t ∷ us → fitted p t ≡ Ok (expr_of e) → fitted_after (map expr_of done) ps ts ≡ whole → fitted_after (map expr_of new) qs us ≡ whole
+goes_on done e new ps ts p qs t us whole same h k fine so =
+    ap (λ x. fitted_after x qs us) (ap (map expr_of) same ∙ map_push done e)
+    ∙ sym (push_more (map expr_of done) (expr_of e) (all_fitted qs us))
+    ∙ sym (ap (first_then (map expr_of done) qs us) fine)
+    ∙ sym (one_more (map expr_of done) ps ts p qs t us h k)
+    ∙ so
+
+-- arguments that are typed
+
+abbrev pub typed_after : List Typed → Checking (List Typed) → Checking (List Typed)
+typed_after done r = r >>= λ ts. Ok (done ++ ts)
+
+pub none_typed : (r : Checking (List Typed)) → typed_after [] r ≡ r
+none_typed (Ok ts) = refl
+none_typed (Err f) = refl
+
+pub all_are_typed : (done : List Typed) → typed_after done (Ok []) ≡ Ok done
+all_are_typed done = ap Ok (append-nil done)
+
+more_typed : (done : List Typed) (t : Typed) (r : Checking (List Typed)) → typed_after done (r >>= λ ts. Ok (t ∷ ts)) ≡ typed_after (done ++ t ∷ []) r
+more_typed done t (Ok ts) = ap Ok (sym (append_assoc done (t ∷ []) ts))
+more_typed done t (Err f) = refl
+
+pub typed_next : (env : Environment) (done : List Typed) (e : written.Expr) (es : written.Exprs) (t : Typed) → typed env false e ≡ Ok t → typed_after done (all_typed env (written.expr e es)) ≡ typed_after (done ++ t ∷ []) (all_typed env es)
+typed_next env done e es t h =
+    ap (λ r. typed_after done (r >>= λ x. all_typed env es >>= λ ts. Ok (x ∷ ts))) h ∙ more_typed done t (all_typed env es)
+
+pub typed_ends : (env : Environment) (done : List Typed) (e : written.Expr) (es : written.Exprs) (f : Fault) → typed env false e ≡ Err f → typed_after done (all_typed env (written.expr e es)) ≡ Err f
+typed_ends env done e es f h = ap (λ r. typed_after done (r >>= λ x. all_typed env es >>= λ ts. Ok (x ∷ ts))) h

@@ -1,0 +1,53 @@
+-- Expressions with lists, typed.
+use Rattle.std.proofs.Common.{◌≡◌, Bool, false, List, ℕ, Result, map, sym, ap, subst, ◌∙◌, string_bytes}
+use Rattle.std.specs.declared.boxed.Box.{Box}
+use Rattle.std.specs.declared.vec.Vec.{Vec}
+use Rattle.std.specs.declared.string.String.{String}
+use Rattle.std.specs.declared.alloc.Global.{Global}
+use Rattle.ash_tree.specs.declared.tree.places.Place.{Place}
+use Rattle.ash_tree.specs.declared.tree.expressions.ExprKind.TheViews as kinds
+use Rattle.ash_tree.specs.declared.tree.expressions.Expr as code_expr
+use Rattle.ash_tree.specs.declared.tree.expressions.Suffix as code_suffix
+use Rattle.ash_tree.specs.declared.tree.expressions.Link as code_link
+use Rattle.ash_tree.specs.Tree as written
+use Rattle.ash_tree.specs.Views.{expr_at, expr_of, suffix_of, operation_of}
+use Rattle.ash_tree.proofs.Rows.{call_is, method_is, binary_is, postfix_is}
+use Rattle.ash_typed.specs.Checking.{◌>>=◌}
+use Rattle.ash_typed.specs.Environment.{Environment}
+use Rattle.ash_typed.specs.Expressions.{typed, all_typed, call_typed, invocation_typed, links_typed, suffixes_typed, suffix_typed}
+use Rattle.ash_expressions.specs.declared.typed.Typed as code_typed
+use Rattle.ash_expressions.specs.declared.stop.Stop.{Stop}
+use Rattle.ash_expressions.specs.Gives.{Gives}
+use Rattle.ash_expressions.specs.Views.{typed_of}
+
+pub typed_call : (env : Environment) (left : Bool) (source : code_expr.Expr) (name : String Global) (es : Vec code_expr.Expr Global) (text : List ℕ) (items : List code_expr.Expr) (outcome : Result code_typed.Typed Stop) → source.kind ≡ kinds.Call name es → text ≡ string_bytes name → items ≡ es.items → Gives typed_of outcome (call_typed env source.place.at text (all_typed env (written.exprs (map expr_of items)))) → Gives typed_of outcome (typed env left (expr_of source))
+typed_call env left source name es text items outcome is t i h =
+    let whole : expr_of source ≡ written.Call source.place (string_bytes name) (written.exprs (map expr_of es.items)) = ap (expr_at source.place) is ∙ call_is source.place name es in
+    let P : written.Expr → Type 0 = λ x. Gives typed_of outcome (typed env left x) in
+    let Q : List ℕ → Type 0 = λ x. Gives typed_of outcome (call_typed env source.place.at x (all_typed env (written.exprs (map expr_of items)))) in
+    let R : List code_expr.Expr → Type 0 = λ x. Gives typed_of outcome (call_typed env source.place.at (string_bytes name) (all_typed env (written.exprs (map expr_of x)))) in
+    subst P (sym whole) (subst R i (subst Q t h))
+
+pub typed_postfix : (env : Environment) (left : Bool) (source : code_expr.Expr) (operand : Box code_expr.Expr Global) (ss : Vec code_suffix.Suffix Global) (first : code_expr.Expr) (items : List code_suffix.Suffix) (outcome : Result code_typed.Typed Stop) → source.kind ≡ kinds.Postfix operand ss → first ≡ operand.value → items ≡ ss.items → Gives typed_of outcome (typed env false (expr_of first) >>= λ t. suffixes_typed env t (written.suffixes (map suffix_of items))) → Gives typed_of outcome (typed env left (expr_of source))
+typed_postfix env left source operand ss first items outcome is f i h =
+    let whole : expr_of source ≡ written.Postfix source.place (expr_of operand.value) (written.suffixes (map suffix_of ss.items)) = ap (expr_at source.place) is ∙ postfix_is source.place operand ss in
+    let P : written.Expr → Type 0 = λ x. Gives typed_of outcome (typed env left x) in
+    let Q : code_expr.Expr → Type 0 = λ x. Gives typed_of outcome (typed env false (expr_of x) >>= λ t. suffixes_typed env t (written.suffixes (map suffix_of items))) in
+    let R : List code_suffix.Suffix → Type 0 = λ x. Gives typed_of outcome (typed env false (expr_of operand.value) >>= λ t. suffixes_typed env t (written.suffixes (map suffix_of x))) in
+    subst P (sym whole) (subst R i (subst Q f h))
+
+pub typed_binary : (env : Environment) (left : Bool) (source : code_expr.Expr) (operand : Box code_expr.Expr Global) (ls : Vec code_link.Link Global) (first : code_expr.Expr) (items : List code_link.Link) (outcome : Result code_typed.Typed Stop) → source.kind ≡ kinds.Binary operand ls → first ≡ operand.value → items ≡ ls.items → Gives typed_of outcome (typed env false (expr_of first) >>= λ t. links_typed env t (written.links (map operation_of items))) → Gives typed_of outcome (typed env left (expr_of source))
+typed_binary env left source operand ls first items outcome is f i h =
+    let whole : expr_of source ≡ written.Binary source.place (expr_of operand.value) (written.links (map operation_of ls.items)) = ap (expr_at source.place) is ∙ binary_is source.place operand ls in
+    let P : written.Expr → Type 0 = λ x. Gives typed_of outcome (typed env left x) in
+    let Q : code_expr.Expr → Type 0 = λ x. Gives typed_of outcome (typed env false (expr_of x) >>= λ t. links_typed env t (written.links (map operation_of items))) in
+    let R : List code_link.Link → Type 0 = λ x. Gives typed_of outcome (typed env false (expr_of operand.value) >>= λ t. links_typed env t (written.links (map operation_of x))) in
+    subst P (sym whole) (subst R i (subst Q f h))
+
+pub typed_method : (env : Environment) (base : code_typed.Typed) (s : code_suffix.Suffix) (p : Place) (name : String Global) (es : Vec code_expr.Expr Global) (text : List ℕ) (items : List code_expr.Expr) (outcome : Result code_typed.Typed Stop) → s ≡ kinds.Method p name es → text ≡ string_bytes name → items ≡ es.items → Gives typed_of outcome (invocation_typed env (typed_of base) p.at text (all_typed env (written.exprs (map expr_of items)))) → Gives typed_of outcome (suffix_typed env (typed_of base) (suffix_of s))
+typed_method env base s p name es text items outcome is t i h =
+    let whole : suffix_of s ≡ written.Method p (string_bytes name) (written.exprs (map expr_of es.items)) = ap suffix_of is ∙ method_is p name es in
+    let P : written.Suffix → Type 0 = λ x. Gives typed_of outcome (suffix_typed env (typed_of base) x) in
+    let Q : List ℕ → Type 0 = λ x. Gives typed_of outcome (invocation_typed env (typed_of base) p.at x (all_typed env (written.exprs (map expr_of items)))) in
+    let R : List code_expr.Expr → Type 0 = λ x. Gives typed_of outcome (invocation_typed env (typed_of base) p.at (string_bytes name) (all_typed env (written.exprs (map expr_of x)))) in
+    subst P (sym whole) (subst R i (subst Q t h))

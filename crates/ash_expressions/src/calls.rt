@@ -1,0 +1,214 @@
+//! Names, calls and suffixes, once their parts are typed.
+
+ghost use Rattle.std.specs.Prelude.{◌≡◌, length, map, option_map};
+ghost use Rattle.ash_typed.specs.Environment as environment;
+ghost use Rattle.ash_typed.specs.Expressions as typing;
+ghost use Rattle.ash_expressions.specs.Gives.{Gives};
+ghost use Rattle.ash_expressions.specs.Views.{typed_of, parameters_of, callee_of, invoked_of, environment_of, arguments_of, maybe_invoked, first_and_rest, split_of};
+
+use crate::environment::{Callee, Environment, Invoked, Parameters};
+use crate::stop::{Checking, broken};
+use crate::typed::{Typed, fitted, made};
+use crate::types::ty_of;
+use ash_typed::{Alone, Expr, Member, ObjectType, Rule, Ty, nodes};
+use std::alloc::Global;
+
+impl<'a> Parameters<'a> {
+    fn len(&self) -> usize
+        ensures { result ≡ length (parameters_of self.now) }
+    {
+        match self {
+            Parameters::Script(types) => types.len(),
+            Parameters::Host(types) => types.len(),
+        }
+    }
+
+    fn split_first(self) -> Option<(Ty, Parameters<'a>)>
+        ensures { option_map split_of result ≡ first_and_rest (parameters_of self.entry) }
+    {
+        match self {
+            Parameters::Script(types) => {
+                let (first, rest) = types.split_first()?;
+                Some((*first, Parameters::Script(rest)))
+            }
+            Parameters::Host(types) => {
+                let (first, rest) = types.split_first()?;
+                Some((ty_of(*first), Parameters::Host(rest)))
+            }
+        }
+    }
+}
+
+/// Arguments, each as its parameter takes it.
+fn all_fitted(alloc: Global, parameters: &Parameters, arguments: Vec<Typed>) -> Checking<Vec<Expr>>
+    ensures { Gives arguments_of result (typing.all_fitted (parameters_of parameters.now) (map typed_of arguments.items)) }
+{
+    let mut fitting = Vec::with_capacity(alloc, arguments.len())?;
+    let mut rest = *parameters;
+    for argument in arguments {
+        let Some((of, behind)) = rest.split_first() else {
+            return Ok(fitting);
+        };
+        fitting.push(fitted(alloc, of, argument)?)?;
+        rest = behind;
+    }
+    Ok(fitting)
+}
+
+/// Arguments of a call by the name at this offset.
+#[tactic(auto, unfolding(ash_typed::specs::Expressions::arguments_at))]
+fn arguments(
+    alloc: Global,
+    at: usize,
+    parameters: &Parameters,
+    arguments: Vec<Typed>,
+) -> Checking<Vec<Expr>>
+    ensures { Gives arguments_of result (typing.arguments_at at (parameters_of parameters.now) (map typed_of arguments.items)) }
+{
+    if parameters.len() != arguments.len() {
+        return Err(broken(Rule::WrongArgumentCount, at));
+    }
+    all_fitted(alloc, parameters, arguments)
+}
+
+/// A call by the name at this offset.
+#[tactic(auto, unfolding(ash_typed::specs::Expressions::called))]
+pub fn called(alloc: Global, at: usize, callee: &Callee, typed: Vec<Typed>) -> Checking<Typed>
+    ensures { Gives typed_of result (typing.called at (callee_of callee.now) (map typed_of typed.items) (option_map parameters_of callee.now.parameters)) }
+{
+    let Some(parameters) = callee.parameters else {
+        return Err(broken(Rule::NoFactory, at));
+    };
+    let arguments = arguments(alloc, at, &parameters, typed)?;
+    Ok(made(at, callee.result, nodes::call(callee.target, arguments)))
+}
+
+/// A name alone.
+#[inline(never)]
+pub(crate) fn known(env: &Environment, alloc: Global, at: usize, name: &str) -> Checking<Typed>
+    ensures { Gives typed_of result (typing.known_at at (environment.variable_in (environment_of env.now) name.now)) }
+{
+    match env.variable(alloc, name)? {
+        None => Err(broken(Rule::UnknownName, at)),
+        Some((tree, of)) => Ok(made(at, of, tree)),
+    }
+}
+
+/// What a call by a name calls.
+pub(crate) fn callee<'a>(env: &Environment<'a, '_>, at: usize, name: &str) -> Checking<Callee<'a>>
+    ensures { Gives callee_of result (typing.callee_at at (environment.callee_in (environment_of env.now) name.now)) }
+{
+    match env.callee(name) {
+        None => Err(broken(Rule::UnknownName, at)),
+        Some(callee) => Ok(callee),
+    }
+}
+
+/// `this`
+pub(crate) fn this(at: usize, class: Option<usize>) -> Checking<Typed>
+    ensures { Gives typed_of result (typing.this_at at class) }
+{
+    match class {
+        None => Err(broken(Rule::Misplaced, at)),
+        Some(class) => Ok(made(at, Ty::Handle(ObjectType::Class(class)), Expr::This)),
+    }
+}
+
+fn member(
+    env: &Environment,
+    alloc: Global,
+    base: Typed,
+    of: ObjectType,
+    at: usize,
+    name: &str,
+) -> Checking<Typed>
+    ensures { Gives typed_of result (typing.member_at (typed_of base) at (environment.member_in (environment_of env.now) of name.now)) }
+{
+    match env.member(of, name) {
+        None => Err(broken(Rule::UnknownName, at)),
+        Some((member, of)) => Ok(made(base.at, of, nodes::member(alloc, base.tree, member)?)),
+    }
+}
+
+/// `base.name`, at the name
+#[tactic(auto, unfolding(ash_typed::specs::Expressions::field_of))]
+pub(crate) fn field(
+    env: &Environment,
+    alloc: Global,
+    base: Typed,
+    at: usize,
+    name: &str,
+) -> Checking<Typed>
+    ensures { Gives typed_of result (typing.field_of (environment_of env.now) (typed_of base) base.ty at name.now) }
+{
+    match base.ty {
+        Ty::Object(of) | Ty::Handle(of) => member(env, alloc, base, of, at, name),
+        Ty::Unknown => {
+            let tree = nodes::member(alloc, base.tree, Member::Field(0))?;
+            Ok(made(base.at, Ty::Unknown, tree))
+        }
+        _ => Err(broken(Rule::TypeMismatch, base.at)),
+    }
+}
+
+fn invoked_method<'a>(
+    env: &Environment<'a, '_>,
+    of: ObjectType,
+    at: usize,
+    name: &str,
+) -> Checking<Option<Invoked<'a>>>
+    ensures { Gives maybe_invoked result (typing.invoked_at at (environment.method_in (environment_of env.now) of name.now)) }
+{
+    match env.method(of, name) {
+        None => Err(broken(Rule::UnknownName, at)),
+        Some(method) => Ok(Some(method)),
+    }
+}
+
+/// The method of `base.name(..)`, at the name; nothing where the type of the base is unknown.
+#[tactic(auto, unfolding(ash_typed::specs::Expressions::method_of))]
+pub(crate) fn method<'a>(
+    env: &Environment<'a, '_>,
+    base: &Typed,
+    at: usize,
+    name: &str,
+) -> Checking<Option<Invoked<'a>>>
+    ensures { Gives maybe_invoked result (typing.method_of (environment_of env.now) (typed_of base.now) base.now.ty at name.now) }
+{
+    match base.ty {
+        Ty::Object(of) | Ty::Handle(of) => invoked_method(env, of, at, name),
+        Ty::Unknown => Ok(None),
+        _ => Err(broken(Rule::TypeMismatch, base.at)),
+    }
+}
+
+/// `base.name(..)`, at the name
+#[tactic(auto, unfolding(ash_typed::specs::Expressions::invoked))]
+pub(crate) fn invoked(
+    alloc: Global,
+    base: Typed,
+    at: usize,
+    typed: Vec<Typed>,
+    method: Option<Invoked>,
+) -> Checking<Typed>
+    ensures { Gives typed_of result (typing.invoked (typed_of base) at (map typed_of typed.items) (maybe_invoked method.entry)) }
+{
+    let Some(method) = method else {
+        return Ok(made(base.at, Ty::Unknown, Expr::Null));
+    };
+    let arguments = arguments(alloc, at, &method.parameters, typed)?;
+    let tree = nodes::invoke(alloc, base.tree, method.method, arguments)?;
+    Ok(made(base.at, method.result, tree))
+}
+
+/// `(typed)`, at the bracket
+pub(crate) fn bracketed(at: usize, typed: Typed) -> Typed
+    ensures { typed_of result ≡ typing.in_brackets at (typed_of typed) }
+{
+    Typed {
+        at,
+        ty: typed.ty,
+        alone: Alone::Other,
+        tree: typed.tree,
+    }
+}

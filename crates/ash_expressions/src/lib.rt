@@ -1,0 +1,30 @@
+//! The check of expressions: an expression in an environment, typed, or its first fault.
+//!
+//! An environment has what a module declares, what is registered, the class whose object runs, and the locals. `typed` of
+//! `ash_typed/specs/Expressions.antt` defines what an expression is in one, and which fault of it is the first: its parts
+//! in the order of the text, then the expression. `expression` gives what it says, unless memory runs out; `Gives` of
+//! `specs/Gives.antt` says so of each function that may stop, here and in the crates above.
+//! The crate stands on `ash_tree`, whose trees are typed, on `ash_registry`, and on `ash_typed`.
+//!
+//! In reading order: `expressions`, the walk over an expression; `operators` and `calls`, what comes of a phrase once its
+//! parts are typed; `environment`, what names stand for; `tables` and `places`, where a name is found without a search
+//! through all of them; `typed` and `types`; `stop`, why checking stops.
+#![tactic(auto)]
+
+mod calls;
+mod environment;
+mod expressions;
+mod operators;
+mod places;
+mod stop;
+mod tables;
+mod typed;
+mod types;
+
+pub use calls::called;
+pub use environment::{Callee, Class, Declared, Environment, Function, Parameters};
+pub use expressions::{all_typed, expression};
+pub use stop::{Checking, Stop, broken};
+pub use tables::Heads;
+pub use typed::{Typed, fitted, integer, truth};
+pub use types::{holds, is_void, ty_of};

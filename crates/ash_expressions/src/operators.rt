@@ -1,0 +1,274 @@
+//! Operators, conversions and assignments, once their operands are typed.
+
+ghost use Rattle.std.specs.Prelude.{Ok};
+ghost use Rattle.ash_typed.specs.Tree.{Alter, place_in};
+ghost use Rattle.ash_typed.specs.Views.{expr_of, place_of};
+ghost use Rattle.ash_typed.specs.Expressions as typing;
+ghost use Rattle.ash_expressions.specs.Gives.{Gives};
+ghost use Rattle.ash_expressions.specs.Views.{typed_of, met_of};
+
+use crate::stop::{Checking, broken};
+use crate::typed::{Typed, adapt, brought, fitted, handle, integer, made, truth};
+use crate::types::{
+    assumed, common, conversion, is_stored, is_void, meets, operand_type, operator_of, outcome,
+    signed, sort_of, takes, ty_of,
+};
+use ash_tree::{AssignOp, BinaryOp, Primitive, UnaryOp};
+use ash_typed::{
+    Alone, Change, Expr, Kind, Operand, Operands, Operation, Place, Rule, Sort, Step, Ty, nodes,
+};
+use std::alloc::Global;
+
+/// The operands of an operator, and what it takes them for.
+#[derive(Drop)]
+pub(crate) struct Met {
+    left: Typed,
+    operands: Operands,
+    right: Expr,
+}
+
+fn right_operand(alloc: Global, sort: Sort, operands: Operands, right: Typed) -> Checking<Expr>
+    ensures { Gives expr_of result (Ok (typing.right_operand sort operands (typed_of right))) }
+{
+    match sort {
+        Sort::Shift => Ok(right.tree),
+        _ => Ok(brought(alloc, operand_type(operands), right)?),
+    }
+}
+
+fn met_by(alloc: Global, sort: Sort, left: Typed, right: Typed) -> Checking<Met>
+    ensures { Gives met_of result (typing.met_by sort (typed_of left) (typed_of right)) }
+{
+    let one = assumed(sort, right.ty, left.ty);
+    let other = assumed(sort, left.ty, right.ty);
+    let Some(operands) = meets(sort, one, other) else {
+        let at = if takes(sort, left.ty) {
+            right.at
+        } else {
+            left.at
+        };
+        return Err(broken(Rule::TypeMismatch, at));
+    };
+    let right = right_operand(alloc, sort, operands, right)?;
+    Ok(Met {
+        left,
+        operands,
+        right,
+    })
+}
+
+#[tactic(auto, unfolding(ash_typed::specs::Expressions::met))]
+fn met_operands(
+    alloc: Global,
+    operator: BinaryOp,
+    mut left: Typed,
+    mut right: Typed,
+) -> Checking<Met>
+    ensures { Gives met_of result (typing.met operator (typed_of left) (typed_of right)) }
+{
+    let sort = sort_of(operator);
+    let (alone, of) = (right.alone, right.ty);
+    adapt(sort, left.alone, left.ty, &mut right);
+    adapt(sort, alone, of, &mut left);
+    met_by(alloc, sort, left, right)
+}
+
+/// An operator between two operands.
+#[tactic(auto, unfolding(ash_typed::specs::Expressions::operate))]
+pub(crate) fn operate(
+    alloc: Global,
+    operator: BinaryOp,
+    left: Typed,
+    right: Typed,
+) -> Checking<Typed>
+    ensures { Gives typed_of result (typing.operate operator (typed_of left) (typed_of right)) }
+{
+    let met = met_operands(alloc, operator, left, right)?;
+    let at = met.left.at;
+    let operands = met.operands;
+    let next = Operand {
+        before: conversion(operand_type(operands), met.left.ty),
+        operation: Operation { operator, operands },
+        value: met.right,
+    };
+    let tree = nodes::operate(alloc, met.left.tree, next)?;
+    Ok(made(at, outcome(sort_of(operator), operands), tree))
+}
+
+/// `++` or `--` at a place.
+#[tactic(auto, unfolding(ash_typed::specs::Expressions::counted))]
+pub(crate) fn counted(alloc: Global, at: usize, step: Step, operand: Typed) -> Checking<Typed>
+    ensures { Gives typed_of result (typing.counted at step (typed_of operand) (place_in (expr_of operand.tree))) }
+{
+    let Some(place) = nodes::place(alloc, operand.tree)? else {
+        return Err(broken(Rule::NotAssignable, operand.at));
+    };
+    let kind = integer(operand.at, operand.ty)?;
+    Ok(made(at, Ty::Integer(kind), nodes::count(place, kind, step)))
+}
+
+fn altered(alloc: Global, at: usize, kind: Kind, change: Change, operand: Typed) -> Checking<Typed>
+    ensures { Gives typed_of result (Ok (typing.altered at kind change (typed_of operand))) }
+{
+    let value = brought(alloc, Ty::Integer(kind), operand)?;
+    Ok(made(at, Ty::Integer(kind), nodes::alter(alloc, change, value)?))
+}
+
+fn changed(alloc: Global, at: usize, of: Ty, change: Change, operand: Typed) -> Checking<Typed>
+    ensures { Gives typed_of result (Ok (typing.made at of (Alter change (expr_of operand.tree)))) }
+{
+    Ok(made(at, of, nodes::alter(alloc, change, operand.tree)?))
+}
+
+fn handle_at(alloc: Global, left: bool, at: usize, operand: Typed) -> Checking<Typed>
+    ensures { Gives typed_of result (typing.handle_at left at (typed_of operand)) }
+{
+    if left {
+        return Ok(Typed {
+            at,
+            ty: operand.ty,
+            alone: Alone::Handle,
+            tree: operand.tree,
+        });
+    }
+    let of = handle(operand.at, operand.ty)?;
+    changed(alloc, at, of, Change::Keep, operand)
+}
+
+/// An operator before its operand; `left` is whether it stands left of `=`.
+#[tactic(auto, unfolding(ash_typed::specs::Expressions::unary_at))]
+pub(crate) fn unary(
+    alloc: Global,
+    left: bool,
+    at: usize,
+    operator: UnaryOp,
+    operand: Typed,
+) -> Checking<Typed>
+    ensures { Gives typed_of result (typing.unary_at left at operator (typed_of operand)) }
+{
+    match operator {
+        UnaryOp::Plus => {
+            let kind = integer(operand.at, operand.ty)?;
+            altered(alloc, at, kind, Change::Keep, operand)
+        }
+        UnaryOp::Minus => {
+            let kind = signed(integer(operand.at, operand.ty)?);
+            altered(alloc, at, kind, Change::Negate(kind), operand)
+        }
+        UnaryOp::BitNot => {
+            let kind = integer(operand.at, operand.ty)?;
+            altered(alloc, at, kind, Change::Complement(kind), operand)
+        }
+        UnaryOp::Not => {
+            truth(operand.at, operand.ty)?;
+            changed(alloc, at, Ty::Bool, Change::Not, operand)
+        }
+        UnaryOp::Increment => counted(alloc, at, Step::Increment, operand),
+        UnaryOp::Decrement => counted(alloc, at, Step::Decrement, operand),
+        UnaryOp::Handle => handle_at(alloc, left, at, operand),
+    }
+}
+
+/// `prim(e)`
+#[tactic(auto, unfolding(ash_typed::specs::Expressions::convert_at))]
+pub(crate) fn converted(alloc: Global, at: usize, to: Primitive, value: Typed) -> Checking<Typed>
+    ensures { Gives typed_of result (typing.convert_at at to (typed_of value)) }
+{
+    match ty_of(to) {
+        Ty::Integer(kind) => {
+            integer(value.at, value.ty)?;
+            altered(alloc, at, kind, Change::Keep, value)
+        }
+        _ => {
+            truth(value.at, value.ty)?;
+            changed(alloc, at, Ty::Bool, Change::Keep, value)
+        }
+    }
+}
+
+/// `condition ? then : otherwise`
+#[tactic(auto, unfolding(ash_typed::specs::Expressions::choice))]
+pub(crate) fn choice(
+    alloc: Global,
+    condition: Typed,
+    then: Typed,
+    otherwise: Typed,
+) -> Checking<Typed>
+    ensures { Gives typed_of result (typing.choice (typed_of condition) (typed_of then) (typed_of otherwise)) }
+{
+    truth(condition.at, condition.ty)?;
+    let Some(of) = common(then.ty, otherwise.ty) else {
+        let at = if is_void(then.ty) {
+            then.at
+        } else {
+            otherwise.at
+        };
+        return Err(broken(Rule::TypeMismatch, at));
+    };
+    let then = brought(alloc, of, then)?;
+    let otherwise = brought(alloc, of, otherwise)?;
+    let tree = nodes::conditional(alloc, condition.tree, then, otherwise)?;
+    Ok(made(condition.at, of, tree))
+}
+
+/// `place operator= value`
+fn updated(
+    alloc: Global,
+    at: usize,
+    of: Ty,
+    place: Place,
+    operator: BinaryOp,
+    value: Typed,
+) -> Checking<Typed>
+    ensures { Gives typed_of result (typing.updated at of (place_of place) operator (typed_of value)) }
+{
+    let met = met_operands(alloc, operator, made(at, of, Expr::Null), value)?;
+    let kind = integer(at, of)?;
+    let operation = Operation {
+        operator,
+        operands: met.operands,
+    };
+    let tree = nodes::update(alloc, place, kind, operation, met.right)?;
+    Ok(made(at, Ty::Integer(kind), tree))
+}
+
+#[tactic(auto, unfolding(ash_typed::specs::Expressions::stored))]
+fn stored(
+    alloc: Global,
+    at: usize,
+    of: Ty,
+    place: Place,
+    operator: Option<BinaryOp>,
+    value: Typed,
+) -> Checking<Typed>
+    ensures { Gives typed_of result (typing.stored at of (place_of place) operator (typed_of value)) }
+{
+    match operator {
+        None => {
+            let value = fitted(alloc, of, value)?;
+            let tree = nodes::assign(alloc, place, value)?;
+            Ok(made(at, of, tree))
+        }
+        Some(operator) => updated(alloc, at, of, place, operator, value),
+    }
+}
+
+/// An assignment, once both sides are typed.
+#[tactic(auto, unfolding(ash_typed::specs::Expressions::assigned))]
+pub(crate) fn assigned(
+    alloc: Global,
+    target: Typed,
+    operator: AssignOp,
+    value: Typed,
+) -> Checking<Typed>
+    ensures { Gives typed_of result (typing.assigned (typed_of target) operator (typed_of value)) }
+{
+    let (at, of, alone) = (target.at, target.ty, target.alone);
+    let Some(place) = nodes::place(alloc, target.tree)? else {
+        return Err(broken(Rule::NotAssignable, at));
+    };
+    if !is_stored(alone, of) {
+        return Err(broken(Rule::NotAssignable, at));
+    }
+    stored(alloc, at, of, place, operator_of(operator), value)
+}

@@ -1,0 +1,318 @@
+//! Types, and what operators take.
+
+ghost use Rattle.std.specs.Prelude.{◌≡◌};
+ghost use Rattle.ash_typed.specs.Types as types;
+ghost use Rattle.ash_typed.specs.Expressions as typing;
+
+use ash_tree::{AssignOp, BinaryOp, Primitive};
+use ash_typed::{Alone, Conversion, Kind, ObjectType, Operands, Sort, Ty};
+
+pub(crate) fn is_signed(kind: Kind) -> bool
+    ensures { result ≡ types.is_signed kind }
+{
+    matches!(kind, Kind::Int | Kind::Int64)
+}
+
+pub(crate) fn is_wide(kind: Kind) -> bool
+    ensures { result ≡ types.is_wide kind }
+{
+    matches!(kind, Kind::Int64 | Kind::Uint64)
+}
+
+fn kind_by(signed: bool, wide: bool) -> Kind
+    ensures { result ≡ types.kind_by signed wide }
+{
+    match (signed, wide) {
+        (true, false) => Kind::Int,
+        (false, false) => Kind::Uint,
+        (true, true) => Kind::Int64,
+        (false, true) => Kind::Uint64,
+    }
+}
+
+/// Where two integer types meet.
+pub(crate) fn meeting(one: Kind, other: Kind) -> Kind
+    ensures { result ≡ types.meeting one other }
+{
+    kind_by(
+        is_signed(one) || is_signed(other),
+        is_wide(one) || is_wide(other),
+    )
+}
+
+/// The signed type of the same width.
+pub(crate) fn signed(kind: Kind) -> Kind
+    ensures { result ≡ types.signed kind }
+{
+    kind_by(true, is_wide(kind))
+}
+
+pub(crate) fn is_same_kind(one: Kind, other: Kind) -> bool
+    ensures { result ≡ types.is_same_kind one other }
+{
+    match one {
+        Kind::Int => matches!(other, Kind::Int),
+        Kind::Uint => matches!(other, Kind::Uint),
+        Kind::Int64 => matches!(other, Kind::Int64),
+        Kind::Uint64 => matches!(other, Kind::Uint64),
+    }
+}
+
+/// Whether a type holds a number.
+pub fn holds(kind: Kind, number: u64) -> bool
+    ensures { result ≡ types.holds kind number }
+{
+    match kind {
+        Kind::Int => number < 1 << 31,
+        Kind::Uint => number < 1 << 32,
+        Kind::Int64 => number < 1 << 63,
+        Kind::Uint64 => true,
+    }
+}
+
+/// The first type that holds a number.
+pub(crate) fn kind_of(number: u64) -> Kind
+    ensures { result ≡ types.kind_of number }
+{
+    if holds(Kind::Int, number) {
+        Kind::Int
+    } else if holds(Kind::Uint, number) {
+        Kind::Uint
+    } else if holds(Kind::Int64, number) {
+        Kind::Int64
+    } else {
+        Kind::Uint64
+    }
+}
+
+fn is_same_object(one: ObjectType, other: ObjectType) -> bool
+    ensures { result ≡ types.is_same_object one other }
+{
+    match (one, other) {
+        (ObjectType::Class(a), ObjectType::Class(b)) => a == b,
+        (ObjectType::Host(a), ObjectType::Host(b)) => a == b,
+        _ => false,
+    }
+}
+
+/// The type that a primitive type is.
+pub fn ty_of(primitive: Primitive) -> Ty
+    ensures { result ≡ types.ty_of primitive }
+{
+    match primitive {
+        Primitive::Bool => Ty::Bool,
+        Primitive::Int => Ty::Integer(Kind::Int),
+        Primitive::Int64 => Ty::Integer(Kind::Int64),
+        Primitive::Uint => Ty::Integer(Kind::Uint),
+        Primitive::Uint64 => Ty::Integer(Kind::Uint64),
+    }
+}
+
+fn fits_object(object: ObjectType, of: Ty) -> bool
+    ensures { result ≡ types.fits_object object of }
+{
+    match of {
+        Ty::Object(other) | Ty::Handle(other) => is_same_object(object, other),
+        Ty::Null | Ty::Unknown => true,
+        _ => false,
+    }
+}
+
+/// Whether a value of the second type may be stored in a variable of the first.
+pub(crate) fn fits(to: Ty, of: Ty) -> bool
+    ensures { result ≡ types.fits to of }
+{
+    match to {
+        Ty::Unknown => !matches!(of, Ty::Void),
+        Ty::Bool => matches!(of, Ty::Bool | Ty::Unknown),
+        Ty::Integer(_) => matches!(of, Ty::Integer(_) | Ty::Unknown),
+        Ty::Object(object) | Ty::Handle(object) => fits_object(object, of),
+        _ => false,
+    }
+}
+
+fn agrees(one: Ty, other: Ty) -> bool
+    ensures { result ≡ types.agrees one other }
+{
+    match one {
+        Ty::Object(object) | Ty::Handle(object) => fits_object(object, other),
+        Ty::Null | Ty::Unknown => matches!(
+            other,
+            Ty::Object(_) | Ty::Handle(_) | Ty::Null | Ty::Unknown
+        ),
+        _ => false,
+    }
+}
+
+fn common_object(object: ObjectType, of: Ty) -> Option<Ty>
+    ensures { result ≡ types.common_object object of }
+{
+    if fits_object(object, of) {
+        Some(Ty::Handle(object))
+    } else {
+        None
+    }
+}
+
+/// The type of `c ? a : b`, from those of its branches.
+pub(crate) fn common(one: Ty, other: Ty) -> Option<Ty>
+    ensures { result ≡ types.common one other }
+{
+    match (one, other) {
+        (Ty::Bool, Ty::Bool | Ty::Unknown) => Some(Ty::Bool),
+        (Ty::Integer(j), Ty::Integer(k)) => Some(Ty::Integer(meeting(j, k))),
+        (Ty::Integer(j), Ty::Unknown) => Some(Ty::Integer(j)),
+        (Ty::Object(object) | Ty::Handle(object), _) => common_object(object, other),
+        (Ty::Null, Ty::Object(object) | Ty::Handle(object)) => Some(Ty::Handle(object)),
+        (Ty::Null, Ty::Unknown) => Some(Ty::Unknown),
+        (Ty::Unknown, Ty::Void) => None,
+        (Ty::Unknown, _) => Some(other),
+        _ => None,
+    }
+}
+
+/// What an operator is of.
+pub(crate) fn sort_of(operator: BinaryOp) -> Sort
+    ensures { result ≡ types.sort_of operator }
+{
+    match operator {
+        BinaryOp::Multiply | BinaryOp::Divide | BinaryOp::Remainder => Sort::Arithmetic,
+        BinaryOp::Add | BinaryOp::Subtract => Sort::Arithmetic,
+        BinaryOp::BitAnd | BinaryOp::BitXor | BinaryOp::BitOr => Sort::Arithmetic,
+        BinaryOp::ShiftLeft | BinaryOp::ShiftRight | BinaryOp::ShiftRightArithmetic => Sort::Shift,
+        BinaryOp::Less | BinaryOp::LessOrEqual => Sort::Order,
+        BinaryOp::Greater | BinaryOp::GreaterOrEqual => Sort::Order,
+        BinaryOp::Equal | BinaryOp::NotEqual => Sort::Equality,
+        BinaryOp::Is | BinaryOp::NotIs => Sort::Identity,
+        BinaryOp::Xor | BinaryOp::And | BinaryOp::Or => Sort::Logic,
+    }
+}
+
+/// The operator of `a op= b`.
+pub(crate) fn operator_of(operator: AssignOp) -> Option<BinaryOp>
+    ensures { result ≡ typing.operator_of operator }
+{
+    match operator {
+        AssignOp::Assign => None,
+        AssignOp::Add => Some(BinaryOp::Add),
+        AssignOp::Subtract => Some(BinaryOp::Subtract),
+        AssignOp::Multiply => Some(BinaryOp::Multiply),
+        AssignOp::Divide => Some(BinaryOp::Divide),
+        AssignOp::Remainder => Some(BinaryOp::Remainder),
+        AssignOp::BitAnd => Some(BinaryOp::BitAnd),
+        AssignOp::BitOr => Some(BinaryOp::BitOr),
+        AssignOp::BitXor => Some(BinaryOp::BitXor),
+        AssignOp::ShiftLeft => Some(BinaryOp::ShiftLeft),
+        AssignOp::ShiftRight => Some(BinaryOp::ShiftRight),
+        AssignOp::ShiftRightArithmetic => Some(BinaryOp::ShiftRightArithmetic),
+    }
+}
+
+/// Whether an operator takes a type anywhere.
+pub(crate) fn takes(sort: Sort, of: Ty) -> bool
+    ensures { result ≡ types.takes sort of }
+{
+    match (sort, of) {
+        (_, Ty::Unknown) => true,
+        (Sort::Arithmetic | Sort::Shift | Sort::Order, Ty::Integer(_)) => true,
+        (Sort::Equality, Ty::Integer(_) | Ty::Bool) => true,
+        (Sort::Identity, Ty::Object(_) | Ty::Handle(_) | Ty::Null) => true,
+        (Sort::Logic, Ty::Bool) => true,
+        _ => false,
+    }
+}
+
+/// What an operand of an unknown type is taken for.
+pub(crate) fn assumed(sort: Sort, other: Ty, of: Ty) -> Ty
+    ensures { result ≡ types.assumed sort other of }
+{
+    match (sort, other, of) {
+        (Sort::Equality, Ty::Bool, Ty::Unknown) => Ty::Bool,
+        (Sort::Identity, _, Ty::Unknown) => Ty::Null,
+        (Sort::Logic, _, Ty::Unknown) => Ty::Bool,
+        (_, _, Ty::Unknown) => Ty::Integer(Kind::Int),
+        _ => of,
+    }
+}
+
+/// What an operator does with operands of these types, where it takes them.
+pub(crate) fn meets(sort: Sort, one: Ty, other: Ty) -> Option<Operands>
+    ensures { result ≡ types.meets sort one other }
+{
+    match (sort, one, other) {
+        (Sort::Arithmetic | Sort::Order | Sort::Equality, Ty::Integer(j), Ty::Integer(k)) => {
+            Some(Operands::Integers(meeting(j, k)))
+        }
+        (Sort::Shift, Ty::Integer(j), Ty::Integer(_)) => Some(Operands::Integers(j)),
+        (Sort::Equality | Sort::Logic, Ty::Bool, Ty::Bool) => Some(Operands::Bools),
+        (Sort::Identity, _, _) => {
+            if agrees(one, other) {
+                Some(Operands::Handles)
+            } else {
+                None
+            }
+        }
+        _ => None,
+    }
+}
+
+/// The type of what an operator gives.
+pub(crate) fn outcome(sort: Sort, operands: Operands) -> Ty
+    ensures { result ≡ types.outcome sort operands }
+{
+    match (sort, operands) {
+        (Sort::Arithmetic | Sort::Shift, Operands::Integers(kind)) => Ty::Integer(kind),
+        _ => Ty::Bool,
+    }
+}
+
+pub(crate) fn operand_type(operands: Operands) -> Ty
+    ensures { result ≡ typing.operand_type operands }
+{
+    match operands {
+        Operands::Integers(kind) => Ty::Integer(kind),
+        Operands::Bools => Ty::Bool,
+        Operands::Handles => Ty::Null,
+    }
+}
+
+/// What a value of the second type becomes in the place of one of the first.
+pub(crate) fn conversion(to: Ty, of: Ty) -> Option<Conversion>
+    ensures { result ≡ typing.conversion to of }
+{
+    match (to, of) {
+        (Ty::Integer(to), Ty::Integer(from)) => {
+            if is_same_kind(from, to) {
+                None
+            } else {
+                Some(Conversion { from, to })
+            }
+        }
+        _ => None,
+    }
+}
+
+/// Whether a place takes what is assigned to it.
+pub(crate) fn is_stored(alone: Alone, of: Ty) -> bool
+    ensures { result ≡ typing.is_stored alone of }
+{
+    match (alone, of) {
+        (Alone::Handle, Ty::Handle(_) | Ty::Unknown) => true,
+        (Alone::Handle, _) => false,
+        (_, Ty::Bool | Ty::Integer(_) | Ty::Unknown) => true,
+        _ => false,
+    }
+}
+
+/// Whether a type is that of what gives nothing.
+pub fn is_void(of: Ty) -> bool
+    ensures { result ≡ typing.is_void of }
+{
+    matches!(of, Ty::Void)
+}
+
+pub(crate) fn is_assign(operator: AssignOp) -> bool
+    ensures { result ≡ typing.is_assign operator }
+{
+    matches!(operator, AssignOp::Assign)
+}
