@@ -1,0 +1,85 @@
+"""The record of must-fail edits: under which text of its crate each crate's edits were last all refused.
+
+An edit's verdict hangs on the text of its crate (src, specs, proofs, must-fail) and on the toolchain, so a crate whose
+text and toolchain are those on record need not have its edits tried again.
+"""
+
+import hashlib
+import os
+import subprocess
+
+TOP = os.path.dirname(os.path.dirname(os.path.abspath(__file__)))
+FILE = os.path.join(TOP, "tests", "edits.record")
+PARTS = ("src", "specs", "proofs", "must-fail")
+HEAD = (
+    "# For each crate with must-fail edits: how many it has, the day when all of them were last refused, and the hash of\n"
+    "# the crate's text and the toolchain's identity on that day. Written by tests/edits; read by .ci/run.\n"
+)
+
+
+def crates():
+    """The names of the crates, lowest first, each with the repository's crates that it stands on directly."""
+    found = {}
+    with open(os.path.join(TOP, "crates.txt"), encoding="utf-8") as lines:
+        for line in lines:
+            name, colon, below = line.partition("#")[0].partition(":")
+            if colon:
+                found[name.split()[0]] = below.split()
+    return {name: [it for it in below if it in found] for name, below in found.items()}
+
+
+def edits(crate):
+    """The names of the crate's must-fail edits."""
+    folder = os.path.join(TOP, "crates", crate, "must-fail")
+    return sorted(it for it in os.listdir(folder) if it.endswith(".edit")) if os.path.isdir(folder) else []
+
+
+def toolchain():
+    return subprocess.run(["rt", "version"], capture_output=True, text=True, check=True).stdout.strip()
+
+
+def text_hash(crate, identity):
+    """The hash of all files of the crate's text, with their paths, and of the toolchain's identity."""
+    top = os.path.join(TOP, "crates", crate)
+    files = [
+        os.path.join(at, name)
+        for part in PARTS
+        for at, _, names in os.walk(os.path.join(top, part))
+        for name in names
+    ]
+    whole = hashlib.sha256(identity.encode())
+    for file in sorted(files):
+        with open(file, "rb") as content:
+            digest = hashlib.sha256(content.read()).hexdigest()
+        whole.update(f"\n{os.path.relpath(file, top)} {digest}".encode())
+    return whole.hexdigest()
+
+
+def read():
+    """The lines on record: a crate's name to how many edits were refused, on which day, under which hash."""
+    found = {}
+    if os.path.exists(FILE):
+        with open(FILE, encoding="utf-8") as lines:
+            for line in lines:
+                words = line.partition("#")[0].split()
+                if len(words) == 4:
+                    found[words[0]] = tuple(words[1:])
+    return found
+
+
+def write(record):
+    """Replaces the record, crates in the order in which they stand on each other."""
+    text = HEAD + "".join(f"{it} {' '.join(record[it])}\n" for it in crates() if it in record)
+    with open(FILE + ".new", "w", encoding="utf-8") as file:
+        file.write(text)
+    os.replace(FILE + ".new", FILE)
+
+
+def on_record(identity):
+    """The crates with edits whose text and toolchain are those on record, each with the number of its edits and the day."""
+    record = read()
+    return {
+        it: (len(edits(it)), record[it][1])
+        for it in crates()
+        if edits(it) and it in record and record[it][2] == text_hash(it, identity)
+    }

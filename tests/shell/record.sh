@@ -1,0 +1,38 @@
+# The record of must-fail edits: which crates the gate passes over.
+
+mkdir -p "$scratch/tests" "$scratch/crates/low/src" "$scratch/crates/low/must-fail" "$scratch/crates/high/src"
+cp tests/edits tests/record.py "$scratch/tests"
+printf 'low:\nhigh: low\n' > "$scratch/crates.txt"
+echo 'pub fn one() -> u8 { 1 }' > "$scratch/crates/low/src/lib.rt"
+printf 'file: src/lib.rt\nold: { 1 }\nnew: { 2 }\n' > "$scratch/crates/low/must-fail/two.edit"
+
+# listed NAME TEXT: what tests/edits lists, spaces folded
+listed() {
+    "$scratch/tests/edits" 2>&1 | tr -s ' ' > "$scratch/output"
+    holds "$1" "$2"
+}
+
+# enters: puts the crate on record, as a trial would whose edits were all refused
+enters() {
+    PYTHONDONTWRITEBYTECODE=1 PYTHONPATH="$scratch/tests" python3 -c '
+import record
+record.write({"low": ("1", "2026-01-02", record.text_hash("low", record.toolchain()))})'
+}
+
+listed "a crate that was never tried" "low 1 edits, not on record as it stands"
+enters
+listed "a crate on record" "low 1 edits, refused on 2026-01-02"
+echo 'pub fn two() -> u8 { 2 }' > "$scratch/crates/high/src/lib.rt"
+listed "a change in another crate" "low 1 edits, refused on 2026-01-02"
+for part in src specs proofs must-fail; do
+    mkdir -p "$scratch/crates/low/$part"
+    touch "$scratch/crates/low/$part/new"
+    listed "a new file in $part" "low 1 edits, not on record as it stands"
+    rm "$scratch/crates/low/$part/new"
+done
+listed "the text as it was" "low 1 edits, refused on 2026-01-02"
+sed -i 's/{ 1 }/{ 3 }/' "$scratch/crates/low/src/lib.rt"
+listed "a planted change" "low 1 edits, not on record as it stands"
+enters
+sed -i 's/[0-9a-f]\{4\}$/0000/' "$scratch/tests/edits.record"
+listed "a hash written by hand" "low 1 edits, not on record as it stands"
