@@ -1,13 +1,30 @@
-//! Scripts of several shapes, each a unit that stands again and again.
+//! Sources of several shapes and lengths: a unit is repeated until the source is full.
 
+use ash_lex::MAX_SOURCE;
 use std::alloc::{AllocError, Global};
 
-/// A shape of scripts. In a unit `#` stands for its number from 0, and `$` for that of the next.
+/// The lengths that are measured, in bytes.
+pub const LENGTHS: [usize; 3] = [MAX_SOURCE / 4, MAX_SOURCE / 2, MAX_SOURCE];
+
+/// A unit that is cut into tokens and parsed, and not checked: a class, and a function with a loop.
+const SERIES: &str = "\
+// Adds the terms of a series, and notes where it stopped.
+class Series { int64 total; uint steps; Counter@ log; }
+int64 sum_of(Series@ series, int first, int64 last) {
+    for (int term = first; term <= last && series.steps < 0xffff; term++) {
+        series.total += term * 3 - (series.total >>> 2) % 1000003;
+        if (series.log !is null) { series.log.add(1); } /* one step more */
+    }
+    return series.total;
+}
+";
+
+/// A shape of scripts. In a unit `#` is its number from 0, and `$` that of the next.
 #[derive(Clone, Copy)]
 pub struct Shape {
     pub name: &'static str,
     unit: &'static str,
-    /// What stands behind the units, with the number of one more.
+    /// What follows the units, with the number of one more.
     last: &'static str,
 }
 
@@ -17,7 +34,7 @@ const SCRIPT: Shape = Shape {
     unit: "\
 class Series# { int64 total; uint steps; Series#@ more() { return this; } }
 int64 bound# = 1000003;
-// Adds the terms of a series, and tells where it stopped.
+// Adds the terms of a series, and notes where it stopped.
 int64 sum#(Series#@ series, int first, int64 last) {
     for (int term = first; term <= last && series.steps < 0xffff; term++) {
         series.total += term * 3 - (series.total >>> 2) % bound#;
@@ -94,10 +111,10 @@ int64 v# = ((17 + 3 * v$) << 2 ^ (v$ - 5) % 97 | v$ & 0xff) + (v$ > 3 ? v$ * v$ 
 /// The shapes.
 pub const SHAPES: [Shape; 6] = [SCRIPT, FUNCTIONS, EXPRESSIONS, LOCALS, MEMBERS, VARIABLES];
 
-/// What stands at the end of a source: a name that nothing has, so that all is read and nothing kept.
+/// The end of a script: a name that nothing has, so that all is read and nothing kept.
 const FAULT: &str = "int end = nothing;\n";
 
-/// How many bytes are left for what stands behind the units.
+/// How many bytes are left for what follows the units.
 const ROOM: usize = 200;
 
 /// A unit of this number.
@@ -115,19 +132,31 @@ fn unit_of(alloc: Global, unit: &str, number: usize) -> Result<String, AllocErro
     Ok(text)
 }
 
-/// As many units as a source of this many bytes may have, and a fault behind them.
-pub fn source(alloc: Global, shape: Shape, bytes: usize) -> Result<String, AllocError> {
+/// As many units as so many bytes have room for, and how many they are.
+fn units(alloc: Global, unit: &str, bytes: usize) -> Result<(String, usize), AllocError> {
     let mut text = String::with_capacity(alloc, bytes)?;
-    let mut units = 0;
+    let mut count = 0;
     for number in 0..bytes {
-        let unit = unit_of(alloc, shape.unit, number)?;
-        if text.len().saturating_add(unit.len()).saturating_add(ROOM) > bytes {
+        let next = unit_of(alloc, unit, number)?;
+        if text.len().saturating_add(next.len()) > bytes {
             break;
         }
-        text.push_str(unit.as_str())?;
-        units = number.saturating_add(1);
+        text.push_str(next.as_str())?;
+        count = number.saturating_add(1);
     }
-    text.push_str(unit_of(alloc, shape.last, units)?.as_str())?;
+    Ok((text, count))
+}
+
+/// A source of this many bytes that can be parsed.
+pub fn series(alloc: Global, bytes: usize) -> Result<String, AllocError> {
+    let (text, _) = units(alloc, SERIES, bytes)?;
+    Ok(text)
+}
+
+/// A script of this many bytes, with a fault at its end.
+pub fn script(alloc: Global, shape: Shape, bytes: usize) -> Result<String, AllocError> {
+    let (mut text, count) = units(alloc, shape.unit, bytes.saturating_sub(ROOM))?;
+    text.push_str(unit_of(alloc, shape.last, count)?.as_str())?;
     text.push_str(FAULT)?;
     Ok(text)
 }

@@ -1,0 +1,82 @@
+//! How fast scripts are cut into tokens, parsed and checked: `ash_bench check`.
+//!
+//! The scripts have several shapes, each in 16, 32 and 64 KiB: where twice the script takes twice the time, checking takes
+//! linear time. Each has one fault, which stands at its very end, so that all the work is done and nothing kept. Beside
+//! the check stands how long the lexer and the parser take alone.
+
+use crate::rates::Timing;
+use crate::sources::{LENGTHS, SHAPES, script};
+use anyhow::Result;
+use ash_check::{CheckFault, check};
+use ash_lex::lex;
+use ash_parse::parse_module;
+use ash_registry::Registry;
+use ash_tree::Module;
+use std::alloc::Global;
+use std::io;
+
+/// The tree of a source, with how many tokens it has.
+fn parsed(alloc: Global, text: &str) -> Result<(usize, Module)> {
+    let tokens = lex(alloc, text)?;
+    let tree = parse_module(alloc, tokens.as_slice())?;
+    Ok((tokens.len(), tree))
+}
+
+/// The fault of a source, if there is one.
+fn fault(alloc: Global, registry: &Registry, text: &str) -> Result<Option<CheckFault>> {
+    let (_, tree) = parsed(alloc, text)?;
+    Ok(check(alloc, registry, &tree).err())
+}
+
+/// Prints what a source has.
+fn describe(rt: &HostRuntime, registry: &Registry, name: &str, text: &str) -> Result<()> {
+    let (tokens, tree) = parsed(rt.alloc(), text)?;
+    let items = tree.items.len();
+    println!(rt;
+        "{name}: {} bytes, {tokens} tokens, {items} items",
+        text.len()
+    )?;
+    match fault(rt.alloc(), registry, text)? {
+        Some(fault) => println!(rt; "  {fault}")?,
+        None => println!(rt; "  ok")?,
+    }
+    Ok(())
+}
+
+/// Prints how long a piece of work took on a source of so many bytes.
+fn print_timing(rt: &HostRuntime, work: &str, timing: &Timing, bytes: usize) -> Result<()> {
+    let (one, speed) = (timing.microseconds(), timing.per_second(bytes as u64));
+    println!(rt; "  {work}: {one} microseconds each, {speed} bytes per second")?;
+    Ok(())
+}
+
+/// Reads a source so many times, without the check and with it, and prints how long each took.
+fn measure(rt: &HostRuntime, registry: &Registry, text: &str, rounds: u64) -> Result<()> {
+    let mut parser = Timing::zero();
+    parser.measure(rt, rounds, || {
+        parsed(rt.alloc(), text)?;
+        Ok(())
+    })?;
+    print_timing(rt, "lexer and parser", &parser, text.len())?;
+    let mut checker = Timing::zero();
+    checker.measure(rt, rounds, || {
+        fault(rt.alloc(), registry, text)?;
+        Ok(())
+    })?;
+    print_timing(rt, "with the checker", &checker, text.len())
+}
+
+/// Checks scripts of each shape, of three lengths.
+pub fn run(rt: &HostRuntime, rounds: Option<u64>) -> Result<()> {
+    let registry = Registry::new(rt.alloc());
+    for shape in SHAPES {
+        for bytes in LENGTHS {
+            let text = script(rt.alloc(), shape, bytes)?;
+            describe(rt, &registry, shape.name, text.as_str())?;
+            if let Some(rounds) = rounds {
+                measure(rt, &registry, text.as_str(), rounds)?;
+            }
+        }
+    }
+    Ok(())
+}
