@@ -7,8 +7,11 @@ text and toolchain are those on record need not have its edits tried again.
 import hashlib
 import os
 import subprocess
+import sys
 
-TOP = os.path.dirname(os.path.dirname(os.path.abspath(__file__)))
+sys.path.insert(0, os.path.join(os.path.dirname(os.path.dirname(os.path.abspath(__file__))), "tools"))
+from kit import TOP, uses_of_crates
+
 FILE = os.path.join(TOP, "tests", "edits.record")
 PARTS = ("src", "specs", "proofs", "must-fail")
 HEAD = (
@@ -19,13 +22,8 @@ HEAD = (
 
 def crates():
     """The names of the crates, lowest first, each with the repository's crates that it stands on directly."""
-    found = {}
-    with open(os.path.join(TOP, "crates.txt"), encoding="utf-8") as lines:
-        for line in lines:
-            name, colon, below = line.partition("#")[0].partition(":")
-            if colon:
-                found[name.split()[0]] = below.split()
-    return {name: [it for it in below if it in found] for name, below in found.items()}
+    uses = uses_of_crates()
+    return {name: [it for it in used if it in uses] for name, used in uses.items()}
 
 
 def edits(crate):

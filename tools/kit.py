@@ -1,0 +1,38 @@
+"""What the commands at the top of the repository share: where it is, its toolchain, and how long proving takes."""
+
+import os
+import shutil
+import sys
+
+TOP = os.path.dirname(os.path.dirname(os.path.abspath(__file__)))
+
+# How many minutes it takes to prove and build ashd from nothing, by the number of processors.
+MINUTES = {2: 60, 4: 35}
+
+
+def processors():
+    return len(os.sched_getaffinity(0))
+
+
+def time_to_prove():
+    """About how long it takes to prove and build ashd here: the time that was measured on the nearest machine below."""
+    measured = max((it for it in MINUTES if it <= processors()), default=min(MINUTES))
+    return f"about {MINUTES[measured]} minutes on {measured} processors (here are {processors()})"
+
+
+def uses_of_crates():
+    """The libraries that each crate of the repository uses, by the crate's name, lowest crates first."""
+    with open(f"{TOP}/crates.txt", encoding="utf-8") as file:
+        lines = [line.partition("#")[0].partition(":") for line in file]
+    return {name.split()[0]: used.split() for name, _, used in lines if name.strip()}
+
+
+def need_rt(command):
+    """Ends this command where the toolchain is not installed."""
+    if shutil.which("rt") is None:
+        print(
+            f"{command}: the command rt is not on the PATH. Install the Rattle kit that README.md names under 'What is"
+            " trusted', and put its folder bin on the PATH.",
+            file=sys.stderr,
+        )
+        sys.exit(127)
