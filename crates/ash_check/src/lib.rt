@@ -25,8 +25,6 @@ mod returning;
 mod scopes;
 mod statements;
 mod switches;
-#[cfg(test)]
-mod tests;
 
 pub use ash_classes::search_is_exact;
 pub use checks::{Checked, check};

@@ -15,8 +15,6 @@ mod lexer;
 mod numbers;
 mod pieces;
 mod signs;
-#[cfg(test)]
-mod tests;
 mod tokens;
 mod words;
 

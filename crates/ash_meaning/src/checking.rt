@@ -95,6 +95,3 @@ pub fn registered_names_are_taken()
     ensures { (registered : List Call) (items : List Item) (typed : Typed) →
         checked registered items ≡ Ok typed → DeclareFreeNames registered items }
 {}
-
-#[cfg(test)]
-mod tests;

@@ -67,6 +67,3 @@ pub fn one_reading()
     ensures { (registered : List Call) (source : List ℕ) (reading : Reading) →
         (read_source registered source ≡ reading) ↔ Reads registered source reading }
 {}
-
-#[cfg(test)]
-mod tests;

@@ -4,5 +4,3 @@ mod items;
 mod names;
 pub mod resolver;
 mod scope;
-#[cfg(test)]
-mod tests;

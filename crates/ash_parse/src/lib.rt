@@ -18,8 +18,6 @@ mod operators;
 mod parse;
 mod statements;
 mod stop;
-#[cfg(test)]
-mod tests;
 
 pub use faults::{ParseFault, UnsupportedPart};
 pub use parse::{

@@ -15,8 +15,6 @@ mod registration;
 mod registry;
 mod searches;
 mod signatures;
-#[cfg(test)]
-mod tests;
 mod text;
 
 pub use call::{Call, Operation};

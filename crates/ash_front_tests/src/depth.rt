@@ -1,0 +1,234 @@
+//! How deep each phrase may nest. The depths and offsets are counted by hand.
+
+use crate::grammar::outcome_of;
+use std::alloc::Global;
+use std::process::Abort;
+use std::test::*;
+
+/// A script in which a phrase is in itself again and again.
+#[derive(Clone, Copy)]
+struct Nest {
+    prefix: &'static str,
+    open: &'static str,
+    core: &'static str,
+    close: &'static str,
+    suffix: &'static str,
+    /// How often it may be in itself.
+    most: usize,
+    /// Where the first token that is too deep is in the script with one more.
+    deep: usize,
+}
+
+/// The script in which the phrase is in itself so many times.
+fn script(alloc: Global, nest: Nest, times: usize) -> Result<String, Fail> {
+    let mut script = String::from_str(alloc, nest.prefix)?;
+    for _ in 0..times {
+        script.push_str(nest.open)?;
+    }
+    script.push_str(nest.core)?;
+    for _ in 0..times {
+        script.push_str(nest.close)?;
+    }
+    script.push_str(nest.suffix)?;
+    Ok(script)
+}
+
+fn check(rt: &impl Abort, alloc: Global, script: &str, wanted: &str) -> Result<(), Fail> {
+    let found = outcome_of(alloc, script)?;
+    assert_eq!(rt; found.as_str(), wanted, "at {script}");
+    Ok(())
+}
+
+fn check_nest(rt: &impl Abort, alloc: Global, nest: Nest) -> Result<(), Fail> {
+    let deepest = script(alloc, nest, nest.most)?;
+    check(rt, alloc, deepest.as_str(), "ok")?;
+    let deeper = script(alloc, nest, nest.most.wrapping_add(1))?;
+    let wanted = format!(in alloc; "106 TooDeep {}", nest.deep)?;
+    check(rt, alloc, deeper.as_str(), wanted.as_str())
+}
+
+/// Statements in a function, which begin at offset 11.
+fn statements(open: &'static str, core: &'static str, close: &'static str, deep: usize) -> Nest {
+    let most = if open == "{" { 64 } else { 63 };
+    Nest {
+        prefix: "void f() { ",
+        open,
+        core,
+        close,
+        suffix: " }",
+        most,
+        deep,
+    }
+}
+
+/// The value of a variable, which begins at offset 8 and is no phrase that counts.
+fn values(open: &'static str, close: &'static str, deep: usize) -> Nest {
+    Nest {
+        prefix: "int x = ",
+        open,
+        core: "a",
+        close,
+        suffix: ";",
+        most: 64,
+        deep,
+    }
+}
+
+#[test]
+fn statements_nest(rt: HostRuntime) -> Result<(), Fail> {
+    for nest in [
+        // the 65th block
+        statements("{", "", "}", 11 + 64),
+        // the condition of the 64th
+        statements("if (a) ", ";", "", 11 + 63 * 7 + 4),
+        statements("while (a) ", ";", "", 11 + 63 * 10 + 7),
+        statements("if (a) ; else ", ";", "", 11 + 63 * 14 + 4),
+        statements("for (; a;) ", ";", "", 11 + 63 * 11 + 7),
+        statements("switch (a) { default: ", "", "}", 11 + 63 * 22 + 8),
+        // what is in the 64th
+        statements("for (;;) ", ";", "", 11 + 64 * 9),
+        statements("do ", ";", " while (a);", 11 + 64 * 3),
+        statements("switch (1) { case 1: ", ";", "}", 11 + 63 * 21 + 8),
+        // the first and the last part of the head of the 64th
+        statements("for (a;;) ", ";", "", 11 + 63 * 10 + 5),
+        statements("for (;; a) ", ";", "", 11 + 63 * 11 + 8),
+    ] {
+        check_nest(&rt, rt.alloc(), nest)?;
+    }
+    Ok(())
+}
+
+#[test]
+fn expressions_nest(rt: HostRuntime) -> Result<(), Fail> {
+    for nest in [
+        values("(", ")", 8 + 65),
+        values("!", "", 8 + 65),
+        values("~", "", 8 + 65),
+        values("@", "", 8 + 65),
+        values("++", "", 8 + 65 * 2),
+        values("- ", "", 8 + 65 * 2),
+        values("+ ", "", 8 + 65 * 2),
+        values("not ", "", 8 + 65 * 4),
+        // right sides of assignments
+        values("a = ", "", 8 + 65 * 4),
+        values("a += ", "", 8 + 65 * 5),
+        values("a >>>= ", "", 8 + 65 * 7),
+        // the first branch, and the second, in the 65th the first branch as well
+        values("a ? ", " : a", 8 + 65 * 4),
+        values("a ? a : ", "", 8 + 64 * 8 + 4),
+        // arguments
+        values("f(", ")", 8 + 65 * 2),
+        values("f(a, ", ")", 8 + 64 * 5 + 2),
+        values("f.g(", ")", 8 + 65 * 4),
+        values("int(", ")", 8 + 65 * 4),
+        // the operands of operators between two are no deeper
+        values("(a + ", ")", 8 + 64 * 5 + 1),
+        values("(a++ || ", ")", 8 + 64 * 8 + 1),
+    ] {
+        check_nest(&rt, rt.alloc(), nest)?;
+    }
+    Ok(())
+}
+
+/// The value of a variable in a class, in a function, and in brackets of its own.
+#[test]
+fn declarations_do_not_count(rt: HostRuntime) -> Result<(), Fail> {
+    for (prefix, suffix, most, deep) in [
+        ("class A { int x = ", "; }", 64, 18 + 65),
+        ("void f() { int x = ", "; }", 64, 19 + 65),
+        ("void f() { for (int x = ", ";;) ; }", 63, 24 + 64),
+        ("void f() { return ", "; }", 63, 18 + 64),
+        ("void f() { ", "; }", 63, 11 + 64),
+        ("Foo x(", ");", 63, 6 + 64),
+        ("void f() { Foo x(", "); }", 63, 17 + 64),
+        ("void f() { f(", "); }", 62, 13 + 63),
+    ] {
+        let nest = Nest {
+            prefix,
+            open: "(",
+            core: "1",
+            close: ")",
+            suffix,
+            most,
+            deep,
+        };
+        check_nest(&rt, rt.alloc(), nest)?;
+    }
+    Ok(())
+}
+
+/// What may be in 64 blocks, one in the other: declarations, but no statement. A name or a type after which neither a
+/// declaration nor an expression goes on counts as an expression.
+#[test]
+fn in_the_deepest_block(rt: HostRuntime) -> Result<(), Fail> {
+    for (core, wanted) in [
+        ("", "ok"),
+        ("int x;", "ok"),
+        ("Foo x;", "ok"),
+        ("Foo@ x, y = a;", "ok"),
+        ("Foo x(1);", "106 TooDeep 81"),
+        ("int x = 1 + a.b++;", "ok"),
+        ("int x = -1;", "106 TooDeep 84"),
+        ("int x, y = f(a);", "106 TooDeep 88"),
+        ("int x 1;", "104 Unexpected 81"),
+        ("Foo@ 1;", "104 Unexpected 80"),
+        (";", "106 TooDeep 75"),
+        ("a;", "106 TooDeep 75"),
+        ("int(3);", "106 TooDeep 75"),
+        ("Foo", "106 TooDeep 75"),
+        ("int", "106 TooDeep 75"),
+        ("int 1;", "106 TooDeep 75"),
+        ("Foo 1;", "106 TooDeep 75"),
+        ("else", "104 Unexpected 75"),
+        ("*", "104 Unexpected 75"),
+        ("float", "105 Unsupported float 75"),
+    ] {
+        let nest = Nest {
+            prefix: "void f() { ",
+            open: "{",
+            core,
+            close: "}",
+            suffix: " }",
+            most: 64,
+            deep: 0,
+        };
+        let script = script(rt.alloc(), nest, 64)?;
+        check(&rt, rt.alloc(), script.as_str(), wanted)?;
+    }
+    Ok(())
+}
+
+/// What may be in the head of a `for` at depth 64: declarations, but no expression, and no statement after it.
+#[test]
+fn in_the_deepest_head(rt: HostRuntime) -> Result<(), Fail> {
+    for (core, wanted) in [
+        // the statement after the head
+        ("for (int x;;) ;", "106 TooDeep 88"),
+        ("for (;;) ;", "106 TooDeep 83"),
+        // the parts of the head
+        ("for (x;;) ;", "106 TooDeep 79"),
+        ("for (; x;) ;", "106 TooDeep 81"),
+        ("for (;; x) ;", "106 TooDeep 82"),
+        ("for (int x = 1 + 2, y = (3);;) ;", "106 TooDeep 99"),
+        ("for (Foo x(1);;) ;", "106 TooDeep 85"),
+        // a name or a type that leaves open what begins
+        ("for (Foo) ;", "106 TooDeep 79"),
+        ("for (int 1;;) ;", "106 TooDeep 79"),
+        ("for (Foo x 1;;) ;", "104 Unexpected 85"),
+        ("for (Foo@ 1;;) ;", "104 Unexpected 84"),
+        ("for () ;", "104 Unexpected 79"),
+    ] {
+        let nest = Nest {
+            prefix: "void f() { ",
+            open: "{",
+            core,
+            close: "}",
+            suffix: " }",
+            most: 63,
+            deep: 0,
+        };
+        let script = script(rt.alloc(), nest, 63)?;
+        check(&rt, rt.alloc(), script.as_str(), wanted)?;
+    }
+    Ok(())
+}

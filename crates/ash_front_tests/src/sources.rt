@@ -1,0 +1,78 @@
+//! Sources as bytes, and how reading and checking them end where nothing is registered: `ok`, or the refusal as `Debug`
+//! prints it, with offsets counted by hand.
+
+use ash_meaning::checking::check_source;
+use ash_meaning::reading::read_source;
+use ash_meaning::refusal::Refusal;
+use ash_registry::Registry;
+use std::alloc::{AllocError, Global};
+use std::process::Abort;
+use std::test::Fail;
+
+fn printed(alloc: Global, refusal: Option<Refusal>) -> Result<String, Fail> {
+    match refusal {
+        None => Ok(String::from_str(alloc, "ok")?),
+        Some(refusal) => Ok(format!(in alloc; "{refusal:?}")?),
+    }
+}
+
+/// Compares how reading a source ends.
+pub(crate) fn check_reading(
+    rt: &impl Abort,
+    alloc: Global,
+    source: &[u8],
+    wanted: &str,
+) -> Result<(), Fail> {
+    let found = printed(
+        alloc,
+        read_source(alloc, &Registry::new(alloc), source).err(),
+    )?;
+    let text = String::from_utf8_lossy(alloc, source)?;
+    assert_eq!(rt; found.as_str(), wanted, "reading {text:?}");
+    Ok(())
+}
+
+/// Compares how checking a source ends.
+pub(crate) fn check_checking(
+    rt: &impl Abort,
+    alloc: Global,
+    source: &[u8],
+    wanted: &str,
+) -> Result<(), Fail> {
+    let found = printed(
+        alloc,
+        check_source(alloc, &Registry::new(alloc), source).err(),
+    )?;
+    let text = String::from_utf8_lossy(alloc, source)?;
+    assert_eq!(rt; found.as_str(), wanted, "checking {text:?}");
+    Ok(())
+}
+
+/// The parts of a row: how its source ends, and the source.
+pub(crate) fn parts_of(row: &str) -> (&str, &str) {
+    row.trim()
+        .split_once(" | ")
+        .unwrap_or((row, "no bar in this row"))
+}
+
+/// `text`, and so many blanks after it.
+pub(crate) fn with_blanks(alloc: Global, text: &[u8], count: usize) -> Result<Vec<u8>, AllocError> {
+    let mut source = Vec::from_slice(alloc, text)?;
+    source.extend_from_slice(&vec![in alloc; b' '; count]?)?;
+    Ok(source)
+}
+
+/// `prefix`, a 1 in so many brackets, and `suffix`.
+pub(crate) fn bracketed(
+    alloc: Global,
+    prefix: &[u8],
+    count: usize,
+    suffix: &[u8],
+) -> Result<Vec<u8>, AllocError> {
+    let mut source = Vec::from_slice(alloc, prefix)?;
+    source.extend_from_slice(&vec![in alloc; b'('; count]?)?;
+    source.extend_from_slice(b"1")?;
+    source.extend_from_slice(&vec![in alloc; b')'; count]?)?;
+    source.extend_from_slice(suffix)?;
+    Ok(source)
+}

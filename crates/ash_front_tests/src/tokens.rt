@@ -1,0 +1,166 @@
+//! Tokens of texts, and the first faults of texts that have none. Lines and bytes are counted by hand.
+
+use ash_lex::{LexFault, MAX_SOURCE, Token, TokenKind, lex};
+use std::alloc::{AllocError, Global};
+use std::fmt::Write;
+use std::test::Fail;
+
+/// A token as `line:from-to`, its kind and its text.
+fn show_token(out: &mut String, token: &Token) -> Result<(), AllocError> {
+    let line = token.line;
+    let from = token.from;
+    let to = token.to;
+    write!(out, "{line}:{from}-{to} ")?;
+    match &token.kind {
+        TokenKind::Name(name) => write!(out, "name {name}; ")?,
+        TokenKind::Number(number) => write!(out, "number {number}; ")?,
+        TokenKind::Sign(sign) => write!(out, "sign {sign}; ")?,
+        TokenKind::Reserved(word) => write!(out, "reserved {word}; ")?,
+        TokenKind::Unsupported(word) => write!(out, "unsupported {word}; ")?,
+    }
+    Ok(())
+}
+
+/// The tokens of a text, or its fault as it is printed.
+pub(crate) fn shown(alloc: Global, text: &str) -> Result<String, AllocError> {
+    match lex(alloc, text) {
+        Ok(tokens) => {
+            let mut out = String::new(alloc);
+            for token in &tokens {
+                show_token(&mut out, token)?;
+            }
+            Ok(out)
+        }
+        Err(fault) => format!(in alloc; "{fault}"),
+    }
+}
+
+#[test]
+fn tokens_of_texts(rt: HostRuntime) -> Result<(), Fail> {
+    for (text, want) in [
+        ("", ""),
+        ("a+b", "1:0-1 name a; 1:1-2 sign +; 1:2-3 name b; "),
+        ("_a9 A\t", "1:0-3 name _a9; 1:4-5 name A; "),
+        ("int32 x", "1:0-5 reserved int32; 1:6-7 name x; "),
+        (
+            "int320 INT not",
+            "1:0-6 name int320; 1:7-10 name INT; 1:11-14 reserved not; ",
+        ),
+        (
+            "const**A::b",
+            "1:0-5 unsupported const; 1:5-7 sign **; 1:7-8 name A; 1:8-10 sign ::; 1:10-11 name b; ",
+        ),
+        (
+            "0 007 18446744073709551615",
+            "1:0-1 number 0; 1:2-5 number 7; 1:6-26 number 18446744073709551615; ",
+        ),
+        (
+            "0xfF 0xffffffffffffffff",
+            "1:0-4 number 255; 1:5-23 number 18446744073709551615; ",
+        ),
+        (
+            "0x 0xg 0X1 12ab",
+            "1:0-1 number 0; 1:1-2 name x; 1:3-4 number 0; 1:4-6 name xg; 1:7-8 number 0; 1:8-10 name X1; 1:11-13 number 12; 1:13-15 name ab; ",
+        ),
+        ("a!is b", "1:0-1 name a; 1:1-4 sign !is; 1:5-6 name b; "),
+        (
+            "!isb !is_ !is0",
+            "1:0-1 sign !; 1:1-4 name isb; 1:5-6 sign !; 1:6-9 name is_; 1:10-11 sign !; 1:11-14 name is0; ",
+        ),
+        ("!is", "1:0-3 sign !is; "),
+        ("a>>>=b", "1:0-1 name a; 1:1-5 sign >>>=; 1:5-6 name b; "),
+    ] {
+        assert_eq!(rt; shown(rt.alloc(), text)?.as_str(), want, "at {text:?}");
+    }
+    Ok(())
+}
+
+#[test]
+fn lines_and_comments(rt: HostRuntime) -> Result<(), Fail> {
+    for (text, want) in [
+        (
+            "a\r\nb\nc\rd",
+            "1:0-1 name a; 2:3-4 name b; 3:5-6 name c; 3:7-8 name d; ",
+        ),
+        ("a // b\nc", "1:0-1 name a; 2:7-8 name c; "),
+        ("// a\r b\nc", "2:8-9 name c; "),
+        ("a /*\n\n*/ b", "1:0-1 name a; 3:9-10 name b; "),
+        ("/* /* */ a", "1:9-10 name a; "),
+        (
+            "/**/a/***/b/*/*/c",
+            "1:4-5 name a; 1:10-11 name b; 1:16-17 name c; ",
+        ),
+        ("/* \u{e9} */ // \u{20ac}", ""),
+        ("//", ""),
+        ("a/b", "1:0-1 name a; 1:1-2 sign /; 1:2-3 name b; "),
+    ] {
+        assert_eq!(rt; shown(rt.alloc(), text)?.as_str(), want, "at {text:?}");
+    }
+    Ok(())
+}
+
+#[test]
+fn first_faults(rt: HostRuntime) -> Result<(), Fail> {
+    for (text, want) in [
+        ("int \"", "101 BadCharacter 4"),
+        ("'", "101 BadCharacter 0"),
+        ("a $ /*", "101 BadCharacter 2"),
+        ("a \u{e9}", "101 BadCharacter 2"),
+        ("a\0", "101 BadCharacter 1"),
+        ("a\u{b}", "101 BadCharacter 1"),
+        ("a\u{c}", "101 BadCharacter 1"),
+        ("/* x", "102 UnclosedComment 0"),
+        ("a /*/ \"", "102 UnclosedComment 2"),
+        ("/* */ /* $", "102 UnclosedComment 6"),
+        ("uint64 x = 18446744073709551616;", "103 NumberTooLarge 11"),
+        ("0x10000000000000000 $", "103 NumberTooLarge 0"),
+        ("99999999999999999999999999999999", "103 NumberTooLarge 0"),
+    ] {
+        assert_eq!(rt; shown(rt.alloc(), text)?.as_str(), want, "at {text:?}");
+    }
+    Ok(())
+}
+
+#[test]
+fn byte_order_marks(rt: HostRuntime) -> Result<(), Fail> {
+    for (text, want) in [
+        ("\u{feff}", ""),
+        ("\u{feff}a", "1:3-4 name a; "),
+        (" \u{feff}", "101 BadCharacter 1"),
+        ("\u{feff}\u{feff}", "101 BadCharacter 3"),
+    ] {
+        assert_eq!(rt; shown(rt.alloc(), text)?.as_str(), want, "at {text:?}");
+    }
+    Ok(())
+}
+
+/// So many of a character.
+fn repeated(alloc: Global, c: char, count: usize) -> Result<String, AllocError> {
+    let mut text = String::new(alloc);
+    for _ in 0..count {
+        text.push(c)?;
+    }
+    Ok(text)
+}
+
+#[test]
+fn longest_source(rt: HostRuntime) -> Result<(), Fail> {
+    for (c, count, want) in [
+        (' ', MAX_SOURCE, ""),
+        (' ', 65_537, "107 SourceTooLong"),
+        ('"', 65_537, "107 SourceTooLong"),
+    ] {
+        let text = repeated(rt.alloc(), c, count)?;
+        assert_eq!(rt;
+            shown(rt.alloc(), text.as_str())?.as_str(),
+            want,
+            "{count} of {c:?}"
+        );
+    }
+    let no_memory = LexFault::NoMemory;
+    assert_eq!(rt;
+        format!(in rt.alloc(); "{no_memory}")?.as_str(),
+        "509 NoMemory"
+    );
+    Ok(())
+}

@@ -1,0 +1,170 @@
+//! Trees, written out by hand. `@8` is the place of offset 8 in the first line, `@8/2` of offset 8 in the second.
+
+use ash_lex::lex;
+use ash_parse::parse_module;
+use std::alloc::Global;
+use std::process::Abort;
+use std::test::*;
+
+/// What `{:?}` prints of a script's tree, or its fault.
+fn printed(alloc: Global, source: &str) -> Result<String, Fail> {
+    let tokens = match lex(alloc, source) {
+        Ok(tokens) => tokens,
+        Err(fault) => return Ok(format!(in alloc; "{fault}")?),
+    };
+    match parse_module(alloc, tokens.as_slice()) {
+        Ok(tree) => Ok(format!(in alloc; "{tree:?}")?),
+        Err(fault) => Ok(format!(in alloc; "{fault}")?),
+    }
+}
+
+/// What `{:?}` prints of a tree, with places as `@offset` or `@offset/line`, and without the names of the fields
+/// `place` and `kind`.
+fn short(alloc: Global, source: &str) -> Result<String, Fail> {
+    let mut text = printed(alloc, source)?;
+    for (long, short) in [
+        ("Place { at: ", "@"),
+        (", line: 1 }", ""),
+        (", line: 2 }", "/2"),
+        (", line: 3 }", "/3"),
+        (", line: 4 }", "/4"),
+        ("place: ", ""),
+        ("kind: ", ""),
+    ] {
+        text = text.replace(alloc, long, short)?;
+    }
+    Ok(text)
+}
+
+fn check(rt: &impl Abort, alloc: Global, source: &str, items: &str) -> Result<(), Fail> {
+    let found = short(alloc, source)?;
+    let wanted = format!(in alloc; "Module {{ items: [{items}] }}")?;
+    assert_eq!(rt; found.as_str(), wanted.as_str(), "{source}");
+    Ok(())
+}
+
+/// The tree of a variable `int a` with this value.
+fn check_value(rt: &impl Abort, alloc: Global, source: &str, value: &str) -> Result<(), Fail> {
+    let items = format!(in alloc;
+        "Vars(Vars {{ of: Type {{ @0, Primitive(Int) }}, decls: [Decl {{ @4, name: \"a\", initializer: Value({value}) }}] }})"
+    )?;
+    check(rt, alloc, source, items.as_str())
+}
+
+/// The tree of a function `void f()` with this body.
+fn check_body(rt: &impl Abort, alloc: Global, source: &str, body: &str) -> Result<(), Fail> {
+    let items = format!(in alloc;
+        "Function(Function {{ @5, result: None, name: \"f\", parameters: [], body: [{body}] }})"
+    )?;
+    check(rt, alloc, source, items.as_str())
+}
+
+#[test]
+fn operators(rt: HostRuntime) -> Result<(), Fail> {
+    for (source, value) in [
+        // one level groups to the left, and is a list
+        (
+            "int a = 1 - 2 - 3;",
+            "Expr { @8, Binary { first: Expr { @8, Number(1) }, links: [Link { operator: Subtract, operand: Expr { @12, Number(2) } }, Link { operator: Subtract, operand: Expr { @16, Number(3) } }] } }",
+        ),
+        // the tighter level is the operand of the looser one
+        (
+            "int a = b + c * d == 0x1F;",
+            "Expr { @8, Binary { first: Expr { @8, Binary { first: Expr { @8, Name(\"b\") }, links: [Link { operator: Add, operand: Expr { @12, Binary { first: Expr { @12, Name(\"c\") }, links: [Link { operator: Multiply, operand: Expr { @16, Name(\"d\") } }] } } }] } }, links: [Link { operator: Equal, operand: Expr { @21, Number(31) } }] } }",
+        ),
+        // brackets are nodes, and a conversion is a phrase of its own
+        (
+            "int a = (b | c) & int64(d);",
+            "Expr { @8, Binary { first: Expr { @8, Brackets(Expr { @9, Binary { first: Expr { @9, Name(\"b\") }, links: [Link { operator: BitOr, operand: Expr { @13, Name(\"c\") } }] } }) }, links: [Link { operator: BitAnd, operand: Expr { @18, Convert { to: Int64, value: Expr { @24, Name(\"d\") } } } }] } }",
+        ),
+        // operators in front of an operand, and the words for operators
+        (
+            "int a = -~!b and not c;",
+            "Expr { @8, Binary { first: Expr { @8, Unary { operator: Minus, operand: Expr { @9, Unary { operator: BitNot, operand: Expr { @10, Unary { operator: Not, operand: Expr { @11, Name(\"b\") } } } } } } }, links: [Link { operator: And, operand: Expr { @17, Unary { operator: Not, operand: Expr { @21, Name(\"c\") } } } }] } }",
+        ),
+        // suffixes are a list, and bind tighter than the operators in front
+        (
+            "int a = @b.c.d(1, e)++;",
+            "Expr { @8, Unary { operator: Handle, operand: Expr { @9, Postfix { operand: Expr { @9, Name(\"b\") }, suffixes: [Field { @11, name: \"c\" }, Method { @13, name: \"d\", arguments: [Expr { @15, Number(1) }, Expr { @18, Name(\"e\") }] }, Increment] } } } }",
+        ),
+    ] {
+        check_value(&rt, rt.alloc(), source, value)?;
+    }
+    Ok(())
+}
+
+#[test]
+fn conditionals_and_assignments(rt: HostRuntime) -> Result<(), Fail> {
+    for (source, value) in [
+        // the last branch reaches as far as it can
+        (
+            "int a = b ? c : d = e;",
+            "Expr { @8, Conditional { condition: Expr { @8, Name(\"b\") }, then: Expr { @12, Name(\"c\") }, otherwise: Expr { @16, Assign { target: Expr { @16, Name(\"d\") }, operator: Assign, value: Expr { @20, Name(\"e\") } } } } }",
+        ),
+        // the second branch takes the next condition
+        (
+            "int a = b ? 1 : c ? 2 : 3;",
+            "Expr { @8, Conditional { condition: Expr { @8, Name(\"b\") }, then: Expr { @12, Number(1) }, otherwise: Expr { @16, Conditional { condition: Expr { @16, Name(\"c\") }, then: Expr { @20, Number(2) }, otherwise: Expr { @24, Number(3) } } } } }",
+        ),
+        // assignments group to the right
+        (
+            "int a = b = c >>>= this;",
+            "Expr { @8, Assign { target: Expr { @8, Name(\"b\") }, operator: Assign, value: Expr { @12, Assign { target: Expr { @12, Name(\"c\") }, operator: ShiftRightArithmetic, value: Expr { @19, This } } } } }",
+        ),
+    ] {
+        check_value(&rt, rt.alloc(), source, value)?;
+    }
+    Ok(())
+}
+
+#[test]
+fn statements(rt: HostRuntime) -> Result<(), Fail> {
+    for (source, body) in [
+        // an `else` belongs to the nearest `if`
+        (
+            "void f() { if (a) if (b) c; else ; }",
+            "Stmt { @11, If { condition: Expr { @15, Name(\"a\") }, then: Stmt { @18, IfElse { condition: Expr { @22, Name(\"b\") }, then: Stmt { @25, Expr(Expr { @25, Name(\"c\") }) }, otherwise: Stmt { @33, Empty } } } } }",
+        ),
+        // a declaration, or an expression
+        (
+            "void f() { Foo x(1); Foo@ y; foo * x; }",
+            "Stmt { @11, Vars(Vars { of: Type { @11, Object(\"Foo\") }, decls: [Decl { @15, name: \"x\", initializer: Arguments([Expr { @17, Number(1) }]) }] }) }, Stmt { @21, Vars(Vars { of: Type { @21, Handle(\"Foo\") }, decls: [Decl { @26, name: \"y\", initializer: Default }] }) }, Stmt { @29, Expr(Expr { @29, Binary { first: Expr { @29, Name(\"foo\") }, links: [Link { operator: Multiply, operand: Expr { @35, Name(\"x\") } }] } }) }",
+        ),
+        // the parts of a `for`
+        (
+            "void f() { for (int i = 0; i < 3; i++, --j) ; for (k = 1;;) break; }",
+            "Stmt { @11, For { first: Stmt { @16, Vars(Vars { of: Type { @16, Primitive(Int) }, decls: [Decl { @20, name: \"i\", initializer: Value(Expr { @24, Number(0) }) }] }) }, condition: Some(Expr { @27, Binary { first: Expr { @27, Name(\"i\") }, links: [Link { operator: Less, operand: Expr { @31, Number(3) } }] } }), steps: [Expr { @34, Postfix { operand: Expr { @34, Name(\"i\") }, suffixes: [Increment] } }, Expr { @39, Unary { operator: Decrement, operand: Expr { @41, Name(\"j\") } } }], body: Stmt { @44, Empty } } }, Stmt { @46, For { first: Stmt { @51, Expr(Expr { @51, Assign { target: Expr { @51, Name(\"k\") }, operator: Assign, value: Expr { @55, Number(1) } } }) }, condition: None, steps: [], body: Stmt { @60, Break } } }",
+        ),
+        // a label is at its constant, a `default` at its word
+        (
+            "void f() { switch (a) { case 1: case -2: b(); default: } }",
+            "Stmt { @11, Switch { value: Expr { @19, Name(\"a\") }, cases: [Case { @29, label: Case(1), body: [] }, Case { @37, label: CaseMinus(2), body: [Stmt { @41, Expr(Expr { @41, Call { name: \"b\", arguments: [] } }) }] }, Case { @46, label: Default, body: [] }] } }",
+        ),
+        // lines
+        (
+            "void f() {\n do continue;\n while (true); { return; }\n}",
+            "Stmt { @12/2, DoWhile { body: Stmt { @15/2, Continue }, condition: Expr { @33/3, Bool(true) } } }, Stmt { @40/3, Block([Stmt { @42/3, Return(None) }]) }",
+        ),
+    ] {
+        check_body(&rt, rt.alloc(), source, body)?;
+    }
+    Ok(())
+}
+
+#[test]
+fn items(rt: HostRuntime) -> Result<(), Fail> {
+    for (source, items) in [
+        (
+            "; class A { int a, b = 1; A(int x) { } A@ m() { return null; } };",
+            "Class(Class { @8, name: \"A\", members: [Vars(Vars { of: Type { @12, Primitive(Int) }, decls: [Decl { @16, name: \"a\", initializer: Default }, Decl { @19, name: \"b\", initializer: Value(Expr { @23, Number(1) }) }] }), Constructor(Constructor { @26, name: \"A\", parameters: [Parameter { of: Type { @28, Primitive(Int) }, @32, name: \"x\" }], body: [] }), Function(Function { @42, result: Some(Type { @39, Handle(\"A\") }), name: \"m\", parameters: [], body: [Stmt { @48, Return(Some(Expr { @55, Null })) }] })] })",
+        ),
+        // a function, or a variable with arguments
+        (
+            "Foo f(Bar b) {} Foo f(b); Foo g();",
+            "Function(Function { @4, result: Some(Type { @0, Object(\"Foo\") }), name: \"f\", parameters: [Parameter { of: Type { @6, Object(\"Bar\") }, @10, name: \"b\" }], body: [] }), Vars(Vars { of: Type { @16, Object(\"Foo\") }, decls: [Decl { @20, name: \"f\", initializer: Arguments([Expr { @22, Name(\"b\") }]) }] }), Vars(Vars { of: Type { @26, Object(\"Foo\") }, decls: [Decl { @30, name: \"g\", initializer: Arguments([]) }] })",
+        ),
+    ] {
+        check(&rt, rt.alloc(), source, items)?;
+    }
+    Ok(())
+}

@@ -1,0 +1,82 @@
+//! Words of the language, and words of parts of it that the profile does not have.
+
+use crate::tokens::shown;
+use std::alloc::Global;
+use std::process::Abort;
+use std::test::Fail;
+
+/// Looks for each word as a token of this kind.
+fn check_words(rt: &impl Abort, alloc: Global, kind: &str, words: &[&str]) -> Result<(), Fail> {
+    for word in words {
+        let want = format!(in alloc; "1:0-{} {kind} {word}; ", word.len())?;
+        assert_eq!(rt; shown(alloc, word)?.as_str(), want.as_str(), "at {word:?}");
+    }
+    Ok(())
+}
+
+#[test]
+fn reserved_words(rt: HostRuntime) -> Result<(), Fail> {
+    let words = [
+        "and",
+        "or",
+        "xor",
+        "not",
+        "is",
+        "null",
+        "true",
+        "false",
+        "void",
+        "bool",
+        "int",
+        "int32",
+        "int64",
+        "uint",
+        "uint32",
+        "uint64",
+        "class",
+        "interface",
+        "cast",
+        "array",
+        "this",
+        "if",
+        "else",
+        "while",
+        "do",
+        "for",
+        "switch",
+        "case",
+        "default",
+        "break",
+        "continue",
+        "return",
+    ];
+    check_words(&rt, rt.alloc(), "reserved", &words)
+}
+
+#[test]
+fn unsupported_words(rt: HostRuntime) -> Result<(), Fail> {
+    let words = [
+        "auto",
+        "catch",
+        "const",
+        "double",
+        "enum",
+        "float",
+        "funcdef",
+        "import",
+        "in",
+        "inout",
+        "int8",
+        "int16",
+        "mixin",
+        "namespace",
+        "out",
+        "private",
+        "protected",
+        "try",
+        "typedef",
+        "uint8",
+        "uint16",
+    ];
+    check_words(&rt, rt.alloc(), "unsupported", &words)
+}
