@@ -66,7 +66,7 @@ fn has_default(labels: &[Case]) -> bool
 
 /// Whether a statement returns.
 #[cycle(returning)]
-pub(crate) fn returns(stmt: &Stmt) -> bool
+fn returns(stmt: &Stmt) -> bool
     ensures { IsTrue result ↔ Returns (stmt_of stmt.now) }
 {
     match &stmt.kind {
