@@ -18,8 +18,6 @@ mod failure;
 mod file;
 mod fuse;
 mod memory;
-#[cfg(test)]
-mod tests;
 
 pub use crash::Survives;
 pub use disk::Disk;

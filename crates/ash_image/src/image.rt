@@ -35,8 +35,6 @@
 
 mod fields;
 mod reading;
-#[cfg(test)]
-mod tests;
 mod writing;
 
 ghost use Rattle.std.specs.Prelude.{◌≡◌, ◌≤◌, ◌↔◌, length, IsTrue, IfOk, OnOk, IfSome, Some, option_map};

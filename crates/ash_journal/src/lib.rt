@@ -42,8 +42,6 @@ mod journal;
 mod opening;
 mod reading;
 mod record;
-#[cfg(test)]
-mod tests;
 
 pub use error::{AppendError, CreateFault, InstallError, OpenFault};
 pub use journal::{CreateRefused, Journal, OpenRefused, Opened};

@@ -8,7 +8,7 @@ use byteorder::{ByteOrder, LittleEndian};
 use std::alloc::{AllocError, AllocFailed};
 
 /// Why nothing was read.
-#[derive(Debug, Drop)]
+#[derive(Drop)]
 pub enum Unread {
     /// Memory was refused.
     Memory,

@@ -1,5 +1,5 @@
 use Rattle.std.proofs.Common.{◌∷◌, []}
-use Rattle.ash_journal.proofs.tests.composed.three_records.Goals as goal
+use Rattle.ash_disk_tests.proofs.journal.composed.three_records.Goals as goal
 
 pub returns-in-Ok-append-3 : goal.returns-in-Ok-append-3
 returns-in-Ok-append-3 g c honest_first honest_second =

@@ -1,8 +1,12 @@
-use super::*;
-use ash_host::Word;
-use std::test::*;
+//! Images of states and the files around them, byte for byte.
 
-/// The file of a host that keeps no module and has answered no request.
+use ash_host::Word;
+use ash_image::image::{FileContent, Stored, read_file, read_image, write_file};
+use ash_meaning::kept::ModuleParts;
+use std::alloc::{AllocError, Global};
+use std::test::Fail;
+
+/// The file of a host that has no module and has answered no request.
 const EMPTY: [u8; 51] = [
     0x01, 0x41, 0x53, 0x48, 0x4f, 0x53, 0x54, 0x30, 0x31, 0x01, 0x00, 0x00, 0x00, 0x00, 0x00, 0x00,
     0x00, 0x1d, 0x00, 0x00, 0x00, 0x01, 0x00, 0x00, 0x00, 0x00, 0x00, 0x00, 0x00, 0x00, 0x00, 0x00,
@@ -154,7 +158,7 @@ fn no_image(rt: HostRuntime) -> Result<(), Fail> {
 }
 
 #[test]
-fn an_older_file_behind(rt: HostRuntime) -> Result<(), Fail> {
+fn an_older_file_after_it(rt: HostRuntime) -> Result<(), Fail> {
     let mut file = Vec::from_slice(rt.alloc(), &EMPTY)?;
     file.extend_from_slice(&ONE_MODULE)?;
     let stored = held(rt.alloc(), &file)?.ok_or("the file holds a state")?;
@@ -174,7 +178,7 @@ fn a_short_file(rt: HostRuntime) -> Result<(), Fail> {
     for length in 2..ONE_MODULE.len() {
         assert!(rt;
             is_damaged(rt.alloc(), &ONE_MODULE[..length])?,
-            "at {length}"
+            "cut to {length} bytes"
         );
     }
     Ok(())
@@ -192,12 +196,12 @@ fn each_byte_changed(rt: HostRuntime) -> Result<(), Fail> {
         let mut file = ONE_MODULE;
         file[place] ^= 0x18;
         let content = read_file(rt.alloc(), &file)?;
-        let is_told = match content {
+        let is_expected = match &content {
             FileContent::Closed => place == 0,
             FileContent::Holds(_) => is_free(place),
             FileContent::Damaged => place != 0 && !is_free(place),
         };
-        assert!(rt; is_told, "at {place}");
+        assert!(rt; is_expected, "byte {place} changed: {content:?}");
     }
     Ok(())
 }

@@ -1,5 +1,5 @@
 use Rattle.std.proofs.Common.{◌∷◌, []}
-use Rattle.ash_journal.proofs.tests.composed.composed.Goals as goal
+use Rattle.ash_disk_tests.proofs.journal.composed.composed.Goals as goal
 
 pub returns-in-Ok-append : goal.returns-in-Ok-append
 returns-in-Ok-append g c honest_first honest_second =

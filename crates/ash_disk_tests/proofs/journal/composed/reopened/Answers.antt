@@ -4,7 +4,7 @@ use Rattle.ash_journal.specs.Current.{Among}
 use Rattle.ash_journal.specs.Journal.{second_disk, Holds}
 use Rattle.ash_journal.specs.Reading.{bodies_of}
 use Rattle.ash_journal.specs.Runs.{Run}
-use Rattle.ash_journal.proofs.tests.composed.reopened.Goals as goal
+use Rattle.ash_disk_tests.proofs.journal.composed.reopened.Goals as goal
 
 -- both disks of a journal are honest, whichever is the first
 both_honest : {D : Type 0} (honest : D → Bool) (swapped : Bool) (c o : D) → IsTrue (honest c) → IsTrue (honest o) → IsTrue (honest (first_of swapped c o)) × IsTrue (honest (second_of swapped c o))

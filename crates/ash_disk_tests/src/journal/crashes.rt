@@ -1,7 +1,8 @@
 //! Stops at every call of either disk, and what crashes leave of them.
+
 use super::{add, opened, put};
-use crate::*;
 use ash_disk::{Disk, FuseDisk, MemoryDisk, Survives};
+use ash_journal::{AppendError, Journal, OpenFault, Opened};
 use std::alloc::{AllocError, Global};
 use std::test::Fail;
 
@@ -121,8 +122,13 @@ fn holds(alloc: Global, done: usize, first: &[u8], second: &[u8]) -> Result<bool
         return Ok(false);
     }
     let count = found.records.len();
-    if found.journal.settle().is_err() || add(&mut found.journal, b"more").is_err() {
-        return Err(AllocError);
+    if found.journal.settle().is_err() {
+        return Ok(false);
+    }
+    match add(&mut found.journal, b"more") {
+        Ok(()) => {}
+        Err(AppendError::NoMemory) => return Err(AllocError),
+        Err(AppendError::DeviceFailed) => return Ok(false),
     }
     let Opened {
         journal,
@@ -142,25 +148,37 @@ fn image(disk: &MemoryDisk, survives: Survives) -> Result<Vec<u8>, AllocError> {
     disk.crash_image(calls, survives)
 }
 
-// The extremes, and a thousand images that seeds give.
-fn all_hold(alloc: Global, stopped: &Stopped) -> Result<bool, AllocError> {
-    let extremes = [Survives::Nothing, Survives::Everything];
-    for one in extremes {
-        for two in extremes {
-            let (first, second) = (image(&stopped.first, one)?, image(&stopped.second, two)?);
-            if !holds(alloc, stopped.done, &first, &second)? {
-                return Ok(false);
-            }
+// What a crash left of the first disk and of the second.
+type Crash = (Survives, Survives);
+
+// Whether what a crash leaves of the disks holds.
+fn outlives(alloc: Global, stopped: &Stopped, crash: Crash) -> Result<bool, AllocError> {
+    let first = image(&stopped.first, crash.0)?;
+    let second = image(&stopped.second, crash.1)?;
+    holds(alloc, stopped.done, &first, &second)
+}
+
+// The first crash that loses something, of the extremes, and of a thousand that seeds give.
+fn loss(alloc: Global, stopped: &Stopped) -> Result<Option<Crash>, AllocError> {
+    let (nothing, everything) = (Survives::Nothing, Survives::Everything);
+    for crash in [
+        (nothing, nothing),
+        (nothing, everything),
+        (everything, nothing),
+        (everything, everything),
+    ] {
+        if !outlives(alloc, stopped, crash)? {
+            return Ok(Some(crash));
         }
     }
     for seed in 0..1000_u64 {
-        let first = image(&stopped.first, Survives::Part(seed))?;
-        let second = image(&stopped.second, Survives::Part(seed.wrapping_mul(7919)))?;
-        if !holds(alloc, stopped.done, &first, &second)? {
-            return Ok(false);
+        let second = Survives::Part(seed.wrapping_mul(7919));
+        let crash = (Survives::Part(seed), second);
+        if !outlives(alloc, stopped, crash)? {
+            return Ok(Some(crash));
         }
     }
-    Ok(true)
+    Ok(None)
 }
 
 #[test]
@@ -168,7 +186,11 @@ fn the_first_disk_fails(rt: HostRuntime) -> Result<(), Fail> {
     let mut stops = 0_u64;
     for calls in 0..200 {
         let stopped = run(rt.alloc(), calls, u64::MAX);
-        assert!(rt; all_hold(rt.alloc(), &stopped)?, "after {calls} calls");
+        assert_eq!(rt;
+            loss(rt.alloc(), &stopped)?,
+            None,
+            "stopped after {calls} calls"
+        );
         if stopped.done == 7 {
             break;
         }
@@ -184,7 +206,11 @@ fn the_second_disk_fails(rt: HostRuntime) -> Result<(), Fail> {
     let mut stops = 0_u64;
     for calls in 0..200 {
         let stopped = run(rt.alloc(), u64::MAX, calls);
-        assert!(rt; all_hold(rt.alloc(), &stopped)?, "after {calls} calls");
+        assert_eq!(rt;
+            loss(rt.alloc(), &stopped)?,
+            None,
+            "stopped after {calls} calls"
+        );
         if stopped.done == 7 {
             break;
         }

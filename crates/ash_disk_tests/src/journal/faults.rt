@@ -1,19 +1,14 @@
 //! Every cut and every changed byte of a file with three records, against a reading of the layout by hand.
+
 use super::opened;
-use crate::*;
+use ash_journal::OpenFault;
 use std::alloc::{AllocError, Global};
 use std::test::Fail;
 
-// What a file that is beside an empty one is, read by hand from the layout.
-#[derive(Debug, Drop, PartialEq)]
-enum Expected {
-    Closed,
-    Damaged(u64),
-    // The generation, and the places where the image, each record's body, and the file's open part end.
-    Open(u64, usize, Vec<usize>),
-}
+// What an open file that is beside an empty one holds: its generation, and where the image and each record's body end.
+type Shape = (u64, usize, Vec<usize>);
 
-// Where the block from a place on ends, behind its length, or nothing where it or the gate behind it is cut.
+// Where the block from a place on ends, after its length, or nothing where it or the gate after it is cut.
 fn block_end(file: &[u8], at: usize) -> Option<usize> {
     let size = file.get(at..at.checked_add(4)?)?;
     let mut bytes = 0_usize;
@@ -25,22 +20,23 @@ fn block_end(file: &[u8], at: usize) -> Option<usize> {
     Some(end)
 }
 
-fn read_by_hand(alloc: Global, file: &[u8]) -> Result<Expected, AllocError> {
+// What a file holds, or the fault that it has, read by hand from the layout.
+fn read_by_hand(alloc: Global, file: &[u8]) -> Result<Result<Shape, OpenFault>, AllocError> {
     if file.len() < 2 || file.first() != Some(&1) {
-        return Ok(Expected::Closed);
+        return Ok(Err(OpenFault::NoGeneration));
     }
     let Some(mark) = file.get(1..17) else {
-        return Ok(Expected::Damaged(0));
+        return Ok(Err(OpenFault::Damaged(0)));
     };
     if mark.get(..8) != Some(b"ASHOST01".as_slice()) {
-        return Ok(Expected::Damaged(0));
+        return Ok(Err(OpenFault::Damaged(0)));
     }
     let mut generation = 0_u64;
     for byte in mark.iter().skip(8).rev() {
         generation = generation.wrapping_mul(256).wrapping_add(u64::from(*byte));
     }
     let Some(image) = block_end(file, 17) else {
-        return Ok(Expected::Damaged(0));
+        return Ok(Err(OpenFault::Damaged(0)));
     };
     let mut ends = Vec::new(alloc);
     let mut gate = image;
@@ -49,19 +45,19 @@ fn read_by_hand(alloc: Global, file: &[u8]) -> Result<Expected, AllocError> {
             break;
         }
         let Some(end) = block_end(file, gate.wrapping_add(1)) else {
-            return Ok(Expected::Damaged(gate as u64));
+            return Ok(Err(OpenFault::Damaged(gate as u64)));
         };
         ends.push(end)?;
         gate = end;
     }
-    Ok(Expected::Open(generation, image, ends))
+    Ok(Ok((generation, image, ends)))
 }
 
-fn found(alloc: Global, file: &[u8]) -> Result<Expected, AllocError> {
+// The same, as the journal finds it.
+fn found(alloc: Global, file: &[u8]) -> Result<Result<Shape, OpenFault>, AllocError> {
     match opened(alloc, file, b"")? {
-        Err(OpenFault::NoGeneration) => Ok(Expected::Closed),
-        Err(OpenFault::Damaged(at)) => Ok(Expected::Damaged(at)),
-        Err(_) => Err(AllocError),
+        Err(OpenFault::NoMemory) => Err(AllocError),
+        Err(fault) => Ok(Err(fault)),
         Ok(opened) => {
             let image = opened.image.len().wrapping_add(21);
             let mut ends = Vec::new(alloc);
@@ -71,7 +67,7 @@ fn found(alloc: Global, file: &[u8]) -> Result<Expected, AllocError> {
                     .wrapping_add(record.body.len());
                 ends.push(end)?;
             }
-            Ok(Expected::Open(opened.journal.generation(), image, ends))
+            Ok(Ok((opened.journal.generation(), image, ends)))
         }
     }
 }
@@ -91,7 +87,7 @@ fn every_cut(rt: HostRuntime) -> Result<(), Fail> {
         );
     }
     let whole = vec![in alloc; 34, 39, 49]?;
-    assert_eq!(rt; found(alloc, FILE)?, Expected::Open(7, 26, whole));
+    assert_eq!(rt; found(alloc, FILE)?, Ok((7, 26, whole)));
     Ok(())
 }
 
@@ -108,7 +104,7 @@ fn every_changed_byte(rt: HostRuntime) -> Result<(), Fail> {
             assert_eq!(rt;
                 found(alloc, file)?,
                 read_by_hand(alloc, file)?,
-                "{byte} at {at}"
+                "byte {at} is {byte}"
             );
         }
     }

@@ -1,16 +1,16 @@
-//! A caller that makes every call once, proved.
+//! A caller that makes every call of a journal, proved.
 ghost use Rattle.std.specs.Prelude.{◌≡◌, ◌<◌, ◌^◌, ◌∷◌, [], ℕ, List, length, IsTrue, IfOk};
 ghost use Rattle.ash_journal.specs.Reading.{bodies_of};
 ghost use Rattle.ash_journal.specs.Journal.{Holds};
 
-use crate::*;
 use ash_disk::{Disk, MemoryDisk};
+use ash_journal::{Journal, Opened};
 use std::alloc::Global;
 use std::test::Fail;
 
-// Why the caller stopped.
+// Why the caller gave up.
 #[derive(Debug, Drop)]
-enum Stop {
+enum CallerError {
     Refused,
     Full,
 }
@@ -22,7 +22,7 @@ fn three_records<D: Disk + Drop>(
     second: D,
     image: &[u8],
     body: &[u8],
-) -> Result<Journal<D>, Stop>
+) -> Result<Journal<D>, CallerError>
     requires image_short { length image.now < 2 ^ 32 }
     requires body_short { length body.now < 2 ^ 32 }
     ensures { IfOk result (λ j. IsTrue (D.honest first) → IsTrue (D.honest second)
@@ -30,19 +30,19 @@ fn three_records<D: Disk + Drop>(
 {
     let mut journal = match Journal::create(alloc, first, second, image) {
         Ok(journal) => journal,
-        Err(_) => return Err(Stop::Refused),
+        Err(_) => return Err(CallerError::Refused),
     };
     match journal.append(body) {
         Ok(()) => {}
-        Err(_) => return Err(Stop::Refused),
+        Err(_) => return Err(CallerError::Refused),
     }
     match journal.append(body) {
         Ok(()) => {}
-        Err(_) => return Err(Stop::Refused),
+        Err(_) => return Err(CallerError::Refused),
     }
     match journal.append(body) {
         Ok(()) => Ok(journal),
-        Err(_) => Err(Stop::Refused),
+        Err(_) => Err(CallerError::Refused),
     }
 }
 
@@ -52,7 +52,7 @@ fn reopened<D: Disk + Drop>(
     mut journal: Journal<D>,
     image: &[u8],
     body: &[u8],
-) -> Result<Opened<D>, Stop>
+) -> Result<Opened<D>, CallerError>
     requires image_short { length image.now < 2 ^ 32 }
     requires body_short { length body.now < 2 ^ 32 }
     ensures found { IfOk result (λ o. (was : List ℕ) (bodies : List (List ℕ))
@@ -64,20 +64,20 @@ fn reopened<D: Disk + Drop>(
 {
     match journal.install(image) {
         Ok(()) => {}
-        Err(_) => return Err(Stop::Refused),
+        Err(_) => return Err(CallerError::Refused),
     }
     match journal.append(body) {
         Ok(()) => {}
-        Err(_) => return Err(Stop::Refused),
+        Err(_) => return Err(CallerError::Refused),
     }
     let (first, second) = journal.close();
     let mut found = match Journal::open(alloc, first, second) {
         Ok(found) => found,
-        Err(_) => return Err(Stop::Refused),
+        Err(_) => return Err(CallerError::Refused),
     };
     match found.journal.settle() {
         Ok(()) => Ok(found),
-        Err(_) => Err(Stop::Refused),
+        Err(_) => Err(CallerError::Refused),
     }
 }
 
@@ -88,7 +88,7 @@ fn composed<D: Disk + Drop>(
     second: D,
     image: &[u8],
     body: &[u8],
-) -> Result<Journal<D>, Stop>
+) -> Result<Journal<D>, CallerError>
     requires image_short { length image.now < 2 ^ 32 }
     requires body_short { length body.now < 2 ^ 32 }
     ensures { IfOk result (λ j. IsTrue (D.honest first) → IsTrue (D.honest second)
@@ -96,19 +96,19 @@ fn composed<D: Disk + Drop>(
 {
     let journal = match three_records(alloc, first, second, image, body) {
         Ok(journal) => journal,
-        Err(stop) => return Err(stop),
+        Err(error) => return Err(error),
     };
     let found = match reopened(alloc, journal, image, body) {
         Ok(found) => found,
-        Err(stop) => return Err(stop),
+        Err(error) => return Err(error),
     };
     let mut journal = found.journal;
     if journal.record_bytes() >= 1 << 62 {
-        return Err(Stop::Full);
+        return Err(CallerError::Full);
     }
     match journal.append(body) {
         Ok(()) => Ok(journal),
-        Err(_) => Err(Stop::Refused),
+        Err(_) => Err(CallerError::Refused),
     }
 }
 

@@ -1,5 +1,6 @@
-//! What no clause says: that calls succeed, what a real file keeps, and how much the crash images differ.
-use super::*;
+//! Disks: that calls succeed, what a real file holds, and how much the crash images differ. No clause says these.
+
+use ash_disk::{DeviceFailed, Disk, FileDisk, FuseDisk, MemoryDisk, Survives, write_durably};
 use std::alloc::{AllocError, Global};
 use std::test::Fail;
 use std::{env, fs};
@@ -70,9 +71,9 @@ fn a_fuse_fails_from_its_call_on(rt: HostRuntime) -> Result<(), Fail> {
     let mut k = 0;
     for (bytes, calls, done) in rows {
         let (disk, was_done) = fused(rt.alloc(), k)?;
-        assert_eq!(rt; disk.bytes(), bytes, "{k} calls");
-        assert_eq!(rt; disk.calls(), calls, "{k} calls");
-        assert_eq!(rt; was_done, done, "{k} calls");
+        assert_eq!(rt; disk.bytes(), bytes, "bytes after {k} calls");
+        assert_eq!(rt; disk.calls(), calls, "writes and syncs of {k} calls");
+        assert_eq!(rt; was_done, done, "whether {k} calls suffice");
         k = k.saturating_add(1);
     }
     Ok(())
@@ -102,9 +103,9 @@ fn a_crash_leaves_nothing_or_everything(rt: HostRuntime) -> Result<(), Fail> {
     for (nothing, everything) in rows {
         assert!(rt; calls <= disk.calls());
         let image = disk.crash_image(calls, Survives::Nothing)?;
-        assert_eq!(rt; image.as_slice(), nothing, "after {calls}");
+        assert_eq!(rt; image.as_slice(), nothing, "nothing survives {calls} calls");
         let image = disk.crash_image(calls, Survives::Everything)?;
-        assert_eq!(rt; image.as_slice(), everything, "after {calls}");
+        assert_eq!(rt; image.as_slice(), everything, "{calls} calls survive");
         calls = calls.saturating_add(1);
     }
     Ok(())
@@ -170,7 +171,7 @@ fn a_file_is_read_after_it_is_opened_again(rt: HostRuntime) -> Result<(), Fail> 
 }
 
 #[test]
-fn a_failure_is_told_by_its_number(rt: HostRuntime) -> Result<(), Fail> {
+fn a_failure_is_written_with_its_number(rt: HostRuntime) -> Result<(), Fail> {
     let text = format!(in rt.alloc(); "{DeviceFailed}")?;
     assert_eq!(rt; text.as_str(), "507 DeviceFailed");
     Ok(())

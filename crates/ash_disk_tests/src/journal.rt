@@ -1,7 +1,9 @@
-//! What no clause says: that calls succeed, the bytes that they leave, how many calls of a device they make, and the
-//! same promises once more over images that a crash leaves, against a reading of the layout by hand.
-use super::*;
-use ash_disk::{Disk, FuseDisk, MemoryDisk, Survives};
+//! A journal: that its calls succeed, the bytes that they leave, and how many calls of a device they make. No clause
+//! says these. In `composed` a caller is proved that makes every call, `crashes` stops a run at each call of a disk,
+//! and `faults` holds damaged files against a reading of the layout by hand.
+
+use ash_disk::{Disk, MemoryDisk};
+use ash_journal::{AppendError, CreateFault, InstallError, Journal, OpenFault, Opened};
 use std::alloc::{AllocError, Global};
 use std::test::Fail;
 
@@ -79,7 +81,7 @@ fn files_byte_for_byte(rt: HostRuntime) -> Result<(), Fail> {
     assert_eq!(rt; file.len(), 94);
     assert_eq!(rt; first.bytes(), file.as_slice());
     assert_eq!(rt; second.bytes(), [0].as_slice());
-    // Cut within the record, the gate before it is told.
+    // Cut within the record, it is reported by the gate before it.
     let cut = opened(alloc, &file.as_slice()[..80], &[0])?;
     assert!(rt; matches!(cut, Err(OpenFault::Damaged(50))));
     Ok(())
@@ -170,11 +172,11 @@ fn a_file_that_is_open_is_not_created_over(rt: HostRuntime) -> Result<(), Fail> 
         let one = MemoryDisk::with_bytes(alloc, first)?;
         let two = MemoryDisk::with_bytes(alloc, second)?;
         match Journal::create(alloc, one, two, b"image") {
-            Ok(_) => assert_eq!(rt; fault, None),
+            Ok(_) => assert_eq!(rt; None, fault, "over {first:?} and {second:?}"),
             Err(refused) => {
-                assert_eq!(rt; Some(refused.fault), fault);
-                assert_eq!(rt; refused.first.bytes(), first);
-                assert_eq!(rt; refused.second.bytes(), second);
+                let found = (refused.fault, refused.first.bytes(), refused.second.bytes());
+                let expected = fault.map(|fault| (fault, first, second));
+                assert_eq!(rt; Some(found), expected, "over {first:?} and {second:?}");
             }
         }
     }
@@ -182,7 +184,7 @@ fn a_file_that_is_open_is_not_created_over(rt: HostRuntime) -> Result<(), Fail> 
 }
 
 #[test]
-fn faults_are_told_by_their_numbers(rt: HostRuntime) -> Result<(), Fail> {
+fn faults_are_written_with_their_numbers(rt: HostRuntime) -> Result<(), Fail> {
     let alloc = rt.alloc();
     let text = format!(in alloc; "{}, {}", AppendError::NoMemory, AppendError::DeviceFailed)?;
     assert_eq!(rt; text.as_str(), "509 NoMemory, 507 DeviceFailed");
