@@ -27,6 +27,3 @@ mod words;
 mod writer;
 
 pub use fault::RunFault;
-
-#[cfg(test)]
-mod tests;

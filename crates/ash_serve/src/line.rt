@@ -11,7 +11,7 @@ use crate::source::{ReadFault, Source};
 pub(crate) const MOST_LINE: usize = 4096;
 
 /// What stood before a line feed.
-#[derive(Clone, Copy, Debug, PartialEq, Eq)]
+#[derive(Clone, Copy)]
 pub(crate) enum Skipped {
     Nothing,
     Bytes,
@@ -20,7 +20,7 @@ pub(crate) enum Skipped {
 }
 
 /// What a line came to.
-#[derive(Clone, Copy, Debug, PartialEq, Eq)]
+#[derive(Clone, Copy)]
 pub(crate) enum LineRead {
     Whole,
     TooLong,

@@ -188,7 +188,7 @@ fn put_exception<K: Sink>(sink: &mut K, exception: Exception) -> Result<(), Writ
 }
 
 /// What a refusal tells of a source.
-#[derive(Clone, Copy, Debug)]
+#[derive(Clone, Copy)]
 enum Details<'a> {
     Nothing,
     /// An offset in it.

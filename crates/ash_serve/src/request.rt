@@ -14,7 +14,7 @@ use crate::spelled::{Spelled, read_words};
 use ash_meaning::request::{Argument, Reply, Request};
 
 /// What is told of a line.
-#[derive(Debug, Drop)]
+#[derive(Drop)]
 pub(crate) enum Told {
     Replied(Reply),
     /// The run ends.

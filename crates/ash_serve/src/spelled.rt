@@ -17,7 +17,7 @@ use std::str;
 pub(crate) const MOST_ARGUMENTS: usize = 4097;
 
 /// What a line asks. The arguments of a call stand apart.
-#[derive(Clone, Copy, Debug)]
+#[derive(Clone, Copy)]
 pub(crate) enum Spelled<'a> {
     /// A source of so many bytes follows.
     Load { name: &'a str, length: u32 },

@@ -14,7 +14,7 @@ use crate::source::Source;
 use ash_meaning::request::Argument;
 
 /// What a turn came to.
-#[derive(Clone, Copy, Debug, PartialEq, Eq)]
+#[derive(Clone, Copy)]
 pub(crate) enum Turn {
     /// A line was answered, and the run goes on.
     On,

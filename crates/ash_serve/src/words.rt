@@ -8,7 +8,7 @@ ghost use Rattle.ash_serve.specs.Words.{words_left, is_none_left};
 use std::str;
 
 /// The words of a line that have not been taken yet.
-#[derive(Clone, Copy, Debug)]
+#[derive(Clone, Copy)]
 pub(crate) struct Words<'a> {
     /// What is left of the line, or nothing after its last word.
     rest: Option<&'a [u8]>,

@@ -1,37 +1,12 @@
-// Sources that are no script, and what is replied to them.
+//! Sources that are no script, and what is replied to them.
 
-use ash_disk::MemoryDisk;
-use ash_durable::{Host, StoreFault};
+use crate::hosts::loaded;
 use ash_registry::Registry;
-use ash_serve::run::run;
+use std::alloc::{AllocError, Global};
 use std::test::Fail;
 
-/// A host over two empty disks in memory, with nothing registered.
-fn new_host(rt: &impl AllocGlobal) -> Result<Host<MemoryDisk>, StoreFault> {
-    let alloc = rt.alloc();
-    let (a, b) = (MemoryDisk::new(alloc), MemoryDisk::new(alloc));
-    Host::create(alloc, a, b, Registry::new(alloc)).map_err(|refused| refused.fault)
-}
-
-/// What a new host replies to a load of this source.
-fn loaded(rt: &impl AllocGlobal, source: &[u8]) -> Result<Vec<u8>, Fail> {
-    let alloc = rt.alloc();
-    let mut host = new_host(rt)?;
-    let mut requests = Vec::new(alloc);
-    let line = format!(in alloc; "load m {}\n", source.len())
-        .ok()
-        .ok_or("memory ran out")?;
-    requests.extend_from_slice(line.as_bytes())?;
-    requests.extend_from_slice(source)?;
-    requests.extend_from_slice(b"\n")?;
-    let mut replies = Vec::new(alloc);
-    run(alloc, requests.as_slice(), &mut replies, &mut host, 1000)?;
-    Ok(replies)
-}
-
 /// `int f() { return 1; }` with so many brackets round the number.
-fn bracketed(rt: &impl AllocGlobal, count: usize) -> Result<Vec<u8>, Fail> {
-    let alloc = rt.alloc();
+fn bracketed(alloc: Global, count: usize) -> Result<Vec<u8>, AllocError> {
     let mut source = Vec::from_slice(alloc, b"int f() { return ")?;
     source.extend_from_slice(&vec![in alloc; b'('; count]?)?;
     source.extend_from_slice(b"1")?;
@@ -41,35 +16,33 @@ fn bracketed(rt: &impl AllocGlobal, count: usize) -> Result<Vec<u8>, Fail> {
 }
 
 #[test]
-fn the_first_fault_is_told(rt: HostRuntime) -> Result<(), Fail> {
-    for (source, reply) in [
-        (
-            b"int f( {".as_slice(),
-            b"refused 104 Unexpected 7\n".as_slice(),
-        ),
-        (b"float x;", b"refused 105 Unsupported float 0\n"),
-        (b"class A : I { }", b"refused 105 Unsupported interface 8\n"),
-        (b"int \"", b"refused 101 BadCharacter 4\n"),
-        (b"/* x", b"refused 102 UnclosedComment 0\n"),
-        (b"class A { }", b"refused 199 NotYet\n"),
-        (b"class A { } int f( {", b"refused 104 Unexpected 19\n"),
-        (b"int f() { return 0x10; } // sixteen", b"ok seq 1\n"),
+fn the_first_fault_is_reported(rt: HostRuntime) -> Result<(), Fail> {
+    for (source, expected) in [
+        ("int f( {", "refused 104 Unexpected 7\n"),
+        ("float x;", "refused 105 Unsupported float 0\n"),
+        ("class A : I { }", "refused 105 Unsupported interface 8\n"),
+        ("int \"", "refused 101 BadCharacter 4\n"),
+        ("/* x", "refused 102 UnclosedComment 0\n"),
+        ("class A { }", "refused 199 NotYet\n"),
+        ("class A { } int f( {", "refused 104 Unexpected 19\n"),
+        ("int f() { return 0x10; } // sixteen", "ok seq 1\n"),
     ] {
-        let told = loaded(&rt, source)?;
-        assert_eq!(rt; told.as_slice(), reply);
+        let reply = loaded(rt.alloc(), Registry::new(rt.alloc()), source.as_bytes())?;
+        assert_eq!(rt; reply.as_str(), expected, "to {source}");
     }
     Ok(())
 }
 
 #[test]
-fn the_first_token_too_deep_is_told(rt: HostRuntime) -> Result<(), Fail> {
-    for (count, reply) in [
-        (16, b"ok seq 1\n".as_slice()),
-        (63, b"refused 199 NotYet\n"),
-        (64, b"refused 106 TooDeep 81\n"),
+fn the_first_token_too_deep_is_reported(rt: HostRuntime) -> Result<(), Fail> {
+    let alloc = rt.alloc();
+    for (count, expected) in [
+        (16, "ok seq 1\n"),
+        (63, "refused 199 NotYet\n"),
+        (64, "refused 106 TooDeep 81\n"),
     ] {
-        let told = loaded(&rt, &bracketed(&rt, count)?)?;
-        assert_eq!(rt; told.as_slice(), reply);
+        let reply = loaded(alloc, Registry::new(alloc), &bracketed(alloc, count)?)?;
+        assert_eq!(rt; reply.as_str(), expected, "to {count} brackets");
     }
     Ok(())
 }
@@ -77,9 +50,12 @@ fn the_first_token_too_deep_is_told(rt: HostRuntime) -> Result<(), Fail> {
 #[test]
 fn the_longest_source_loads(rt: HostRuntime) -> Result<(), Fail> {
     let alloc = rt.alloc();
-    let told = loaded(&rt, &vec![in alloc; b' '; 65_536]?)?;
-    assert_eq!(rt; told.as_slice(), b"ok seq 1\n".as_slice());
-    let told = loaded(&rt, &vec![in alloc; b' '; 65_537]?)?;
-    assert_eq!(rt; told.as_slice(), b"refused 107 SourceTooLong\n".as_slice());
+    for (length, expected) in [
+        (65_536usize, "ok seq 1\n"),
+        (65_537, "refused 107 SourceTooLong\n"),
+    ] {
+        let reply = loaded(alloc, Registry::new(alloc), &vec![in alloc; b' '; length]?)?;
+        assert_eq!(rt; reply.as_str(), expected, "to {length} blanks");
+    }
     Ok(())
 }

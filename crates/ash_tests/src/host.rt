@@ -1,7 +1,6 @@
-// The calls of a host, each once, where memory is ample.
+//! The calls of a host, each once, where memory is ample.
 
-use ash_disk::MemoryDisk;
-use ash_durable::Host;
+use crate::hosts::new_host;
 use ash_host::Word;
 use ash_meaning::outcome::Outcome;
 use ash_meaning::refusal::Refusal;
@@ -11,19 +10,9 @@ use std::test::Fail;
 
 const SOURCE: &[u8] = b"int n = 2; int f(int k) { n += k; return n; }";
 
-/// A host on two new disks.
-fn new_host(rt: &impl AllocGlobal) -> Result<Host<MemoryDisk>, Fail> {
-    let first = MemoryDisk::new(rt.alloc());
-    let second = MemoryDisk::new(rt.alloc());
-    match Host::create(rt.alloc(), first, second, Registry::new(rt.alloc())) {
-        Ok(host) => Ok(host),
-        Err(refused) => Err(refused.fault.into()),
-    }
-}
-
 #[test]
 fn each_call(rt: HostRuntime) -> Result<(), Fail> {
-    let mut host = new_host(&rt)?;
+    let mut host = new_host(rt.alloc(), Registry::new(rt.alloc()))?;
     assert_eq!(rt; host.seq(), 0);
 
     let loaded = host.load("m", SOURCE, 1000)?;
@@ -42,7 +31,7 @@ fn each_call(rt: HostRuntime) -> Result<(), Fail> {
 
 #[test]
 fn each_request(rt: HostRuntime) -> Result<(), Fail> {
-    let mut host = new_host(&rt)?;
+    let mut host = new_host(rt.alloc(), Registry::new(rt.alloc()))?;
     let load = Request::Load {
         name: "m",
         source: SOURCE,
@@ -69,15 +58,15 @@ fn each_request(rt: HostRuntime) -> Result<(), Fail> {
 
 #[test]
 fn an_argument_that_does_not_fit(rt: HostRuntime) -> Result<(), Fail> {
-    let mut host = new_host(&rt)?;
+    let mut host = new_host(rt.alloc(), Registry::new(rt.alloc()))?;
     host.load("m", SOURCE, 1000)?;
     for argument in [
         Argument::Truth(true),
         Argument::Number(2_147_483_648),
         Argument::Number(-2_147_483_649),
     ] {
-        let refused = host.call("m", "f", &[argument], 1000);
-        assert!(rt; matches!(refused, Err(Refusal::BadArguments)));
+        let refused = host.call("m", "f", &[argument], 1000).err();
+        assert_eq!(rt; refused, Some(Refusal::BadArguments), "{argument:?}");
     }
     assert_eq!(rt; host.seq(), 1);
     Ok(())

@@ -1,5 +1,6 @@
-//! What the kinds answer, through a box and through their own type.
-use crate::Buffer;
+//! What the kinds of host objects answer, through a box and through their own type.
+
+use ash_embedding::Buffer;
 use ash_host::{Counter, HostAnswer, HostObject, NoMemory, RestoreFault, Tally, Word};
 use std::alloc::Global;
 use std::process::Abort;
@@ -43,8 +44,12 @@ fn answers<B: HostObject>(
 ) -> Result<(), Fail> {
     for (ask, answer, state) in rows {
         let text = asked(alloc, object, *ask)?;
-        assert_eq!(rt; text.as_str(), *answer, "at {ask:?}");
-        assert_eq!(rt; saved(alloc, object)?.as_slice(), *state, "after {ask:?}");
+        assert_eq!(rt; text.as_str(), *answer, "answer to {ask:?}");
+        assert_eq!(rt;
+            saved(alloc, object)?.as_slice(),
+            *state,
+            "state after {ask:?}"
+        );
     }
     Ok(())
 }
@@ -162,8 +167,9 @@ fn a_state_comes_back(rt: HostRuntime) -> Result<(), Fail> {
         [1, 2, 3].as_slice(),
         [1, 2, 3, 4, 5].as_slice(),
     ] {
-        assert_eq!(rt; counter.restore(state), Err(RestoreFault::Refused));
-        assert_eq!(rt; tally.restore(state), Err(RestoreFault::Refused));
+        let refused = Err(RestoreFault::Refused);
+        assert_eq!(rt; counter.restore(state), refused, "a counter from {state:?}");
+        assert_eq!(rt; tally.restore(state), refused, "a tally from {state:?}");
     }
     counter.restore(&[0, 0, 0, 128])?;
     tally.restore(&[254, 255, 255, 255])?;

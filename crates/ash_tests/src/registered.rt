@@ -1,5 +1,6 @@
-// Stores with what is registered: the text in their bytes, and opening them with another registry.
+//! Stores with what is registered: the text in their bytes, and opening them with another registry.
 
+use crate::store::EMPTY;
 use ash_disk::MemoryDisk;
 use ash_durable::{Host, OpenRefused, StoreFault};
 use ash_host::Word;
@@ -12,14 +13,6 @@ use std::test::Fail;
 /// The text of the program's registrations.
 const TEXT: &[u8] =
     b"type Counter 1\nfactory Counter (int)\nmethod Counter 1 int add(int)\nmethod Counter 2 void fail(int)\nproperty Counter 1 int value\nservice 2\nfunction 0 1 int tally(int)\nfunction 0 2 int total()\n";
-
-/// The file of a new store in which nothing is registered.
-const EMPTY: [u8; 51] = [
-    0x01, 0x41, 0x53, 0x48, 0x4f, 0x53, 0x54, 0x30, 0x31, 0x01, 0x00, 0x00, 0x00, 0x00, 0x00, 0x00,
-    0x00, 0x1d, 0x00, 0x00, 0x00, 0x01, 0x00, 0x00, 0x00, 0x00, 0x00, 0x00, 0x00, 0x00, 0x00, 0x00,
-    0x00, 0x00, 0x00, 0x00, 0x00, 0x00, 0x00, 0x00, 0x00, 0x00, 0x00, 0x00, 0x00, 0x00, 0x00, 0x00,
-    0x00, 0x00, 0x00,
-];
 
 /// The program's registrations, and one more method.
 fn one_more(alloc: Global) -> Result<Registry, RegistryFault> {
@@ -75,7 +68,7 @@ fn with_byte(alloc: Global, file: &[u8], place: usize, byte: u8) -> Result<Vec<u
 #[test]
 fn the_text_in_a_new_store(rt: HostRuntime) -> Result<(), Fail> {
     let (first, second) = made(rt.alloc(), registrations(rt.alloc())?)?.close();
-    // The image is longer by the text, which stands behind its length, and the rest is that of an empty store.
+    // The image is longer by the text, which comes after its length, and the rest is that of an empty store.
     let longer = with_byte(rt.alloc(), &EMPTY, 17, 0x1d + 191)?;
     let mut expected = with_byte(rt.alloc(), &longer, 23, 191)?;
     expected.truncate(27);
@@ -113,7 +106,7 @@ fn refusal_with_none(alloc: Global, file: &[u8]) -> Result<Option<StoreFault>, F
 }
 
 #[test]
-fn damage_before_the_interface_and_behind_it(rt: HostRuntime) -> Result<(), Fail> {
+fn damage_before_the_interface_and_after_it(rt: HostRuntime) -> Result<(), Fail> {
     let alloc = rt.alloc();
     let mut host = made(alloc, one_type(alloc, "Tall")?)?;
     host.load("m", b"int Tale = 2;", 1000)?;
@@ -128,7 +121,7 @@ fn damage_before_the_interface_and_behind_it(rt: HostRuntime) -> Result<(), Fail
     cut.truncate(80);
     assert_eq!(rt; refusal(alloc, &cut, one_type(alloc, "Tall")?)?, damaged);
     assert_eq!(rt; refusal(alloc, &cut, one_type(alloc, "Tale")?)?, damaged);
-    // With the text `type Tale 1` its source declares what is registered, which that registry alone can tell.
+    // With the text `type Tale 1` its source declares what is registered, which that registry alone can find.
     let taken = with_byte(alloc, file, 35, b'e')?;
     assert_eq!(rt; refusal(alloc, &taken, one_type(alloc, "Tale")?)?, damaged);
     assert_eq!(rt; refusal(alloc, &taken, one_type(alloc, "Tall")?)?, other);
@@ -146,16 +139,12 @@ fn a_registered_name_is_taken(rt: HostRuntime) -> Result<(), Fail> {
     let alloc = rt.alloc();
     let mut host = made(alloc, registrations(alloc)?)?;
     for source in [
-        b"int tally = 1;".as_slice(),
-        b"int Counter = 1;",
-        b"int total() { return 1; }",
+        "int tally = 1;",
+        "int Counter = 1;",
+        "int total() { return 1; }",
     ] {
-        assert!(rt;
-            matches!(
-                host.load("m", source, 1000),
-                Err(Refusal::NameTaken { at: 4 })
-            )
-        );
+        let refused = host.load("m", source.as_bytes(), 1000).err();
+        assert_eq!(rt; refused, Some(Refusal::NameTaken { at: 4 }), "{source}");
     }
     // A host that is opened again has what was registered.
     let mut host = ready(host.reopen())?;

@@ -1,18 +1,18 @@
-// The run over slices and vectors, and over ends that fail.
+//! The run over slices and vectors, and over readers and writers that fail.
 
-use crate::fault::RunFault;
-use crate::program::fault::Fault;
-use crate::program::service::{serve_new, serve_stored};
-use crate::run::run;
+use crate::hosts::{assert_replies, new_host, replies, served};
 use ash_disk::MemoryDisk;
-use ash_durable::{Host, StoreFault};
+use ash_durable::StoreFault;
 use ash_registry::Registry;
-use std::alloc::Global;
+use ash_serve::RunFault;
+use ash_serve::program::fault::Fault;
+use ash_serve::program::service::{serve_new, serve_stored};
+use ash_serve::run::run;
 use std::io;
 use std::io::{ErrorKind, Read, Write};
 use std::test::Fail;
 
-/// Gives the bytes one by one, and fails at the n-th read.
+/// Gives the bytes one by one, and fails once so many reads are done.
 #[derive(Drop)]
 struct Failing<'a> {
     bytes: &'a [u8],
@@ -32,7 +32,7 @@ impl<'a> Read for Failing<'a> {
     }
 }
 
-/// Takes a byte at a time, and fails at the n-th write or flush.
+/// Takes a byte at a time, and fails once so many writes and flushes are done.
 #[derive(Drop)]
 struct Refusing {
     bytes: Vec<u8>,
@@ -58,26 +58,15 @@ impl Write for Refusing {
     }
 }
 
-/// A host over two empty disks in memory.
-fn new_host(alloc: Global) -> Result<Host<MemoryDisk>, StoreFault> {
-    let (a, b) = (MemoryDisk::new(alloc), MemoryDisk::new(alloc));
-    Host::create(alloc, a, b, Registry::new(alloc)).map_err(|refused| refused.fault)
-}
-
 const INPUT: &[u8] =
     b"seq\n\nget m n\ncall m f 5 true -7\nload m 3\nabc\nload m 2\nabcd\nobject 1\nseq  \nquit\nseq\n";
 
-const OUTPUT: &[u8] =
-    b"ok 0\nrefused 601 BadRequest\nrefused 401 NoModule\nrefused 401 NoModule\nrefused 104 Unexpected 3\nrefused 601 BadRequest\nrefused 601 BadRequest\nrefused 601 BadRequest\nok\n";
+const OUTPUT: &str =
+    "ok 0\nrefused 601 BadRequest\nrefused 401 NoModule\nrefused 401 NoModule\nrefused 104 Unexpected 3\nrefused 601 BadRequest\nrefused 601 BadRequest\nrefused 601 BadRequest\nok\n";
 
 #[test]
 fn answers_each_line(rt: HostRuntime) -> Result<(), Fail> {
-    let mut host = new_host(rt.alloc())?;
-    let mut written = Vec::new(rt.alloc());
-    let result = run(rt.alloc(), INPUT, &mut written, &mut host, 1000);
-    assert!(rt; result.is_ok());
-    assert_eq!(rt; written.as_slice(), OUTPUT);
-    Ok(())
+    assert_replies(&rt, rt.alloc(), 1000, INPUT, OUTPUT)
 }
 
 #[test]
@@ -85,25 +74,23 @@ fn serves_a_new_store_and_one_that_is_there(rt: HostRuntime) -> Result<(), Fail>
     let alloc = rt.alloc();
     let (a, b) = (MemoryDisk::new(alloc), MemoryDisk::new(alloc));
     let mut written = Vec::new(alloc);
-    let result = serve_new(alloc, a, b, Registry::new(alloc), INPUT, &mut written, 1000);
-    assert!(rt; result.is_ok());
-    assert_eq!(rt; written.as_slice(), OUTPUT);
+    serve_new(alloc, a, b, Registry::new(alloc), INPUT, &mut written, 1000)?;
+    assert_eq!(rt; written.as_slice(), OUTPUT.as_bytes());
 
-    let mut host = new_host(alloc)?;
-    let load = b"load m 10\nint n = 7;\n".as_slice();
-    run(alloc, load, &mut Vec::new(alloc), &mut host, 1000)?;
+    let mut host = new_host(alloc, Registry::new(alloc))?;
+    replies(alloc, &mut host, b"load m 10\nint n = 7;\n")?;
     let (a, b) = host.close();
+    let requests = b"get m n\nseq\n".as_slice();
     let mut written = Vec::new(alloc);
-    let result = serve_stored(
+    serve_stored(
         alloc,
         a,
         b,
         Registry::new(alloc),
-        b"get m n\nseq\n".as_slice(),
+        requests,
         &mut written,
         1000,
-    );
-    assert!(rt; result.is_ok());
+    )?;
     assert_eq!(rt; written.as_slice(), b"ok 7\nok 1\n".as_slice());
 
     let (a, b) = (MemoryDisk::new(alloc), MemoryDisk::new(alloc));
@@ -115,52 +102,58 @@ fn serves_a_new_store_and_one_that_is_there(rt: HostRuntime) -> Result<(), Fail>
 }
 
 #[test]
-fn tells_a_cut_request(rt: HostRuntime) -> Result<(), Fail> {
-    for input in [
-        b"seq\nse".as_slice(),
-        b"seq\nload m 4\nabc".as_slice(),
-        b"seq\nload m 3\nabc".as_slice(),
-        b"seq\nload m 3\nabcd".as_slice(),
+fn a_cut_request_is_reported(rt: HostRuntime) -> Result<(), Fail> {
+    for requests in [
+        "seq\nse",
+        "seq\nload m 4\nabc",
+        "seq\nload m 3\nabc",
+        "seq\nload m 3\nabcd",
     ] {
-        let mut host = new_host(rt.alloc())?;
-        let mut written = Vec::new(rt.alloc());
-        let result = run(rt.alloc(), input, &mut written, &mut host, 1000);
-        assert!(rt; matches!(result, Err(RunFault::Truncated)));
-        assert_eq!(rt; written.as_slice(), b"ok 0\n".as_slice());
+        let mut host = new_host(rt.alloc(), Registry::new(rt.alloc()))?;
+        let (end, replies) = served(rt.alloc(), &mut host, 1000, requests.as_bytes())?;
+        assert_eq!(rt; end, Err(RunFault::Truncated), "end of {requests:?}");
+        assert_eq!(rt; replies.as_str(), "ok 0\n", "to {requests:?}");
     }
     Ok(())
 }
 
 #[test]
-fn tells_a_read_that_fails(rt: HostRuntime) -> Result<(), Fail> {
+fn a_read_that_fails_is_reported(rt: HostRuntime) -> Result<(), Fail> {
     for left in 0..79 {
-        let mut host = new_host(rt.alloc())?;
+        let mut host = new_host(rt.alloc(), Registry::new(rt.alloc()))?;
         let mut written = Vec::new(rt.alloc());
         let reader = Failing { bytes: INPUT, left };
         let result = run(rt.alloc(), reader, &mut written, &mut host, 1000);
-        assert!(rt; matches!(result, Err(RunFault::Read)), "at {left}");
-        assert!(rt; OUTPUT.starts_with(written.as_slice()), "at {left}");
+        assert_eq!(rt; result, Err(RunFault::Read), "after {left} reads");
+        let is_prefix = OUTPUT.as_bytes().starts_with(&written);
+        assert!(rt; is_prefix, "after {left} reads: {}", written.escape_ascii());
     }
     Ok(())
 }
 
 #[test]
-fn tells_a_write_that_fails(rt: HostRuntime) -> Result<(), Fail> {
+fn a_write_that_fails_is_reported(rt: HostRuntime) -> Result<(), Fail> {
     for left in 0..150 {
-        let mut host = new_host(rt.alloc())?;
+        let mut host = new_host(rt.alloc(), Registry::new(rt.alloc()))?;
         let mut writer = Refusing {
             bytes: Vec::new(rt.alloc()),
             left,
         };
         let result = run(rt.alloc(), INPUT, &mut writer, &mut host, 1000);
-        assert!(rt; matches!(result, Err(RunFault::Write)), "at {left}");
-        assert!(rt; OUTPUT.starts_with(writer.bytes.as_slice()), "at {left}");
+        assert_eq!(rt; result, Err(RunFault::Write), "after {left} writes");
+        let written = writer.bytes;
+        let is_prefix = OUTPUT.as_bytes().starts_with(&written);
+        assert!(rt;
+            is_prefix,
+            "after {left} writes: {}",
+            written.escape_ascii()
+        );
     }
     Ok(())
 }
 
 #[test]
-fn prints_each_fault(rt: HostRuntime) -> Result<(), Fail> {
+fn each_fault_is_written_with_its_number(rt: HostRuntime) -> Result<(), Fail> {
     for (fault, text) in [
         (RunFault::Truncated, "603 Truncated"),
         (RunFault::TooLong, "604 TooLong"),
@@ -168,8 +161,8 @@ fn prints_each_fault(rt: HostRuntime) -> Result<(), Fail> {
         (RunFault::Write, "606 Write"),
         (RunFault::NoMemory, "509 NoMemory"),
     ] {
-        let printed = format!(in rt.alloc(); "{fault}")?;
-        assert_eq!(rt; printed.as_str(), text);
+        let written = format!(in rt.alloc(); "{fault}")?;
+        assert_eq!(rt; written.as_str(), text, "of {fault:?}");
     }
     Ok(())
 }

@@ -1,4 +1,4 @@
-// Stores on two disks: their bytes, their faults, disks that fail, and crashes.
+//! Stores on two disks: their bytes, their faults, disks that fail, and crashes.
 
 use ash_disk::{Disk, FuseDisk, MemoryDisk, Survives};
 use ash_durable::{Host, OpenRefused, StoreFault};
@@ -6,12 +6,13 @@ use ash_host::Word;
 use ash_meaning::refusal::Refusal;
 use ash_meaning::request::Argument;
 use ash_registry::Registry;
+use std::process::Abort;
 use std::test::Fail;
 
 const SOURCE: &[u8] = b"int n = 2; int f(int k) { n += k; return n; }";
 
-/// The file of a host that keeps no module and has answered no request.
-const EMPTY: [u8; 51] = [
+/// The file of a host that has no module, nothing registered, and has answered no request.
+pub const EMPTY: [u8; 51] = [
     0x01, 0x41, 0x53, 0x48, 0x4f, 0x53, 0x54, 0x30, 0x31, 0x01, 0x00, 0x00, 0x00, 0x00, 0x00, 0x00,
     0x00, 0x1d, 0x00, 0x00, 0x00, 0x01, 0x00, 0x00, 0x00, 0x00, 0x00, 0x00, 0x00, 0x00, 0x00, 0x00,
     0x00, 0x00, 0x00, 0x00, 0x00, 0x00, 0x00, 0x00, 0x00, 0x00, 0x00, 0x00, 0x00, 0x00, 0x00, 0x00,
@@ -92,7 +93,11 @@ fn a_store_over_closed_files(rt: HostRuntime) -> Result<(), Fail> {
 fn no_store(rt: HostRuntime) -> Result<(), Fail> {
     for bytes in [[].as_slice(), &[1], &[0, 1, 2], &[2; 60]] {
         let refused = Host::open(rt.alloc(), disk(&rt, bytes)?, disk(&rt, bytes)?, none(&rt));
-        assert_eq!(rt; fault_of(refused), Some(StoreFault::NoGeneration));
+        assert_eq!(rt;
+            fault_of(refused),
+            Some(StoreFault::NoGeneration),
+            "of {bytes:?}"
+        );
     }
     Ok(())
 }
@@ -145,11 +150,20 @@ fn a_first_write_that_fails(rt: HostRuntime) -> Result<(), Fail> {
         let first = FuseDisk::new(disk(&rt, &[])?, calls);
         let second = FuseDisk::new(disk(&rt, &[])?, 100);
         let mut host = host_or_fault(Host::create(rt.alloc(), first, second, none(&rt)))?;
-        assert!(rt; matches!(host.load("m", SOURCE, 1000), Err(Refusal::DeviceFailed)));
-        assert!(rt; matches!(host.load("m", SOURCE, 1000), Err(Refusal::Reopen)));
-        assert!(rt; matches!(host.call("m", "f", &[], 1000), Err(Refusal::Reopen)));
-        assert!(rt; matches!(host.global("m", "n"), Err(Refusal::Reopen)));
-        assert_eq!(rt; host.seq(), 0);
+        let refusals = [
+            host.load("m", SOURCE, 1000).err(),
+            host.load("m", SOURCE, 1000).err(),
+            host.call("m", "f", &[], 1000).err(),
+            host.global("m", "n").err(),
+        ];
+        let expected = [
+            Some(Refusal::DeviceFailed),
+            Some(Refusal::Reopen),
+            Some(Refusal::Reopen),
+            Some(Refusal::Reopen),
+        ];
+        assert_eq!(rt; refusals, expected, "after {calls} calls");
+        assert_eq!(rt; host.seq(), 0, "after {calls} calls");
         let (first, second) = host.close();
         if calls == 3 {
             assert_eq!(rt; first.into_inner().bytes(), EMPTY.as_slice());
@@ -159,30 +173,39 @@ fn a_first_write_that_fails(rt: HostRuntime) -> Result<(), Fail> {
     Ok(())
 }
 
-/// How far a store comes: made, and its host's answers, until a disk fails.
-fn answers(
-    rt: &impl AllocGlobal,
-    first: FuseDisk<MemoryDisk>,
-    second: FuseDisk<MemoryDisk>,
+/// How far a store comes whose disks fail after so many calls: how many requests its host answers, or 3 where it is
+/// opened again after them. Only a failure of a disk may end it.
+fn reached(
+    rt: &(impl AllocGlobal + Abort),
+    first_calls: u64,
+    second_calls: u64,
 ) -> Result<Option<u64>, Fail> {
+    let first = FuseDisk::new(disk(rt, &[])?, first_calls);
+    let second = FuseDisk::new(disk(rt, &[])?, second_calls);
+    let calls = (first_calls, second_calls);
     let mut host = match host_or_fault(Host::create(rt.alloc(), first, second, none(rt))) {
         Ok(host) => host,
-        Err(StoreFault::DeviceFailed) => return Ok(None),
-        Err(fault) => return Err(fault.into()),
+        Err(fault) => {
+            assert_eq!(rt;
+                fault,
+                StoreFault::DeviceFailed,
+                "created by {calls:?} calls"
+            );
+            return Ok(None);
+        }
     };
     let loaded = host.load("m", SOURCE, 1000).is_ok();
     let called = host.call("m", "f", &[Argument::Number(5)], 1000).is_ok();
     let answered = u64::from(loaded) + u64::from(called);
-    if answered != host.seq() {
-        return Err("the number is not that of the answers".into());
-    }
+    assert_eq!(rt; host.seq(), answered, "answers by {calls:?} calls");
     let (first, second) = host.close();
-    match host_or_fault(Host::open(rt.alloc(), first, second, none(rt))) {
-        Ok(host) if host.seq() == 2 => Ok(Some(3)),
-        Ok(_) => Err("opened in another state".into()),
-        Err(StoreFault::DeviceFailed) => Ok(Some(answered)),
-        Err(fault) => Err(fault.into()),
+    let opened = host_or_fault(Host::open(rt.alloc(), first, second, none(rt)));
+    let opened = opened.map(|host| host.seq());
+    if opened == Err(StoreFault::DeviceFailed) {
+        return Ok(Some(answered));
     }
+    assert_eq!(rt; opened, Ok(2), "opened by {calls:?} calls");
+    Ok(Some(3))
 }
 
 #[test]
@@ -204,9 +227,11 @@ fn a_fuse_at_each_call_of_the_first_disk(rt: HostRuntime) -> Result<(), Fail> {
     ];
     let mut calls = 0;
     for answered in expected {
-        let first = FuseDisk::new(disk(&rt, &[])?, calls);
-        let second = FuseDisk::new(disk(&rt, &[])?, 100);
-        assert_eq!(rt; answers(&rt, first, second)?, answered, "{calls} calls");
+        assert_eq!(rt;
+            reached(&rt, calls, 100)?,
+            answered,
+            "{calls} calls of the first disk"
+        );
         calls = calls.saturating_add(1);
     }
     Ok(())
@@ -218,22 +243,41 @@ fn a_fuse_at_each_call_of_the_second_disk(rt: HostRuntime) -> Result<(), Fail> {
     let expected = [None, None, None, Some(2), Some(2), Some(3), Some(3)];
     let mut calls = 0;
     for answered in expected {
-        let first = FuseDisk::new(disk(&rt, &[])?, 100);
-        let second = FuseDisk::new(disk(&rt, &[])?, calls);
-        assert_eq!(rt; answers(&rt, first, second)?, answered, "{calls} calls");
+        assert_eq!(rt;
+            reached(&rt, 100, calls)?,
+            answered,
+            "{calls} calls of the second disk"
+        );
         calls = calls.saturating_add(1);
     }
     Ok(())
 }
 
-/// Whether each crash between two requests leaves disks that open in this state.
-fn survives(
+/// What is found where a crash leaves such parts of two disks: the sequence number and `n`, or why there is no host.
+fn found_after_crash(
     rt: &impl AllocGlobal,
     first: &MemoryDisk,
     second: &MemoryDisk,
-    seq: u64,
-    number: Option<i32>,
-) -> Result<bool, Fail> {
+    survives: Survives,
+) -> Result<String, Fail> {
+    let a = first.crash_image(first.calls(), survives)?;
+    let b = second.crash_image(second.calls(), survives)?;
+    match host_or_fault(Host::open(rt.alloc(), disk(rt, &a)?, disk(rt, &b)?, none(rt))) {
+        Ok(host) => {
+            let found = host.global("m", "n");
+            Ok(format!(in rt.alloc(); "{} {found:?}", host.seq())?)
+        }
+        Err(fault) => Ok(format!(in rt.alloc(); "{fault}")?),
+    }
+}
+
+/// Compares what is found after each crash between two requests.
+fn assert_survives(
+    rt: &(impl AllocGlobal + Abort),
+    first: &MemoryDisk,
+    second: &MemoryDisk,
+    expected: &str,
+) -> Result<(), Fail> {
     for survives in [
         Survives::Nothing,
         Survives::Everything,
@@ -241,36 +285,26 @@ fn survives(
         Survives::Part(2),
         Survives::Part(3),
     ] {
-        let a = first.crash_image(first.calls(), survives)?;
-        let b = second.crash_image(second.calls(), survives)?;
-        let host = host_or_fault(Host::open(rt.alloc(), disk(rt, &a)?, disk(rt, &b)?, none(rt)))?;
-        let is_kept = match (host.global("m", "n"), number) {
-            (Ok(Word::Int(kept)), Some(number)) => kept == number,
-            (Err(Refusal::NoModule), None) => true,
-            _ => false,
-        };
-        if host.seq() != seq || !is_kept {
-            return Ok(false);
-        }
+        let found = found_after_crash(rt, first, second, survives)?;
+        assert_eq!(rt; found.as_str(), expected, "where {survives:?} survives");
     }
-    Ok(true)
+    Ok(())
 }
 
 #[test]
 fn crashes_between_requests(rt: HostRuntime) -> Result<(), Fail> {
     let made = Host::create(rt.alloc(), disk(&rt, &[])?, disk(&rt, &[1])?, none(&rt));
     let (first, second) = host_or_fault(made)?.close();
-    assert!(rt; survives(&rt, &first, &second, 0, None)?);
+    assert_survives(&rt, &first, &second, "0 Err(NoModule)")?;
     let mut host = host_or_fault(Host::open(rt.alloc(), first, second, none(&rt)))?;
     host.load("m", SOURCE, 1000)?;
     let (first, second) = host.close();
-    assert!(rt; survives(&rt, &first, &second, 1, Some(2))?);
+    assert_survives(&rt, &first, &second, "1 Ok(Int(2))")?;
     let mut host = host_or_fault(Host::open(rt.alloc(), first, second, none(&rt)))?;
     host.call("m", "f", &[Argument::Number(-9)], 1000)?;
     let host = host_or_fault(host.reopen())?;
     let (first, second) = host.close();
-    assert!(rt; survives(&rt, &first, &second, 2, Some(-7))?);
-    Ok(())
+    assert_survives(&rt, &first, &second, "2 Ok(Int(-7))")
 }
 
 #[test]
@@ -291,9 +325,9 @@ fn a_file_cut_short(rt: HostRuntime) -> Result<(), Fail> {
         } else {
             StoreFault::Damaged(0)
         };
-        assert_eq!(rt; fault_of(opened), Some(expected), "{length} bytes");
+        assert_eq!(rt; fault_of(opened), Some(expected), "cut to {length} bytes");
     }
-    // What stands behind the file is not read.
+    // What comes after the file is not read.
     let mut longer = Vec::from_slice(rt.alloc(), file)?;
     longer.extend_from_slice(&[1, 2, 3])?;
     let opened = Host::open(rt.alloc(), disk(&rt, &longer)?, disk(&rt, &[0])?, none(&rt));
@@ -354,7 +388,7 @@ fn a_byte_changed(rt: HostRuntime) -> Result<(), Fail> {
     ];
     for (place, byte, expected) in rows {
         let opened = with_byte(&rt, file, place, byte)?;
-        assert_eq!(rt; opened, expected, "{byte} at {place}");
+        assert_eq!(rt; opened, expected, "byte {place} is {byte}");
     }
     Ok(())
 }

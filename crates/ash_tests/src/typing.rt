@@ -1,148 +1,130 @@
-// Scripts with a fault of typing: what a load of them is told, and what a check of them prints.
+//! Scripts with a fault of typing: what a load of them is refused with, and what a check of them prints.
 
-use ash_disk::MemoryDisk;
-use ash_durable::{Host, StoreFault};
+use crate::hosts::loaded;
 use ash_serve::program::check::check_file;
 use ash_serve::program::ending::Ending;
 use ash_serve::program::registrations::registrations;
-use ash_serve::run::run;
+use std::alloc::Global;
+use std::process::Abort;
 use std::test::Fail;
 
-/// What a new host with the program's registrations replies to a load of this source.
-fn loaded(rt: &impl AllocGlobal, source: &[u8]) -> Result<Vec<u8>, Fail> {
-    let alloc = rt.alloc();
-    let (a, b) = (MemoryDisk::new(alloc), MemoryDisk::new(alloc));
-    let made: Result<_, StoreFault> = Host::create(alloc, a, b, registrations(alloc)?).map_err(
-        |refused| refused.fault,
-    );
-    let mut host = made?;
-    let mut requests = Vec::new(alloc);
-    let line = format!(in alloc; "load m {}\n", source.len())
-        .ok()
-        .ok_or("memory ran out")?;
-    requests.extend_from_slice(line.as_bytes())?;
-    requests.extend_from_slice(source)?;
-    requests.extend_from_slice(b"\n")?;
-    let mut replies = Vec::new(alloc);
-    run(alloc, requests.as_slice(), &mut replies, &mut host, 1000)?;
-    Ok(replies)
-}
-
-/// What a check of this source prints, and how the program ends by it.
-fn checked(rt: &impl AllocGlobal, source: &[u8]) -> Result<(Vec<u8>, Ending), Fail> {
-    let alloc = rt.alloc();
+/// Compares what is replied to a load of this source, over the program's registrations, what a check of it prints,
+/// and how the program ends by that.
+fn assert_found(
+    rt: &impl Abort,
+    alloc: Global,
+    source: &str,
+    reply: &str,
+    check: (&str, Ending),
+) -> Result<(), Fail> {
     let registry = registrations(alloc)?;
     let mut printed = Vec::new(alloc);
-    let ending = check_file(alloc, &registry, source, &mut printed)?;
-    Ok((printed, ending))
+    let ending = check_file(alloc, &registry, source.as_bytes(), &mut printed)?;
+    let printed = String::from_utf8(printed)?;
+    assert_eq!(rt; (printed.as_str(), ending), check, "a check of {source}");
+    let replied = loaded(alloc, registry, source.as_bytes())?;
+    assert_eq!(rt; replied.as_str(), reply, "a load of {source}");
+    Ok(())
 }
 
-/// Whether a load of this source is told this line, and a check of it prints the same.
-fn is_refused(rt: &impl AllocGlobal, source: &[u8], line: &[u8]) -> Result<bool, Fail> {
-    let told = loaded(rt, source)?;
-    let (printed, ending) = checked(rt, source)?;
-    Ok(told.as_slice() == line && printed.as_slice() == line && ending == Ending::Refused)
-}
-
-#[test]
-fn the_first_fault_of_the_walk_is_told(rt: HostRuntime) -> Result<(), Fail> {
-    for (source, line) in [
-        (
-            b"int f() { }".as_slice(),
-            b"refused 307 NoReturn 4\n".as_slice(),
-        ),
-        (b"void f() { x = 1; }", b"refused 301 UnknownName 11\n"),
-        (b"Foo x;", b"refused 302 UnknownType 0\n"),
-        (b"int a; int a;", b"refused 303 NameTaken 11\n"),
-        (b"bool b = 1;", b"refused 304 TypeMismatch 9\n"),
-        (
-            b"void g(int k) {} void f() { g(); }",
-            b"refused 305 WrongArgumentCount 28\n",
-        ),
-        (b"void f() { 1 = 2; }", b"refused 306 NotAssignable 11\n"),
-        (b"void f() { break; }", b"refused 308 Misplaced 11\n"),
-        (
-            b"void f(int k) { switch (k) { case 2147483648: } }",
-            b"refused 312 ConstantOutOfRange 34\n",
-        ),
-        (
-            b"void f(int k) { switch (k) { case 1: case 1: } }",
-            b"refused 313 DuplicateCase 42\n",
-        ),
-    ] {
-        assert!(rt; is_refused(&rt, source, line)?);
+/// The same for sources that a load and a check refuse by one line.
+fn assert_refused(rt: &impl Abort, alloc: Global, rows: &[(&str, &str)]) -> Result<(), Fail> {
+    for (source, line) in rows {
+        assert_found(rt, alloc, source, line, (*line, Ending::Refused))?;
     }
     Ok(())
 }
 
 #[test]
-fn classes_that_could_form_cycles_are_told(rt: HostRuntime) -> Result<(), Fail> {
-    for (source, line) in [
-        (
-            b"class Node { Node@ next; }".as_slice(),
-            b"refused 309 CyclicType Node\n".as_slice(),
-        ),
-        (
-            b"class A { B b; } class B { A@ a; }",
-            b"refused 309 CyclicType A B\n",
-        ),
-        (
-            b"class A { B@ b; } class B { B@ n; }",
-            b"refused 309 CyclicType B\n",
-        ),
-    ] {
-        assert!(rt; is_refused(&rt, source, line)?);
-    }
-    Ok(())
+fn the_first_fault_of_the_walk_is_reported(rt: HostRuntime) -> Result<(), Fail> {
+    assert_refused(
+        &rt,
+        rt.alloc(),
+        &[
+            ("int f() { }", "refused 307 NoReturn 4\n"),
+            ("void f() { x = 1; }", "refused 301 UnknownName 11\n"),
+            ("Foo x;", "refused 302 UnknownType 0\n"),
+            ("int a; int a;", "refused 303 NameTaken 11\n"),
+            ("bool b = 1;", "refused 304 TypeMismatch 9\n"),
+            (
+                "void g(int k) {} void f() { g(); }",
+                "refused 305 WrongArgumentCount 28\n",
+            ),
+            ("void f() { 1 = 2; }", "refused 306 NotAssignable 11\n"),
+            ("void f() { break; }", "refused 308 Misplaced 11\n"),
+            (
+                "void f(int k) { switch (k) { case 2147483648: } }",
+                "refused 312 ConstantOutOfRange 34\n",
+            ),
+            (
+                "void f(int k) { switch (k) { case 1: case 1: } }",
+                "refused 313 DuplicateCase 42\n",
+            ),
+        ],
+    )
+}
+
+#[test]
+fn classes_that_could_form_cycles_are_reported(rt: HostRuntime) -> Result<(), Fail> {
+    assert_refused(
+        &rt,
+        rt.alloc(),
+        &[
+            (
+                "class Node { Node@ next; }",
+                "refused 309 CyclicType Node\n",
+            ),
+            (
+                "class A { B b; } class B { A@ a; }",
+                "refused 309 CyclicType A B\n",
+            ),
+            (
+                "class A { B@ b; } class B { B@ n; }",
+                "refused 309 CyclicType B\n",
+            ),
+        ],
+    )
 }
 
 #[test]
 fn registered_names_are_taken(rt: HostRuntime) -> Result<(), Fail> {
-    for (source, line) in [
-        (
-            b"int tally = 1;".as_slice(),
-            b"refused 303 NameTaken 4\n".as_slice(),
-        ),
-        (b"int Counter = 1;", b"refused 303 NameTaken 4\n"),
-        (b"int total() { return 1; }", b"refused 303 NameTaken 4\n"),
-    ] {
-        assert!(rt; is_refused(&rt, source, line)?);
-    }
-    Ok(())
+    assert_refused(
+        &rt,
+        rt.alloc(),
+        &[
+            ("int tally = 1;", "refused 303 NameTaken 4\n"),
+            ("int Counter = 1;", "refused 303 NameTaken 4\n"),
+            ("int total() { return 1; }", "refused 303 NameTaken 4\n"),
+        ],
+    )
 }
 
 #[test]
 fn faults_of_the_layers_below_come_first(rt: HostRuntime) -> Result<(), Fail> {
-    for (source, line) in [
-        (
-            b"Foo x; int \"".as_slice(),
-            b"refused 101 BadCharacter 11\n".as_slice(),
-        ),
-        (b"Foo x; int f( {", b"refused 104 Unexpected 14\n"),
-        (b"Foo x; float y;", b"refused 105 Unsupported float 7\n"),
-        (b"class A { A@ a; } Foo x;", b"refused 302 UnknownType 18\n"),
-    ] {
-        assert!(rt; is_refused(&rt, source, line)?);
-    }
-    Ok(())
+    assert_refused(
+        &rt,
+        rt.alloc(),
+        &[
+            ("Foo x; int \"", "refused 101 BadCharacter 11\n"),
+            ("Foo x; int f( {", "refused 104 Unexpected 14\n"),
+            ("Foo x; float y;", "refused 105 Unsupported float 7\n"),
+            ("class A { A@ a; } Foo x;", "refused 302 UnknownType 18\n"),
+        ],
+    )
 }
 
 #[test]
 fn what_is_sound_and_cannot_run_yet(rt: HostRuntime) -> Result<(), Fail> {
     for (source, reply) in [
-        (b"".as_slice(), b"ok seq 1\n".as_slice()),
+        ("", "ok seq 1\n"),
         (
-            b"int n = 2; int f(int k) { n += k; return n; }",
-            b"ok seq 1\n",
+            "int n = 2; int f(int k) { n += k; return n; }",
+            "ok seq 1\n",
         ),
-        (b"bool b = true;", b"refused 199 NotYet\n"),
-        (b"class Box { Counter@ c; }", b"refused 199 NotYet\n"),
+        ("bool b = true;", "refused 199 NotYet\n"),
+        ("class Box { Counter@ c; }", "refused 199 NotYet\n"),
     ] {
-        let told = loaded(&rt, source)?;
-        assert_eq!(rt; told.as_slice(), reply);
-        let (printed, ending) = checked(&rt, source)?;
-        assert_eq!(rt; printed.as_slice(), b"ok\n".as_slice());
-        assert!(rt; ending == Ending::Well);
+        assert_found(&rt, rt.alloc(), source, reply, ("ok\n", Ending::Well))?;
     }
     Ok(())
 }
