@@ -93,7 +93,7 @@ def build_crate(crate, count, start, log):
     with subprocess.Popen(command, cwd=f"{TOP}/crates/{crate}", **how) as work:
         while work.returncode is None:
             minutes = int(time.monotonic() - start) // 60
-            say(f"proving {count}: {crate}{functions_so_far(begin)}, {minutes} minutes so far")
+            say(f"proving {count}: {crate}{functions_so_far(begin)}, {minutes} min so far")
             try:
                 work.wait(SECONDS_BETWEEN_LINES)
             except subprocess.TimeoutExpired:
