@@ -17,7 +17,7 @@ def processors():
 def time_to_prove():
     """About how long it takes to prove and build ashd here: the time that was measured on the nearest machine below."""
     measured = max((it for it in MINUTES if it <= processors()), default=min(MINUTES))
-    return f"about {MINUTES[measured]} minutes on {measured} processors (here are {processors()})"
+    return f"about {MINUTES[measured]} minutes on {measured} processors (this machine has {processors()})"
 
 
 def uses_of_crates():
