@@ -42,13 +42,14 @@ fn answers<B: HostObject>(
     object: &mut B,
     rows: &[(Ask, &str, &[u8])],
 ) -> Result<(), Fail> {
+    let kind = object.kind();
     for (ask, answer, state) in rows {
         let text = asked(alloc, object, *ask)?;
-        assert_eq!(rt; text.as_str(), *answer, "answer to {ask:?}");
+        assert_eq!(rt; text.as_str(), *answer, "answer of kind {kind} to {ask:?}");
         assert_eq!(rt;
             saved(alloc, object)?.as_slice(),
             *state,
-            "state after {ask:?}"
+            "state of kind {kind} after {ask:?}"
         );
     }
     Ok(())
