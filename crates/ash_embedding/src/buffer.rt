@@ -1,6 +1,7 @@
 //! A kind with a growing state: bytes that scripts put at its end and take from there.
-ghost use Rattle.std.specs.Prelude.{◌≡◌, ◌<◌, ◌≤◌, ◌↔◌, ℕ, List, [], ◌∷◌, length, vec_len};
+ghost use Rattle.std.specs.Prelude.{◌≡◌, ◌<◌, ◌≤◌, ◌↔◌, ℕ, List, [], ◌∷◌, length, vec_len, OnOk, IsErrOf};
 ghost use Rattle.ash_host.specs.Calls.{Invoke, SameRelation};
+ghost use Rattle.ash_host.specs.Saved.{RestoresSaved};
 ghost use Rattle.ash_host.specs.declared.word.Word.{Word};
 ghost use Rattle.ash_embedding.specs.Buffers.{AllowsBuffer};
 
@@ -30,6 +31,7 @@ impl Buffer {
         ensures empty { ⟦<Buffer as HostObject>⟧.state result ≡ [] }
         ensures refuses { (bytes : List ℕ)
             → ⟦<Buffer as HostObject>⟧.refuses result bytes ↔ (1024 < length bytes) }
+        ensures restores { RestoresSaved ⟦<Buffer as HostObject>⟧ result }
         ensures exact { SameRelation (⟦<Buffer as HostObject>⟧.allows result) AllowsBuffer }
     {
         Buffer {
@@ -104,7 +106,11 @@ impl HostObject for Buffer {
         Ok(())
     }
 
-    fn restore(&mut self, bytes: &[u8]) -> Result<(), RestoreFault> {
+    fn restore(&mut self, bytes: &[u8]) -> Result<(), RestoreFault>
+        ensures restored { OnOk result (self.new.bytes.items ≡ bytes.now) }
+        ensures refused { IsErrOf result RestoreFault.Refused ↔ (1024 < length bytes.now) }
+        ensures memory { IsErrOf result RestoreFault.NoMemory → 1024 < length bytes.now → ⊥ }
+    {
         if bytes.len() > CAPACITY {
             return Err(RestoreFault::Refused);
         }

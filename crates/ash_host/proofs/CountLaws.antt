@@ -1,6 +1,6 @@
 -- Laws of counts.
 use Rattle.std.proofs.Common.{◌≡◌, ◌<◌, ◌≤◌, ◌+◌, ℕ, zero, suc, Bool, true, false, cond, List, [], ◌∷◌, ◌⊎◌, inl, inr, refl, sym, subst, ap, ◌∙◌, nat_eq, arith}
-use Rattle.std.specs.Prelude.{Option, None, Some, ◌||◌}
+use Rattle.std.specs.Prelude.{Option, None, Some, Contains, ◌||◌}
 use Rattle.std.specs.Option.{option_map_or, option_map, unwrap_or}
 use Rattle.std.specs.Ordering.{nat_cmp}
 use Rattle.std.specs.BTreeMap.{is_at}
@@ -12,7 +12,7 @@ use Rattle.std.specs.Map.{values_of, lookup}
 use Rattle.std.proofs.lemmas.List.Sums.{sum_by-cons}
 use Rattle.ash_host.specs.declared.word.Word.{Word}
 use Rattle.ash_host.specs.declared.word.Word.TheVariants.{Object}
-use Rattle.ash_host.specs.Objects.{Plain, Objects, object_at, numbers, references, Refers, IsInOrder, handles, handles_to, is_handle_to, fields_of, fields_to, with_at}
+use Rattle.ash_host.specs.Objects.{Plain, Objects, object_at, numbers, references, Refers, IsInOrder, handles, handles_to, is_handle_to, fields_of, fields_to, count_of, with_at}
 use Rattle.ash_host.specs.Reach.{Root, Field, ReachableIn, is_among}
 use Rattle.ash_host.proofs.Membership.{or_cases, or_first, or_second, is_among_yes, is_among_says, refers_lives}
 use Rattle.ash_host.proofs.SweepLaws.{references_same}
@@ -84,6 +84,18 @@ counted_refers {M} (e ∷ l) n o h =
     go false away rest =
         let (one, f) = rest (later (handles_to n (fields_of e.1)) refl away) in
         (one, references_same l (e ∷ l) one n (sym (object_later one e l (none_behind e l one o (refers_lives l one n (is_among_yes n (references l one) f))))) f)
+
+-- what is counted with the globals is held by one of them or referred to, and the other way round
+pub counted_held : {M : Type 0} (globals : List Word) (objects : Objects M) (n : ℕ) → IsInOrder objects → 0 < count_of n globals objects → Contains (handles globals) n ⊎ ((one : ℕ) × Refers objects one n)
+counted_held globals objects n o h = go (handles_to n globals) refl
+  where
+    go : (held : ℕ) → handles_to n globals ≡ held → Contains (handles globals) n ⊎ ((one : ℕ) × Refers objects one n)
+    go zero none = inr (counted_refers objects n o (omega (arith, none, h)))
+    go (suc more) some = inl (is_among_says n (handles globals) (counted_handles n globals (omega (arith, some))))
+
+pub held_counted : {M : Type 0} (globals : List Word) (objects : Objects M) (n : ℕ) → Contains (handles globals) n ⊎ ((one : ℕ) × Refers objects one n) → 0 < count_of n globals objects
+held_counted globals objects n (inl held) = omega (arith, handles_counted n globals (is_among_yes n (handles globals) held))
+held_counted globals objects n (inr (one, f)) = omega (arith, refers_counted objects one n f)
 
 -- what is reachable is held or counted
 pub reachable_counted : {M : Type 0} {IsHeld : ℕ → Type 0} (objects : Objects M) (n : ℕ) → ReachableIn IsHeld objects n → IsHeld n ⊎ (0 < fields_to n objects)

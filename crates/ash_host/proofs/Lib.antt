@@ -4,4 +4,5 @@ pub mod ReachLaws
 pub mod SweepLaws
 pub mod CountLaws
 pub mod RecordLaws
+pub mod NumberLaws
 pub mod ObjectLaws

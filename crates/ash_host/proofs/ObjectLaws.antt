@@ -1,9 +1,10 @@
 -- The laws, as the contracts state them.
-use Rattle.ash_host.specs.Laws.{ReachIsDecided, SweepIsExact, SweepIsOne, SweepSettles, CascadeIsSweep, CountIsReferences, PutIsExact, RecordIsExact}
+use Rattle.ash_host.specs.Laws.{ReachIsDecided, SweepIsExact, SweepIsOne, SweepSettles, CascadeIsSweep, CountIsReferences, PutIsExact, NumbersRise, SweepKeepsLast, RecordIsExact}
 use Rattle.ash_host.proofs.ReachLaws as reach
 use Rattle.ash_host.proofs.SweepLaws as sweep
 use Rattle.ash_host.proofs.CountLaws as counts
 use Rattle.ash_host.proofs.Order as order
+use Rattle.ash_host.proofs.NumberLaws as numbers
 use Rattle.ash_host.proofs.RecordLaws as records
 
 pub reach_is_decided : (M : Type 0) → ReachIsDecided M
@@ -26,7 +27,7 @@ pub cascade_is_sweep : (M : Type 0) → CascadeIsSweep M
 cascade_is_sweep M held rank top old new c closed ranks = sweep.cascade_is_sweep old new c closed ranks
 
 pub count_is_references : (M : Type 0) → CountIsReferences M
-count_is_references M objects number o = (counts.counted_refers objects number o, λ (one, f). counts.refers_counted objects one number f)
+count_is_references M globals objects number o = (counts.counted_held globals objects number o, counts.held_counted globals objects number)
 
 pub put_is_exact : (M : Type 0) → PutIsExact M
 put_is_exact M number object objects o = record {
@@ -34,6 +35,12 @@ put_is_exact M number object objects o = record {
   in_order = order.in_order-with_at number object objects o;
   counts = λ other. counts.fields_to-with_at other number object objects o;
 }
+
+pub numbers_rise : (M : Type 0) → NumbersRise M
+numbers_rise M last object objects numbered = numbers.put_next last object objects numbered
+
+pub sweep_keeps_last : (M : Type 0) → SweepKeepsLast M
+sweep_keeps_last M held last old new dropped numbered s = numbers.swept_numbered held last numbered s
 
 pub record_is_exact : RecordIsExact
 record_is_exact target call before all next left = (records.next_record_says target call before all next left, records.next_record_takes target call before all next left)

@@ -1,8 +1,9 @@
 -- The laws of objects as plain data.
-use Rattle.std.specs.Prelude.{◌≡◌, ◌+◌, ◌<◌, ◌↔◌, ℕ, true, List, [], Some, Contains, nat_eq, if◌then◌else◌}
+use Rattle.std.specs.Prelude.{◌≡◌, ◌⊎◌, ◌+◌, ◌<◌, ◌↔◌, ℕ, true, List, [], Some, Contains, nat_eq, if◌then◌else◌}
 use Rattle.std.specs.Option.{option_map_or}
-use Rattle.ash_host.specs.Objects.{Plain, Objects, object_at, with_at, IsInOrder, Refers, fields_of, fields_to, handles_to}
+use Rattle.ash_host.specs.Objects.{Plain, Objects, object_at, with_at, IsInOrder, AreNumbered, Refers, fields_of, fields_to, handles, handles_to, count_of}
 use Rattle.ash_host.specs.Reach.{ReachableIn, NoneDangles, Swept, Cascaded, AreRanks, hosts_gone, is_reachable, after_sweep, drops_of_sweep}
+use Rattle.ash_host.specs.declared.word.Word.{Word}
 use Rattle.ash_host.specs.declared.event.Target.{Target}
 use Rattle.ash_host.specs.Calls.{HostCall}
 use Rattle.ash_host.specs.Records.{HostRecord, Takes, next_record}
@@ -32,9 +33,9 @@ SweepSettles M = (held : List ℕ) (old new : Objects M) (dropped : List ℕ) �
 abbrev pub CascadeIsSweep : Type 0 → Type 0
 CascadeIsSweep M = (held : List ℕ) (rank : ℕ → ℕ) (top : ℕ) (old new : Objects M) → Cascaded (Contains held) old new → NoneDangles (Contains held) old → AreRanks rank top old → Swept (Contains held) old new (hosts_gone old new)
 
--- a number that is counted is one that some object refers to
+-- an object is counted exactly where a global is a handle to it or an object refers to it
 abbrev pub CountIsReferences : Type 0 → Type 0
-CountIsReferences M = (objects : Objects M) (number : ℕ) → IsInOrder objects → (0 < fields_to number objects) ↔ ((one : ℕ) × Refers objects one number)
+CountIsReferences M = (globals : List Word) (objects : Objects M) (number : ℕ) → IsInOrder objects → (0 < count_of number globals objects) ↔ (Contains (handles globals) number ⊎ ((one : ℕ) × Refers objects one number))
 
 -- what is put at a number stands there, all else stays where it was, and the order stays
 pub record IsPut {M : Type 0} (number : ℕ) (object : Plain M) (old new : Objects M) : Type 0 where
@@ -44,6 +45,14 @@ pub record IsPut {M : Type 0} (number : ℕ) (object : Plain M) (old new : Objec
 
 abbrev pub PutIsExact : Type 0 → Type 0
 PutIsExact M = (number : ℕ) (object : Plain M) (objects : Objects M) → IsInOrder objects → IsPut number object objects (with_at number object objects)
+
+-- an object that is made gets the number after the last, which is then the last
+abbrev pub NumbersRise : Type 0 → Type 0
+NumbersRise M = (last : ℕ) (object : Plain M) (objects : Objects M) → AreNumbered last objects → AreNumbered (last + 1) (with_at (last + 1) object objects)
+
+-- a sweep gives no numbers: the last stays the last
+abbrev pub SweepKeepsLast : Type 0 → Type 0
+SweepKeepsLast M = (held : List ℕ) (last : ℕ) (old new : Objects M) (dropped : List ℕ) → AreNumbered last old → Swept (Contains held) old new dropped → AreNumbered last new
 
 -- the next record is taken exactly where it is of the call
 abbrev pub RecordIsExact : Type 0

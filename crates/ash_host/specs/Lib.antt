@@ -5,4 +5,5 @@ pub mod Kinds
 pub mod Objects
 pub mod Reach
 pub mod Records
+pub mod Saved
 pub mod Laws

@@ -1,5 +1,5 @@
--- What host objects answered, as a list of records, and how a call takes the next of them.
-use Rattle.std.specs.Prelude.{◌≡◌, ℕ, Bool, true, false, ◌&&◌, List, [], ◌∷◌, Option, None, Some, nat_eq, if◌then◌else◌}
+-- What host objects answered, as a list of records, which of them are valid, and how a call takes the next of them.
+use Rattle.std.specs.Prelude.{◌≡◌, ◌≤◌, ℕ, Bool, true, false, ◌&&◌, List, [], ◌∷◌, length, Option, None, Some, nat_eq, if◌then◌else◌}
 use Rattle.std.specs.Ordering.{int_eq}
 use Rattle.std.specs.Bool.{beq}
 use Rattle.std.specs.Cmp.Lexicographic.{pointwise}
@@ -8,7 +8,8 @@ use Rattle.ash_host.specs.declared.word.Word.TheVariants as words
 use Rattle.ash_host.specs.declared.answer.HostAnswer.{HostAnswer}
 use Rattle.ash_host.specs.declared.event.Target.{Target}
 use Rattle.ash_host.specs.declared.event.Target.TheVariants as targets
-use Rattle.ash_host.specs.Calls.{HostCall, Start, Invoke, Get, Set}
+use Rattle.ash_host.specs.declared.host_object.HostObject.{Ghosts}
+use Rattle.ash_host.specs.Calls.{HostCall, Start, Invoke, Get, Set, max_state}
 
 -- one call: whom it went to, what it was, the state before it, the answer, and the state after it
 pub record HostRecord : Type 0 where
@@ -17,6 +18,13 @@ pub record HostRecord : Type 0 where
   pub before : List ℕ
   pub answer : HostAnswer
   pub after : List ℕ
+
+-- A record is valid for the object that answered where it allows the answer and the state after it, from the state
+-- before, and where neither state is longer than a state may be.
+pub record IsValidRecord {B : Type 0} (host : Ghosts B) (object : B) (r : HostRecord) : Type 0 where
+  pub allowed : host.allows object r.call r.before r.answer r.after
+  pub before_fits : length r.before ≤ max_state
+  pub after_fits : length r.after ≤ max_state
 
 -- The next record is of this call, made at this state, and these are left after it.
 pub record Takes (target : Target) (call : HostCall) (before : List ℕ) (records : List HostRecord) (next : HostRecord) (left : List HostRecord) : Type 0 where

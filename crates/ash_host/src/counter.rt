@@ -1,6 +1,7 @@
 //! The kind Counter.
-ghost use Rattle.std.specs.Prelude.{◌≡◌, ◌≢◌, ◌↔◌, ℕ, List, pos, [], ◌∷◌, length};
-ghost use Rattle.ash_host.specs.Calls.{Invoke, SameRelation};
+ghost use Rattle.std.specs.Prelude.{◌≡◌, ◌≢◌, ◌≤◌, ◌↔◌, ℕ, List, pos, [], ◌∷◌, length, OnOk, IsErrOf};
+ghost use Rattle.ash_host.specs.Calls.{Invoke, SameRelation, max_state};
+ghost use Rattle.ash_host.specs.Saved.{RestoresSaved};
 ghost use Rattle.ash_host.specs.declared.word.Word.{Word};
 ghost use Rattle.ash_host.specs.Ints.{int_bytes};
 ghost use Rattle.ash_host.specs.Kinds.{AllowsByInt, counter_step};
@@ -26,6 +27,7 @@ impl Counter {
         ensures zero { ⟦<Counter as HostObject>⟧.state result ≡ int_bytes (pos 0) }
         ensures refuses { (bytes : List ℕ)
             → ⟦<Counter as HostObject>⟧.refuses result bytes ↔ (length bytes ≢ 4) }
+        ensures restores { RestoresSaved ⟦<Counter as HostObject>⟧ result }
         ensures exact { SameRelation (⟦<Counter as HostObject>⟧.allows result) (AllowsByInt counter_step) }
     {
         Counter { value: 0 }
@@ -87,7 +89,11 @@ impl HostObject for Counter {
         save_int(self.value, out)
     }
 
-    fn restore(&mut self, bytes: &[u8]) -> Result<(), RestoreFault> {
+    fn restore(&mut self, bytes: &[u8]) -> Result<(), RestoreFault>
+        ensures restored { OnOk result (int_bytes self.new.value ≡ bytes.now) }
+        ensures refused { IsErrOf result RestoreFault.Refused ↔ (length bytes.now ≢ 4) }
+        ensures memory { IsErrOf result RestoreFault.NoMemory → ⊥ }
+    {
         self.value = int_from_bytes(bytes).ok_or(RestoreFault::Refused)?;
         Ok(())
     }

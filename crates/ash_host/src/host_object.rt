@@ -2,7 +2,7 @@
 ghost use Rattle.std.specs.Prelude.{◌≡◌, ◌≤◌, ◌++◌, ℕ, List, length, OnOk, OnErr, IsErrOf};
 ghost use Rattle.ash_host.specs.declared.answer.HostAnswer.{HostAnswer};
 ghost use Rattle.ash_host.specs.declared.fault.RestoreFault.{RestoreFault};
-ghost use Rattle.ash_host.specs.Calls.{HostCall, Start, Invoke, Get, Set, Relation, SameRelation};
+ghost use Rattle.ash_host.specs.Calls.{HostCall, Start, Invoke, Get, Set, Relation, SameRelation, max_state};
 
 use crate::{HostAnswer, NoMemory, RestoreFault, Word};
 
@@ -23,7 +23,8 @@ pub trait HostObject: Drop {
     /// Whether a call may, from a state, give an answer and leave a state.
     ghost allows: { Self → Relation };
 
-    /// Whether it may refuse these bytes as its state. Of such bytes it doesn't tell that memory ran out.
+    /// Whether it may refuse these bytes as its state. A kind that may refuse what its own objects have saved is not to
+    /// be trusted: that a fresh object of the kind doesn't is `RestoresSaved`.
     ghost refuses: { Self → List ℕ → Type 0 };
 
     /// The number of its kind. It takes no memory.
@@ -35,7 +36,7 @@ pub trait HostObject: Drop {
         ensures allowed { allows self.old (Start args.now) (state self.old) result (state self.new) }
         ensures same_kind { kind_of self.new ≡ kind_of self.old }
         ensures same_relation { SameRelation (allows self.old) (allows self.new) }
-        ensures bounded { length (state self.new) ≤ 1024 };
+        ensures bounded { length (state self.new) ≤ max_state };
 
     /// Runs a method, or a function of a service, by its registered number.
     fn invoke(&mut self, method: u16, args: &[Word]) -> HostAnswer
@@ -43,7 +44,7 @@ pub trait HostObject: Drop {
             (state self.new) }
         ensures same_kind { kind_of self.new ≡ kind_of self.old }
         ensures same_relation { SameRelation (allows self.old) (allows self.new) }
-        ensures bounded { length (state self.new) ≤ 1024 };
+        ensures bounded { length (state self.new) ≤ max_state };
 
     /// The value of a property, by its registered number. It takes no memory.
     fn get(&self, prop: u16) -> Word
@@ -56,23 +57,23 @@ pub trait HostObject: Drop {
             (state self.new) }
         ensures same_kind { kind_of self.new ≡ kind_of self.old }
         ensures same_relation { SameRelation (allows self.old) (allows self.new) }
-        ensures bounded { length (state self.new) ≤ 1024 };
+        ensures bounded { length (state self.new) ≤ max_state };
 
     /// Appends the state. Where memory runs out nothing is appended.
     fn save(&self, out: &mut Vec<u8>) -> Result<(), NoMemory>
         ensures saved { OnOk result (out.new.items ≡ out.old.items ++ state self.now) }
         ensures unchanged { OnErr result (out.new.items ≡ out.old.items) }
-        ensures bounded { length (state self.now) ≤ 1024 };
+        ensures bounded { length (state self.now) ≤ max_state };
 
-    /// Takes these bytes as its state. It refuses bytes that are no state of its kind. After a refusal or want of
-    /// memory its state may be another one.
+    /// Takes these bytes as its state. It refuses bytes that are no state of its kind. Where it is refused, or memory
+    /// runs out, its state may be another one afterwards. Of bytes that it may refuse it may answer either error, since
+    /// a kind may need memory to find them bad.
     fn restore(&mut self, bytes: &[u8]) -> Result<(), RestoreFault>
         ensures restored { OnOk result (state self.new ≡ bytes.now) }
         ensures refused { IsErrOf result RestoreFault.Refused → refuses self.old bytes.now }
-        ensures memory { IsErrOf result RestoreFault.NoMemory → refuses self.old bytes.now → ⊥ }
         ensures same_kind { kind_of self.new ≡ kind_of self.old }
         ensures same_relation { SameRelation (allows self.old) (allows self.new) }
-        ensures bounded { length (state self.new) ≤ 1024 };
+        ensures bounded { length (state self.new) ≤ max_state };
 }
 
 /// A boxed object is the object in the box.

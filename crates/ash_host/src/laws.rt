@@ -1,6 +1,12 @@
-//! The laws of objects as plain data, which the crates above cite. Each function does nothing: its contract is the
-//! law. `M` is what a module is known by.
-ghost use Rattle.ash_host.specs.Laws.{ReachIsDecided, SweepIsExact, SweepIsOne, SweepSettles, CascadeIsSweep, CountIsReferences, PutIsExact, RecordIsExact};
+//! The laws of objects as plain data and of what host objects answer, which the crates above cite. A function without a
+//! body does nothing: its contract is the law. `M` is what a module is known by.
+ghost use Rattle.std.specs.Prelude.{◌≤◌, length};
+ghost use Rattle.ash_host.specs.declared.event.Target.{Target};
+ghost use Rattle.ash_host.specs.Calls.{Invoke, max_state};
+ghost use Rattle.ash_host.specs.Laws.{ReachIsDecided, SweepIsExact, SweepIsOne, SweepSettles, CascadeIsSweep, CountIsReferences, PutIsExact, NumbersRise, SweepKeepsLast, RecordIsExact};
+ghost use Rattle.ash_host.specs.Records.{IsValidRecord};
+
+use crate::{HostAnswer, HostObject, Word};
 
 /// What is reachable can be computed.
 #[tactic(auto, using(crate::proofs::ObjectLaws::reach_is_decided))]
@@ -21,8 +27,7 @@ pub fn cascade_is_sweep<M>()
     ensures { CascadeIsSweep M }
 {}
 
-/// A count is above zero exactly where an object refers.
-#[tactic(auto, using(crate::proofs::ObjectLaws::count_is_references))]
+/// A count is above zero exactly where a global is a handle to the object, or an object refers to it.
 pub fn count_is_references<M>()
     ensures { CountIsReferences M }
 {}
@@ -32,7 +37,27 @@ pub fn put_is_exact<M>()
     ensures { PutIsExact M }
 {}
 
+/// The number of an object that is made is the last from then on, and a sweep leaves the last number as it is.
+pub fn numbers_rise<M>()
+    ensures made { NumbersRise M }
+    ensures swept { SweepKeepsLast M }
+{}
+
 /// A call takes the next record exactly where it is of that call.
 pub fn record_is_exact()
     ensures { RecordIsExact }
 {}
+
+/// Runs a method of an object. What it answers makes a valid record, whichever number the object has.
+pub fn invoke_is_valid<B: HostObject>(object: &mut B, method: u16, args: &[Word]) -> HostAnswer
+    requires { length (B.state object.old) ≤ max_state }
+    ensures { (target : Target) → IsValidRecord B.HostObject object.old (record {
+      target = target;
+      call = Invoke method args.now;
+      before = B.state object.old;
+      answer = result;
+      after = B.state object.new;
+    }) }
+{
+    object.invoke(method, args)
+}

@@ -6,7 +6,8 @@
 //!
 //! In reading order: `word` (values), `answer` (what a call of a host object answers), `fault` (why one isn't saved
 //! or restored), `host_object` (the trait), `counter` and `tally` (the kinds that come with the product, with `int`,
-//! the number that they keep).
+//! the number that they keep), `event` (what a request does to host objects), `laws` (of objects, and of what host
+//! objects answer).
 #![tactic(auto)]
 
 mod answer;
@@ -21,6 +22,7 @@ pub mod word;
 
 pub use answer::HostAnswer;
 pub use counter::Counter;
+pub use event::{Event, Target};
 pub use fault::{NoMemory, RestoreFault};
 pub use host_object::HostObject;
 pub use tally::Tally;

@@ -1,6 +1,7 @@
 //! The kind Tally, a service.
-ghost use Rattle.std.specs.Prelude.{◌≡◌, ◌≢◌, ◌↔◌, ℕ, List, pos, [], ◌∷◌, length};
-ghost use Rattle.ash_host.specs.Calls.{Invoke, SameRelation};
+ghost use Rattle.std.specs.Prelude.{◌≡◌, ◌≢◌, ◌≤◌, ◌↔◌, ℕ, List, pos, [], ◌∷◌, length, OnOk, IsErrOf};
+ghost use Rattle.ash_host.specs.Calls.{Invoke, SameRelation, max_state};
+ghost use Rattle.ash_host.specs.Saved.{RestoresSaved};
 ghost use Rattle.ash_host.specs.declared.word.Word.{Word};
 ghost use Rattle.ash_host.specs.Ints.{int_bytes};
 ghost use Rattle.ash_host.specs.Kinds.{AllowsByInt, tally_step};
@@ -26,6 +27,7 @@ impl Tally {
         ensures zero { ⟦<Tally as HostObject>⟧.state result ≡ int_bytes (pos 0) }
         ensures refuses { (bytes : List ℕ)
             → ⟦<Tally as HostObject>⟧.refuses result bytes ↔ (length bytes ≢ 4) }
+        ensures restores { RestoresSaved ⟦<Tally as HostObject>⟧ result }
         ensures exact { SameRelation (⟦<Tally as HostObject>⟧.allows result) (AllowsByInt tally_step) }
     {
         Tally { total: 0 }
@@ -77,7 +79,11 @@ impl HostObject for Tally {
         save_int(self.total, out)
     }
 
-    fn restore(&mut self, bytes: &[u8]) -> Result<(), RestoreFault> {
+    fn restore(&mut self, bytes: &[u8]) -> Result<(), RestoreFault>
+        ensures restored { OnOk result (int_bytes self.new.total ≡ bytes.now) }
+        ensures refused { IsErrOf result RestoreFault.Refused ↔ (length bytes.now ≢ 4) }
+        ensures memory { IsErrOf result RestoreFault.NoMemory → ⊥ }
+    {
         self.total = int_from_bytes(bytes).ok_or(RestoreFault::Refused)?;
         Ok(())
     }
