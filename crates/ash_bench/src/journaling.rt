@@ -31,7 +31,7 @@ fn create<D: Disk + Drop>(alloc: Global, first: D, second: D) -> Result<Journal<
 
 fn append_round<D: Disk>(journal: &mut Journal<D>) -> Result<(), AppendError> {
     for _ in 0..RECORDS {
-        if journal.record_bytes() < 1 << 62 {
+        if journal.is_ready() && journal.record_bytes() < 1 << 62 {
             journal.append(&BODY)?;
         }
     }

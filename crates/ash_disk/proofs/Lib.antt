@@ -1,3 +1,4 @@
 mod Kept
 pub mod MomentLaws
 pub mod TornLaws
+pub mod DeviceLaws

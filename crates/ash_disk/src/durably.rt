@@ -1,8 +1,8 @@
 //! A write and its sync, by which the store changes a file.
 ghost use Rattle.std.specs.Prelude.{◌≡◌, ◌≤◌, length, IsTrue, OnOk};
+ghost use Rattle.ash_disk.specs.Device.{IsDurable, Throughout};
 ghost use Rattle.ash_disk.specs.Failures.{CountsFailure};
-ghost use Rattle.ash_disk.specs.Image.{after_write, Torn, TornFrom, Only};
-ghost use Rattle.ash_disk.specs.Moments.{During};
+ghost use Rattle.ash_disk.specs.Image.{after_write, Torn, TornFrom};
 
 use crate::{DeviceFailed, Disk};
 
@@ -12,11 +12,11 @@ pub fn write_durably<D: Disk>(disk: &mut D, at: u64, bytes: &[u8]) -> Result<(),
     ensures written { OnOk result (IsTrue (D.honest disk.old) → at ≤ length (D.seen disk.old)
         → D.seen disk.new ≡ after_write (D.seen disk.old) at bytes.now) }
     ensures durable { OnOk result (IsTrue (D.honest disk.old) → at ≤ length (D.seen disk.old)
-        → Only (D.seen disk.new) (D.leaves disk.new (D.clock disk.new))) }
+        → IsDurable D.Disk disk.new) }
     ensures in_part { IsTrue (D.honest disk.old) → at ≤ length (D.seen disk.old)
         → Torn at (length bytes.now) (D.seen disk.old) (D.seen disk.new) }
     ensures moments { IsTrue (D.honest disk.old) → at ≤ length (D.seen disk.old)
-        → During (D.clock disk.old) (D.clock disk.new) (D.leaves disk.old) (D.leaves disk.new)
+        → Throughout D.Disk disk.old disk.new
         (TornFrom at (length bytes.now) (D.leaves disk.old (D.clock disk.old))) }
     ensures honesty { D.honest disk.new ≡ D.honest disk.old }
     ensures cause { CountsFailure result (D.failures disk.old) (D.failures disk.new) }

@@ -5,8 +5,9 @@
 //! In reading order: `failure` (the one error and its count), `disk` (the trait), `durably` (a write and its sync),
 //! `file` (a file of the system), `fuse` (a disk that fails from a chosen call on), `memory` (a disk in memory, with
 //! `call` and `bytes`, what it keeps and how it writes), `crash` (what a crash may leave of it, for tests). The words
-//! of the clauses stand in `specs/Image` (files and torn writes) and `specs/Moments` (times), and the laws about them
-//! in `proofs/TornLaws` and `proofs/MomentLaws`.
+//! of the clauses are in `specs/Image` (files and torn writes), `specs/Moments` (times) and `specs/Device` (a disk during
+//! calls, which the crates above speak of by `D.Disk`), and the laws about them in `proofs/TornLaws`, `proofs/MomentLaws`
+//! and `proofs/DeviceLaws`.
 #![tactic(auto)]
 
 mod bytes;

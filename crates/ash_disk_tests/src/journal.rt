@@ -13,14 +13,20 @@ mod faults;
 
 // Appends where the conditions of the call hold.
 fn add<D: Disk>(journal: &mut Journal<D>, body: &[u8]) -> Result<(), AppendError> {
+    if !journal.is_ready() {
+        return Err(AppendError::DeviceFailed);
+    }
     if journal.record_bytes() >= 1 << 62 || body.len() >= 1 << 32 {
         return Err(AppendError::NoMemory);
     }
     journal.append(body)
 }
 
-// Installs where the condition of the call holds.
+// Installs where the conditions of the call hold.
 fn put<D: Disk>(journal: &mut Journal<D>, image: &[u8]) -> Result<(), InstallError> {
+    if !journal.is_ready() {
+        return Err(InstallError::DeviceFailed);
+    }
     if image.len() >= 1 << 32 {
         return Err(InstallError::NoMemory);
     }

@@ -2,8 +2,7 @@
 use Rattle.std.proofs.Common.{◌≡◌, inl, inr, ℕ, ◌-◌, ◌≤◌, Bool, true, false, not, nat_eq, IsTrue, List, length, Result, MatchResult, sym, ◌∙◌, subst, arith}
 use Rattle.std.proofs.lemmas.Bool.{cases_eq, cases_lt, eq-eqb, ne_eqb}
 use Rattle.std.proofs.lemmas.Result.{MatchResult-weaker}
-use Rattle.ash_disk.specs.Image.{Only}
-use Rattle.ash_disk.specs.Moments.{During}
+use Rattle.ash_disk.specs.Device.{Device, IsDurable}
 use Rattle.ash_journal.specs.declared.beside.Beside.{Beside}
 use Rattle.ash_journal.specs.declared.beside.Beside.TheVariants.{Shut, Older, Stray}
 use Rattle.ash_journal.specs.declared.error.OpenFault.{OpenFault}
@@ -12,16 +11,14 @@ use Rattle.ash_journal.specs.declared.opening.Choice.{Choice}
 use Rattle.ash_journal.specs.declared.reading.Reading.{Reading}
 use Rattle.ash_journal.specs.declared.record.Record.{Record}
 use Rattle.ash_journal.specs.Beside.{first_of, second_of, OtherIs}
-use Rattle.ash_journal.specs.Current.{IsBehind, Among}
+use Rattle.ash_journal.specs.Current.{IsBehind, Represent}
 use Rattle.ash_journal.specs.Journal.{EndIs, FilesAre}
 use Rattle.ash_journal.specs.Layout.{HasMark}
 use Rattle.ash_journal.specs.Opening.{ChoiceIs, ContentsAre, FaultIs}
-use Rattle.ash_journal.specs.Reading.{IsRead, IsCutFault, IsOnlyRead, bodies_of}
-use Rattle.ash_journal.specs.Runs.{Run}
+use Rattle.ash_journal.specs.Reading.{IsRead, IsCutFault, bodies_of}
 use Rattle.ash_journal.proofs.LayoutLaws.{length-solid}
-use Rattle.ash_journal.proofs.SettleLaws.{aside_behind}
-use Rattle.ash_journal.proofs.FilesLaws.{found_among}
-use Rattle.ash_journal.proofs.RunLaws.{settle_now}
+use Rattle.ash_journal.proofs.SettleLaws.{aside_behind, represent_turned}
+use Rattle.ash_journal.proofs.FilesLaws.{found_represented}
 
 pub other_behind : (beside : Beside) (g : ℕ) (file : List ℕ) → OtherIs beside g file → IsBehind g file
 other_behind Shut g file is = aside_behind g file (inl is)
@@ -64,8 +61,8 @@ stray_is gate = elim (cases_eq gate 0) [
   | inr other ↦ subst (λ (s : Bool). EndIs (not s) gate) (sym (ne_eqb gate 0 other)) other
 ]
 
-module _ {D : Type 0} (honest : D → Bool) (seen : D → List ℕ) (clock : D → ℕ) (leaves : D → ℕ → List ℕ → Type 0) where
-  files_read : (c o : D) (x y : List ℕ) (beside : Beside) (g end gate size : ℕ) (image : List ℕ) (found : List Record) → IsTrue (honest c) → IsTrue (honest o) → seen c ≡ x → seen o ≡ y → Only (seen c) (leaves c (clock c)) → Only (seen o) (leaves o (clock o)) → IsRead g image found end gate x → OtherIs beside g y → size ≡ end - 21 - length image → FilesAre honest seen clock leaves g end size (not (nat_eq gate 0)) beside c o image (bodies_of found)
+module _ {D : Type 0} (device : Device D) where
+  files_read : (c o : D) (x y : List ℕ) (beside : Beside) (g end gate size : ℕ) (image : List ℕ) (found : List Record) → IsTrue (device.honest c) → IsTrue (device.honest o) → device.seen c ≡ x → device.seen o ≡ y → IsDurable device c → IsDurable device o → IsRead g image found end gate x → OtherIs beside g y → size ≡ end - 21 - length image → FilesAre device g end size (not (nat_eq gate 0)) beside c o image (bodies_of found)
   files_read c o x y beside g end gate size image found honest_c honest_o seen_c seen_o only_c only_o read other size_is = record {
     current_honest = honest_c;
     other_honest = honest_o;
@@ -82,36 +79,22 @@ module _ {D : Type 0} (honest : D → Bool) (seen : D → List ℕ) (clock : D �
     other_durable = only_o;
   }
 
-  pub open_files : (swapped : Bool) (a b : D) (x y : List ℕ) (beside : Beside) (g end gate size : ℕ) (image : List ℕ) (found : List Record) → IsTrue (honest a) → IsTrue (honest b) → seen a ≡ x → seen b ≡ y → Only (seen a) (leaves a (clock a)) → Only (seen b) (leaves b (clock b)) → IsRead g image found end gate (first_of swapped x y) → OtherIs beside g (second_of swapped x y) → size ≡ end - 21 - length image → FilesAre honest seen clock leaves g end size (not (nat_eq gate 0)) beside (first_of swapped a b) (second_of swapped a b) image (bodies_of found)
+  pub open_files : (swapped : Bool) (a b : D) (x y : List ℕ) (beside : Beside) (g end gate size : ℕ) (image : List ℕ) (found : List Record) → IsTrue (device.honest a) → IsTrue (device.honest b) → device.seen a ≡ x → device.seen b ≡ y → IsDurable device a → IsDurable device b → IsRead g image found end gate (first_of swapped x y) → OtherIs beside g (second_of swapped x y) → size ≡ end - 21 - length image → FilesAre device g end size (not (nat_eq gate 0)) beside (first_of swapped a b) (second_of swapped a b) image (bodies_of found)
   open_files false a b x y beside g end gate size image found honest_a honest_b seen_a seen_b only_a only_b read other size_is =
       files_read a b x y beside g end gate size image found honest_a honest_b seen_a seen_b only_a only_b read other size_is
   open_files true a b x y beside g end gate size image found honest_a honest_b seen_a seen_b only_a only_b read other size_is =
       files_read b a y x beside g end gate size image found honest_b honest_a seen_b seen_a only_b only_a read other size_is
-
-  -- disks that were only read settle on what they did
-  pub read_run : (a b : ℕ) (first second first' second' : D) (pairs : List (List ℕ × List (List ℕ))) → IsTrue (honest first) → IsTrue (honest second) → IsOnlyRead honest seen clock leaves first first' → IsOnlyRead honest seen clock leaves second second' → Run clock leaves a b first second pairs → Run clock leaves a b first' second' pairs
-  read_run a b first second first' second' pairs honest_first honest_second one two run = record {
-    first_began = omega (arith, run.first_began, (one.moments honest_first).later);
-    second_began = omega (arith, run.second_began, (two.moments honest_second).later);
-    moments = λ s t x y from_s to_s from_t to_t left_x left_y.
-        let at_x = past (clock first) (clock first') (leaves first) (leaves first') a run.first_began (one.moments honest_first) s x from_s to_s left_x in
-        let at_y = past (clock second) (clock second') (leaves second) (leaves second') b run.second_began (two.moments honest_second) t y from_t to_t left_y in
-        run.moments at_x.0 at_y.0 x y at_x.1 at_x.2 at_y.1 at_y.2 at_x.3 at_y.3;
-  }
-    where
-      -- what may be left at a moment of reading might have been left before
-      past : (now end : ℕ) (before after : ℕ → List ℕ → Type 0) (a : ℕ) → a ≤ now → During now end before after (before now) → (s : ℕ) (x : List ℕ) → a ≤ s → s ≤ end → after s x → (time : ℕ) × (a ≤ time) × (time ≤ now) × before time x
-      past now end before after a began call s x from to left = elim (cases_lt now s) [
-        | inl late ↦ (now, began, omega arith, call.each s x (omega (arith, late)) to left)
-        | inr early ↦ (s, from, early, call.no_more s x early left)
-      ]
 
 -- two disks that were placed by which is current are the first and the second
 pub placed : {D : Type 0} (swapped : Bool) (first second current other : D) → current ≡ first_of swapped first second → other ≡ second_of swapped first second → (first_of swapped current other ≡ first) × (second_of swapped current other ≡ second)
 placed false first second current other current_is other_is = (current_is, other_is)
 placed true first second current other current_is other_is = (other_is, current_is)
 
--- what was found is among what the disks settle on
-pub open_among : {D : Type 0} (honest : D → Bool) (seen : D → List ℕ) (clock : D → ℕ) (leaves : D → ℕ → List ℕ → Type 0) (swapped : Bool) (a b number end size : ℕ) (stray : Bool) (beside : Beside) (c o : D) (image : List ℕ) (bodies : List (List ℕ)) (pairs : List (List ℕ × List (List ℕ))) → FilesAre honest seen clock leaves number end size stray beside c o image bodies → leaves c (clock c) (seen c) → leaves o (clock o) (seen o) → Run clock leaves a b (first_of swapped c o) (second_of swapped c o) pairs → Among (image, bodies) pairs
-open_among honest seen clock leaves swapped a b number end size stray beside c o image bodies pairs files left_c left_o run =
-    found_among honest seen clock leaves number end size stray beside c o image bodies pairs files (other_behind beside number (seen o) files.other_is) (settle_now clock leaves swapped c o (seen c) (seen o) pairs a b left_c left_o run)
+-- the files as they were read represent what was found
+pub open_represented : {D : Type 0} (device : Device D) (swapped : Bool) (a b : D) (x y : List ℕ) (beside : Beside) (g end gate size : ℕ) (image : List ℕ) (bodies : List (List ℕ)) (stray : Bool) → device.seen a ≡ x → device.seen b ≡ y → FilesAre device g end size stray beside (first_of swapped a b) (second_of swapped a b) image bodies → Represent (image, bodies) x y
+open_represented device false a b x y beside g end gate size image bodies stray seen_a seen_b files =
+    subst (λ (l : List ℕ). Represent (image, bodies) l y) seen_a (subst (λ (l : List ℕ). Represent (image, bodies) (device.seen a) l) seen_b
+    (found_represented device g end size stray beside a b image bodies files (other_behind beside g (device.seen b) files.other_is)))
+open_represented device true a b x y beside g end gate size image bodies stray seen_a seen_b files =
+    subst (λ (l : List ℕ). Represent (image, bodies) l y) seen_a (subst (λ (l : List ℕ). Represent (image, bodies) (device.seen a) l) seen_b
+    (represent_turned (image, bodies) (device.seen b) (device.seen a) (found_represented device g end size stray beside b a image bodies files (other_behind beside g (device.seen a) files.other_is))))

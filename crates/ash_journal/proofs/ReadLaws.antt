@@ -1,17 +1,17 @@
 -- What bytes that were read say of a file.
 use Rattle.std.proofs.Common.{◌≡◌, inl, inr, ℕ, ◌+◌, ◌-◌, ◌<◌, ◌≤◌, ◌^◌, Bool, true, false, not, IsTrue, List, [], ◌∷◌, ◌++◌, length, take, drop, get_or, refl, sym, ◌∙◌, ap, subst, arith, append_assoc, length-append, length-drop, take-append-drop}
-use Rattle.std.proofs.lemmas.Bool.{false≢true, not-false}
+use Rattle.std.proofs.lemmas.Bool.{false≢true, not-false, cases_lt}
 use Rattle.std.proofs.lemmas.List.{take_at, drop_at, take_all, get_or-drop, drop-drop, map_push}
 use Rattle.std.proofs.lemmas.Slice.Eq.{bytes_eq-Decides}
 use Rattle.std.specs.Str.{bytes_eq}
 use Rattle.byteorder.specs.Endian.{little_number}
 use Rattle.ash_journal.specs.Layout.{magic, eight_bytes, four_bytes, mark, block, records, solid, Fits, IsOpen, IsShut, IsCut, IsCutAt, HasMark, LacksMark}
 use Rattle.ash_disk.specs.Image.{bytes_at}
-use Rattle.ash_disk.specs.Moments.{During}
-use Rattle.ash_journal.specs.Writes.{IsIdle, AreIdle, WhileStarted, WhileCreated}
-use Rattle.ash_disk.proofs.MomentLaws.{at_start, at_end, goes_on, weaker}
+use Rattle.ash_disk.specs.Device.{Device, IsOnlyRead, Throughout}
+use Rattle.ash_journal.specs.Writes.{IsIdle, AreIdle, HasRested, WhileStarted, WhileCreated}
+use Rattle.ash_disk.proofs.MomentLaws.{at_end, goes_on, weaker}
 use Rattle.ash_journal.specs.declared.record.Record.{Record}
-use Rattle.ash_journal.specs.Reading.{IsBlock, IsReadTo, IsOnlyRead, AreAt, bodies_of}
+use Rattle.ash_journal.specs.Reading.{IsBlock, IsReadTo, AreAt, bodies_of}
 use Rattle.ash_journal.proofs.LayoutLaws.{AreBytes, eight_back, length-mark, length-block, length-solid, records-nil, records-cons, solid-push, solid_alone}
 use Rattle.ash_journal.proofs.SettleLaws.{fits_push, grown}
 
@@ -138,21 +138,6 @@ read_more g image file found r at gate next end is_open so_far is_block gate_is 
     pushed : bodies_of (found ++ r ∷ []) ≡ bodies_of found ++ r.body.items ∷ []
     pushed = map_push (λ (q : Record). q.body.items) found r
 
--- ---- disks that are only read
-
-pub read_none : {D : Type 0} (honest : D → Bool) (seen : D → List ℕ) (clock : D → ℕ) (leaves : D → ℕ → List ℕ → Type 0) (d : D) → IsOnlyRead honest seen clock leaves d d
-read_none honest seen clock leaves d = record { honesty = refl; same = λ _. refl; moments = λ _. at_start (clock d) (leaves d) (leaves d (clock d)) (λ image left. left) }
-
-pub read_on : {D : Type 0} (honest : D → Bool) (seen : D → List ℕ) (clock : D → ℕ) (leaves : D → ℕ → List ℕ → Type 0) (a b c : D) → IsOnlyRead honest seen clock leaves a b → IsOnlyRead honest seen clock leaves b c → IsOnlyRead honest seen clock leaves a c
-read_on honest seen clock leaves a b c one two = record {
-  honesty = two.honesty ∙ one.honesty;
-  same = λ is. two.same (subst IsTrue (sym one.honesty) is) ∙ one.same is;
-  moments = λ is.
-      let first = one.moments is in
-      goes_on (clock a) (clock b) (clock c) (leaves a) (leaves b) (leaves c) (leaves a (clock a)) first
-      (weaker (clock b) (clock c) (leaves b) (leaves c) (leaves b (clock b)) (leaves a (clock a)) (at_end (clock a) (clock b) (leaves a) (leaves b) (leaves a (clock a)) first) (two.moments (subst IsTrue (sym one.honesty) is)));
-}
-
 -- ---- a generation
 
 behind_mark : (g : ℕ) (file : List ℕ) (marked : HasMark g file) → drop 17 file ≡ marked.rest
@@ -175,22 +160,41 @@ length-alone g image = omega (arith, length-solid g image [], ap length records-
 
 -- ---- files that were idle before
 
+fewer_idle : (more images : List ℕ → Type 0) → AreIdle more → ((image : List ℕ) → images image → more image) → AreIdle images
+fewer_idle more images (inl tiny) all = inl (λ image left. tiny image (all image left))
+fewer_idle more images (inr shut) all = inr (λ image left. shut image (all image left))
+
 -- disks that were only read are as idle as they were
-pub read_idle : {D : Type 0} (honest : D → Bool) (seen : D → List ℕ) (clock : D → ℕ) (leaves : D → ℕ → List ℕ → Type 0) (a b : D) → IsTrue (honest a) → IsOnlyRead honest seen clock leaves a b → AreIdle (leaves a (clock a)) → AreIdle (leaves b (clock b))
-read_idle honest seen clock leaves a b is read (inl tiny) =
-    inl (λ image left. tiny image (at_end (clock a) (clock b) (leaves a) (leaves b) (leaves a (clock a)) (read.moments is) image left))
-read_idle honest seen clock leaves a b is read (inr shut) =
-    inr (λ image left. shut image (at_end (clock a) (clock b) (leaves a) (leaves b) (leaves a (clock a)) (read.moments is) image left))
+pub read_idle : {D : Type 0} (device : Device D) (a b : D) → IsTrue (device.honest a) → IsOnlyRead device a b → AreIdle (device.leaves a (device.clock a)) → AreIdle (device.leaves b (device.clock b))
+read_idle device a b is read idle =
+    fewer_idle (device.leaves a (device.clock a)) (device.leaves b (device.clock b)) idle (at_end (device.clock a) (device.clock b) (device.leaves a) (device.leaves b) (device.leaves a (device.clock a)) (read.moments is))
+
+-- and a disk that has rested has done so still when it was looked at
+pub rested_read : {D : Type 0} (device : Device D) (since : ℕ) (a b : D) → IsTrue (device.honest a) → IsOnlyRead device a b → HasRested device since a → HasRested device since b
+rested_read device since a b is read rested = record {
+  began = omega (arith, rested.began, (read.moments is).later);
+  idle = λ time from to. elim (cases_lt (device.clock a) time) [
+    | inl late ↦ fewer_idle (device.leaves a (device.clock a)) (device.leaves b time) (rested.idle (device.clock a) rested.began (omega arith)) (λ image left. (read.moments is).each time image (omega (arith, late)) to left)
+    | inr early ↦ fewer_idle (device.leaves a time) (device.leaves b time) (rested.idle time from early) (λ image left. (read.moments is).no_more time image early left)
+  ];
+}
 
 one_idle : (images : List ℕ → Type 0) → AreIdle images → (image : List ℕ) → images image → IsIdle image
 one_idle images (inl tiny) image left = inl (tiny image left)
 one_idle images (inr shut) image left = inr (shut image left)
 
+-- what is left since a disk began to rest, through calls that leave images with P
+pub since_rested : {D : Type 0} (device : Device D) (since : ℕ) (a b : D) (P : List ℕ → Type 0) → HasRested device since a → ((image : List ℕ) → IsIdle image → P image) → Throughout device a b P → (time : ℕ) (image : List ℕ) → since ≤ time → time ≤ device.clock b → device.leaves b time image → P image
+since_rested device since a b P rested so call time image from to left = elim (cases_lt (device.clock a) time) [
+  | inl late ↦ call.each time image (omega (arith, late)) to left
+  | inr early ↦ so image (one_idle (device.leaves a time) (rested.idle time from early) image (call.no_more time image early left))
+]
+
 -- reading, and then what leaves images with P
-pub idle_goes_on : {D : Type 0} (honest : D → Bool) (seen : D → List ℕ) (clock : D → ℕ) (leaves : D → ℕ → List ℕ → Type 0) (a b c : D) (P : List ℕ → Type 0) → IsTrue (honest a) → IsOnlyRead honest seen clock leaves a b → AreIdle (leaves a (clock a)) → ((image : List ℕ) → IsIdle image → P image) → During (clock b) (clock c) (leaves b) (leaves c) P → During (clock a) (clock c) (leaves a) (leaves c) P
-idle_goes_on honest seen clock leaves a b c P is read idle so call =
-    goes_on (clock a) (clock b) (clock c) (leaves a) (leaves b) (leaves c) P
-    (weaker (clock a) (clock b) (leaves a) (leaves b) (leaves a (clock a)) P (λ image left. so image (one_idle (leaves a (clock a)) idle image left)) (read.moments is)) call
+pub idle_goes_on : {D : Type 0} (device : Device D) (a b c : D) (P : List ℕ → Type 0) → IsTrue (device.honest a) → IsOnlyRead device a b → AreIdle (device.leaves a (device.clock a)) → ((image : List ℕ) → IsIdle image → P image) → Throughout device b c P → Throughout device a c P
+idle_goes_on device a b c P is read idle so call =
+    goes_on (device.clock a) (device.clock b) (device.clock c) (device.leaves a) (device.leaves b) (device.leaves c) P
+    (weaker (device.clock a) (device.clock b) (device.leaves a) (device.leaves b) (device.leaves a (device.clock a)) P (λ image left. so image (one_idle (device.leaves a (device.clock a)) idle image left)) (read.moments is)) call
 
 pub started_created : (image file left : List ℕ) → WhileStarted (mark 1 ++ (block image ++ 0 ∷ [])) file left → WhileCreated image left
 started_created image file left (inl idle) = inl idle

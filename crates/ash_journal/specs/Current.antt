@@ -1,6 +1,18 @@
--- What two files stand for, and what they settle on once a repair is done.
+-- What two files represent, and what they settle on once a repair is done.
 use Rattle.std.specs.Prelude.{◌≡◌, ◌≢◌, ◌⊎◌, ℕ, zero, suc, ◌<◌, List, [], ◌∷◌, ◌++◌}
 use Rattle.ash_journal.specs.Layout.{solid, Fits, IsFile, IsClosed, IsShut, HasMark}
+
+-- the image of a generation, and the records that were added to it
+abbrev pub Contents : Type 0
+Contents = List ℕ × List (List ℕ)
+
+-- these contents and no others
+abbrev pub Is : Contents → Contents → Type 0
+Is contents other = other ≡ contents
+
+-- contents of which one or the other holds
+abbrev pub Either : (Contents → Type 0) → (Contents → Type 0) → Contents → Type 0
+Either P Q contents = P contents ⊎ Q contents
 
 -- a file that is closed, or open with an older generation
 abbrev pub IsBehind : ℕ → List ℕ → Type 0
@@ -11,20 +23,15 @@ pub record IsCurrent (generation : ℕ) (image : List ℕ) (bodies : List (List 
   pub file : IsFile generation image bodies current
   pub older : IsBehind generation other
 
--- two files stand for an image and records
-abbrev pub StandFor : List ℕ × List (List ℕ) → List ℕ → List ℕ → Type 0
-StandFor pair first second =
-    ((generation : ℕ) × IsCurrent generation pair.0 pair.1 first second)
-    ⊎ ((generation : ℕ) × IsCurrent generation pair.0 pair.1 second first)
+-- two files represent these contents: those of the current file
+abbrev pub Represent : Contents → List ℕ → List ℕ → Type 0
+Represent contents first second =
+    ((generation : ℕ) × IsCurrent generation contents.0 contents.1 first second)
+    ⊎ ((generation : ℕ) × IsCurrent generation contents.0 contents.1 second first)
 
--- one of these
-abbrev pub Among : List ℕ × List (List ℕ) → List (List ℕ × List (List ℕ)) → Type 0
-Among pair [] = ⊥
-Among pair (p ∷ pairs) = (pair ≡ p) ⊎ Among pair pairs
-
--- two files stand for one of these
-abbrev pub StandForOne : List (List ℕ × List (List ℕ)) → List ℕ → List ℕ → Type 0
-StandForOne pairs first second = (pair : List ℕ × List (List ℕ)) × Among pair pairs × StandFor pair first second
+-- two files represent contents of which P holds
+abbrev pub RepresentOne : (Contents → Type 0) → List ℕ → List ℕ → Type 0
+RepresentOne P first second = (contents : Contents) × P contents × Represent contents first second
 
 -- the file with 1 for its first gate
 abbrev pub reopened : List ℕ → List ℕ
@@ -73,8 +80,19 @@ ReopensTimes zero first second first_after second_after = (first_after ≡ first
 ReopensTimes (suc n) first second first_after second_after =
     (x : List ℕ) × (y : List ℕ) × Reopens first second x y × ReopensTimes n x y first_after second_after
 
--- Two files stand for one of these, and so do they with 1 for any gates that a repair would write over: a repair that
--- a crash cuts short may leave 1 there.
-abbrev pub SettleOn : List (List ℕ × List (List ℕ)) → List ℕ → List ℕ → Type 0
-SettleOn pairs first second =
-    (n : ℕ) (x y : List ℕ) → ReopensTimes n first second x y → StandForOne pairs x y
+-- Two files represent contents of which P holds, and so do they with 1 for any gates that a repair would write over: a
+-- repair that a crash cuts short may leave 1 there.
+abbrev pub SettleOn : (Contents → Type 0) → List ℕ → List ℕ → Type 0
+SettleOn P first second =
+    (n : ℕ) (x y : List ℕ) → ReopensTimes n first second x y → RepresentOne P x y
+
+-- these are contents that a repair of two files may come to
+abbrev pub MaySettleOn : List ℕ → List ℕ → Contents → Type 0
+MaySettleOn first second contents =
+    (n : ℕ) × (x : List ℕ) × (y : List ℕ) × ReopensTimes n first second x y × Represent contents x y
+
+-- Wherever each repair of two files comes to some contents, each repair of the other two comes to new contents, or to
+-- some that a repair of the first two may come to.
+abbrev pub SettleFurther : (Contents → Type 0) → List ℕ → List ℕ → List ℕ → List ℕ → Type 0
+SettleFurther IsNew first second first_after second_after =
+    SettleOn (MaySettleOn first second) first second → SettleOn (Either IsNew (MaySettleOn first second)) first_after second_after

@@ -1,10 +1,11 @@
 -- What a journal shows, and what its files hold.
 use Rattle.std.specs.Prelude.{◌≡◌, ◌≢◌, ℕ, Bool, true, false, IsTrue, List, [], ◌∷◌, ◌++◌, length}
-use Rattle.ash_disk.specs.Image.{Only}
+use Rattle.ash_disk.specs.Device.{Device, IsDurable}
 use Rattle.ash_journal.specs.declared.journal.Journal.{Journal}
 use Rattle.ash_journal.specs.declared.beside.Beside.{Beside}
 use Rattle.ash_journal.specs.declared.beside.Beside.TheVariants.{Shut, Older}
 use Rattle.ash_journal.specs.Layout.{solid, records, Fits}
+use Rattle.ash_journal.specs.Current.{Is}
 use Rattle.ash_journal.specs.Beside.{first_of, second_of, is_stray, OtherIs}
 use Rattle.ash_journal.specs.Runs.{Run}
 
@@ -51,35 +52,44 @@ NothingIsOwed _ _ = ⊥
 
 -- Two honest disks hold this image and these records, all of it on the devices, and a journal knows what it needs of
 -- them.
-pub record FilesAre {D : Type 0} (honest : D → Bool) (seen : D → List ℕ) (clock : D → ℕ) (leaves : D → ℕ → List ℕ → Type 0) (number end size : ℕ) (stray : Bool) (beside : Beside) (current other : D) (image : List ℕ) (bodies : List (List ℕ)) : Type 0 where
-  pub current_honest : IsTrue (honest current)
-  pub other_honest : IsTrue (honest other)
+pub record FilesAre {D : Type 0} (device : Device D) (number end size : ℕ) (stray : Bool) (beside : Beside) (current other : D) (image : List ℕ) (bodies : List (List ℕ)) : Type 0 where
+  pub current_honest : IsTrue (device.honest current)
+  pub other_honest : IsTrue (device.honest other)
   pub gate : ℕ
   pub behind : List ℕ
   pub shut : gate ≢ 1
-  pub bytes : seen current ≡ solid number image bodies ++ gate ∷ behind
+  pub bytes : device.seen current ≡ solid number image bodies ++ gate ∷ behind
   pub fits : Fits number image bodies
   pub end_is : end ≡ length (solid number image bodies)
   pub size_is : size ≡ length (records bodies)
   pub owed : EndIs stray gate
-  pub other_is : OtherIs beside number (seen other)
-  pub current_durable : Only (seen current) (leaves current (clock current))
-  pub other_durable : Only (seen other) (leaves other (clock other))
+  pub other_is : OtherIs beside number (device.seen other)
+  pub current_durable : IsDurable device current
+  pub other_durable : IsDurable device other
 
 -- The files hold this image and these records, as `open` finds them: gates may be owed a repair.
-abbrev pub Finds : {D : Type 0} → (D → Bool) → (D → List ℕ) → (D → ℕ) → (D → ℕ → List ℕ → Type 0) → Journal D → List ℕ → List (List ℕ) → Type 0
-Finds honest seen clock leaves j image bodies =
-    FilesAre honest seen clock leaves j.generation j.end j.record_bytes j.stray j.beside j.current j.other image bodies
+abbrev pub Finds : {D : Type 0} → Device D → Journal D → List ℕ → List (List ℕ) → Type 0
+Finds device j image bodies =
+    FilesAre device j.generation j.end j.record_bytes j.stray j.beside j.current j.other image bodies
 
 -- nothing is to be written over in a journal's files
-abbrev pub IsReady : {D : Type 0} → Journal D → Type 0
-IsReady j = NothingIsOwed j.stray j.beside
+abbrev pub IsRepaired : {D : Type 0} → Journal D → Type 0
+IsRepaired j = NothingIsOwed j.stray j.beside
 
--- The files hold this image and these records, nothing is owed, and they settle on them alone: the journal is ready.
-pub record Holds {D : Type 0} (honest : D → Bool) (seen : D → List ℕ) (clock : D → ℕ) (leaves : D → ℕ → List ℕ → Type 0) (j : Journal D) (image : List ℕ) (bodies : List (List ℕ)) : Type 0 where
-  pub files : Finds honest seen clock leaves j image bodies
-  pub ready : NothingIsOwed j.stray j.beside
-  pub run : Run clock leaves (clock (first_disk j)) (clock (second_disk j)) (first_disk j) (second_disk j) ((image, bodies) ∷ [])
+-- a device failed in a call of the journal: it is to be opened again
+abbrev pub HasFailed : {D : Type 0} → Journal D → Type 0
+HasFailed j = j.failed ≡ true
+
+-- Records and generations may be written: no call of the journal has failed, and nothing is to be written over.
+pub record IsReady {D : Type 0} (j : Journal D) : Type 0 where
+  pub sound : j.failed ≡ false
+  pub repaired : IsRepaired j
+
+-- The files hold this image and these records, nothing is to be written over, and they settle on them alone.
+pub record Holds {D : Type 0} (device : Device D) (j : Journal D) (image : List ℕ) (bodies : List (List ℕ)) : Type 0 where
+  pub files : Finds device j image bodies
+  pub repaired : IsRepaired j
+  pub run : Run device (device.clock (first_disk j)) (device.clock (second_disk j)) (first_disk j) (second_disk j) (Is (image, bodies))
 
 -- the disk that holds the current file stays as it was
 abbrev pub KeepsOne : {D : Type 0} → Journal D → Journal D → Type 0

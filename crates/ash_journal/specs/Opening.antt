@@ -8,7 +8,7 @@ use Rattle.ash_journal.specs.declared.opening.Choice.{Choice}
 use Rattle.ash_journal.specs.declared.opening.Looks.{Looks}
 use Rattle.ash_journal.specs.declared.reading.Reading.{Reading}
 use Rattle.ash_journal.specs.Beside.{first_of, second_of, OtherIs}
-use Rattle.ash_journal.specs.Current.{IsBehind, SettleOn}
+use Rattle.ash_journal.specs.Current.{Is, IsBehind, SettleOn}
 use Rattle.ash_journal.specs.Layout.{IsOpen, IsClosed, IsCutAt, HasMark, LacksMark}
 use Rattle.ash_journal.specs.Reading.{StandingIs, IsRead}
 
@@ -54,8 +54,8 @@ pub record LooksAre (looks : Looks) (first second : List ℕ) : Type 0 where
   pub first_len : looks.first_len ≡ length first
   pub second_len : looks.second_len ≡ length second
 
--- What makes a fault that is told where a journal was to be created, and what it leaves: a file was open, or none was
--- and memory is wanted; but for a failure of the device, nothing is written.
+-- What makes a fault that is reported where a journal was to be created, and what it leaves: a file was open, or none
+-- was and memory ran out; but for a failure of the device, nothing is written.
 abbrev pub CreateFaultIs : CreateFault → List ℕ → List ℕ → Type 0 → Type 0
 CreateFaultIs reasons.DeviceFailed first second unchanged = Unit {0}
 CreateFaultIs reasons.AlreadyThere first second unchanged = (IsOpen first ⊎ IsOpen second) × unchanged
@@ -63,4 +63,4 @@ CreateFaultIs reasons.NoMemory first second unchanged = (IsClosed first × IsClo
 
 -- no file is open, or they settle on this image with no records
 abbrev pub IsCreatedOrClosed : List ℕ → List ℕ → List ℕ → Type 0
-IsCreatedOrClosed image first second = (IsClosed first × IsClosed second) ⊎ SettleOn ((image, []) ∷ []) first second
+IsCreatedOrClosed image first second = (IsClosed first × IsClosed second) ⊎ SettleOn (Is (image, [])) first second

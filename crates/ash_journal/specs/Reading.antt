@@ -1,7 +1,6 @@
 -- What is read of a file.
-use Rattle.std.specs.Prelude.{◌≡◌, ◌≢◌, ℕ, ◌+◌, ◌<◌, ◌≤◌, ◌^◌, Bool, true, false, IsTrue, List, [], ◌∷◌, ◌++◌, length, map, Result, IfErr}
+use Rattle.std.specs.Prelude.{◌≡◌, ◌≢◌, ℕ, ◌+◌, ◌<◌, ◌≤◌, ◌^◌, Bool, true, false, List, [], ◌∷◌, ◌++◌, length, map, Result, IfErr}
 use Rattle.ash_disk.specs.Failures.{Rose}
-use Rattle.ash_disk.specs.Moments.{During}
 use Rattle.ash_journal.specs.declared.reading.Standing.{Standing}
 use Rattle.ash_journal.specs.declared.reading.Standing.TheVariants.{Closed, Unmarked, Marked}
 use Rattle.ash_journal.specs.declared.record.Record.{Record}
@@ -20,13 +19,7 @@ StandingIs (Closed shut) file = IsClosed file × ShutIs shut file
 StandingIs Unmarked file = LacksMark file
 StandingIs (Marked generation) file = HasMark generation file
 
--- A disk was only read and synced: what is read stays, and a crash leaves nothing that it could not leave before.
-pub record IsOnlyRead {D : Type 0} (honest : D → Bool) (seen : D → List ℕ) (clock : D → ℕ) (leaves : D → ℕ → List ℕ → Type 0) (old new : D) : Type 0 where
-  pub honesty : honest new ≡ honest old
-  pub same : IsTrue (honest old) → seen new ≡ seen old
-  pub moments : IsTrue (honest old) → During (clock old) (clock new) (leaves old) (leaves new) (leaves old (clock old))
-
--- A device's count doesn't fall. Where the answer is that it failed, it rose, and where it is another, it didn't.
+-- A device's count doesn't fall. Where the answer is that it failed, it rose; where it is another, it didn't.
 pub record Counts (failed : Type 0) (before after : ℕ) : Type 0 where
   pub never_falls : before ≤ after
   pub told : failed → Rose before after

@@ -1,19 +1,19 @@
 -- What one disk holds before and while a gate is written.
 use Rattle.std.specs.Prelude.{◌≡◌, ◌⊎◌, ℕ, ◌≤◌, Bool, true, false, IsTrue, List, [], ◌∷◌, ◌++◌, length, drop}
-use Rattle.ash_disk.specs.Image.{Only}
+use Rattle.ash_disk.specs.Device.{Device, IsDurable}
 use Rattle.ash_journal.specs.Layout.{mark, block, IsShut}
 
 -- An honest disk whose file is all on the device, and has these bytes before an offset and these from it on.
-pub record IsSplit {D : Type 0} (honest : D → Bool) (seen : D → List ℕ) (clock : D → ℕ) (leaves : D → ℕ → List ℕ → Type 0) (disk : D) (at : ℕ) (front behind : List ℕ) : Type 0 where
-  pub honest_disk : IsTrue (honest disk)
+pub record IsSplit {D : Type 0} (device : Device D) (disk : D) (at : ℕ) (front behind : List ℕ) : Type 0 where
+  pub honest_disk : IsTrue (device.honest disk)
   pub long : length front ≡ at
-  pub bytes : seen disk ≡ front ++ behind
-  pub durable : Only (seen disk) (leaves disk (clock disk))
+  pub bytes : device.seen disk ≡ front ++ behind
+  pub durable : IsDurable device disk
 
 -- the disk's file is these bytes, and all of it is on the device
-pub record IsOn {D : Type 0} (seen : D → List ℕ) (clock : D → ℕ) (leaves : D → ℕ → List ℕ → Type 0) (disk : D) (file : List ℕ) : Type 0 where
-  pub bytes : seen disk ≡ file
-  pub durable : Only (seen disk) (leaves disk (clock disk))
+pub record IsOn {D : Type 0} (device : Device D) (disk : D) (file : List ℕ) : Type 0 where
+  pub bytes : device.seen disk ≡ file
+  pub durable : IsDurable device disk
 
 -- what a crash may leave while 0 is written over a gate
 abbrev pub WhileShut : List ℕ → List ℕ → List ℕ → Type 0
@@ -47,6 +47,12 @@ IsIdle file = (length file ≤ 1) ⊎ IsShut file
 -- all images that a crash may leave have at most one byte, or all have 0 for their first gate
 abbrev pub AreIdle : (List ℕ → Type 0) → Type 0
 AreIdle images = ((image : List ℕ) → images image → length image ≤ 1) ⊎ ((image : List ℕ) → images image → IsShut image)
+
+-- The disk has rested since an earlier time: at each moment of it, up to now, all images that a crash might have left
+-- have at most one byte, or all have 0 for their first gate.
+pub record HasRested {D : Type 0} (device : Device D) (since : ℕ) (disk : D) : Type 0 where
+  pub began : since ≤ device.clock disk
+  pub idle : (time : ℕ) → since ≤ time → time ≤ device.clock disk → AreIdle (device.leaves disk time)
 
 -- what a crash may leave while bytes are put into a file that was idle
 abbrev pub WhileStarted : List ℕ → List ℕ → List ℕ → Type 0

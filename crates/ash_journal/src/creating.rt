@@ -1,11 +1,11 @@
 //! How two files become a journal's.
 ghost use Rattle.std.specs.Prelude.{◌≡◌, ◌<◌, ◌^◌, ◌∷◌, ◌++◌, [], length, drop, IsTrue, IfErr, OnOk, IsErr, IsErrOf};
 ghost use Rattle.ash_disk.specs.Failures.{CountsFailure};
-ghost use Rattle.ash_disk.specs.Moments.{During};
+ghost use Rattle.ash_disk.specs.Device.{IsOnlyRead, Throughout};
 ghost use Rattle.ash_journal.specs.Failures.{CountsFailures};
 ghost use Rattle.ash_journal.specs.Layout.{mark, block, IsClosed};
 ghost use Rattle.ash_journal.specs.Opening.{CreateFaultIs};
-ghost use Rattle.ash_journal.specs.Reading.{ShutIs, IsOnlyRead};
+ghost use Rattle.ash_journal.specs.Reading.{ShutIs};
 ghost use Rattle.ash_journal.specs.Writes.{IsOn, IsIdle, AreIdle, WhileStarted, WhileCreated};
 
 use crate::bytes::generation_bytes;
@@ -18,10 +18,10 @@ use std::alloc::Global;
 // Writes 0 over the first gate where it isn't 0, and syncs.
 fn clear<D: Disk>(disk: &mut D, shut: bool) -> Result<(), DeviceFailed>
     ensures cleared { OnOk result (IsTrue (D.honest disk.old) → ShutIs shut (D.seen disk.old)
-        → IsOn D.seen D.clock D.leaves disk.new (0 ∷ drop 1 (D.seen disk.old))) }
+        → IsOn D.Disk disk.new (0 ∷ drop 1 (D.seen disk.old))) }
     ensures moments { IsTrue (D.honest disk.old) → ShutIs shut (D.seen disk.old)
         → AreIdle (D.leaves disk.old (D.clock disk.old))
-        → During (D.clock disk.old) (D.clock disk.new) (D.leaves disk.old) (D.leaves disk.new) IsIdle }
+        → Throughout D.Disk disk.old disk.new IsIdle }
     ensures honesty { D.honest disk.new ≡ D.honest disk.old }
     ensures cause { CountsFailure result (D.failures disk.old) (D.failures disk.new) }
 {
@@ -41,18 +41,18 @@ fn start<D: Disk>(
 ) -> Result<(), DeviceFailed>
     ensures created { OnOk result (IsTrue (D.honest first.old)
         → ShutIs first_shut (D.seen first.old)
-        → IsOn D.seen D.clock D.leaves first.new
+        → IsOn D.Disk first.new
         (1 ∷ (bytes.now ++ drop (length bytes.now) (drop 1 (D.seen first.old))))) }
     ensures beside { OnOk result (IsTrue (D.honest second.old)
         → ShutIs second_shut (D.seen second.old)
-        → IsOn D.seen D.clock D.leaves second.new (0 ∷ drop 1 (D.seen second.old))) }
+        → IsOn D.Disk second.new (0 ∷ drop 1 (D.seen second.old))) }
     ensures first_moments { IsTrue (D.honest first.old) → ShutIs first_shut (D.seen first.old)
         → AreIdle (D.leaves first.old (D.clock first.old))
-        → During (D.clock first.old) (D.clock first.new) (D.leaves first.old) (D.leaves first.new)
+        → Throughout D.Disk first.old first.new
         (WhileStarted bytes.now (D.seen first.old)) }
     ensures second_moments { IsTrue (D.honest second.old) → ShutIs second_shut (D.seen second.old)
         → AreIdle (D.leaves second.old (D.clock second.old))
-        → During (D.clock second.old) (D.clock second.new) (D.leaves second.old) (D.leaves second.new)
+        → Throughout D.Disk second.old second.new
         IsIdle }
     ensures honesty_first { D.honest first.new ≡ D.honest first.old }
     ensures honesty_second { D.honest second.new ≡ D.honest second.old }
@@ -74,23 +74,23 @@ pub(crate) fn create_both<D: Disk>(
 ) -> Result<(), CreateFault>
     requires { length image.now < 2 ^ 32 }
     ensures created { OnOk result (IsTrue (D.honest first.old) → IsTrue (D.honest second.old)
-        → IsOn D.seen D.clock D.leaves first.new (1 ∷ ((mark 1 ++ (block image.now ++ 0 ∷ []))
+        → IsOn D.Disk first.new (1 ∷ ((mark 1 ++ (block image.now ++ 0 ∷ []))
         ++ drop (length (mark 1 ++ (block image.now ++ 0 ∷ []))) (drop 1 (D.seen first.old))))) }
     ensures beside { OnOk result (IsTrue (D.honest first.old) → IsTrue (D.honest second.old)
-        → IsOn D.seen D.clock D.leaves second.new (0 ∷ drop 1 (D.seen second.old))) }
+        → IsOn D.Disk second.new (0 ∷ drop 1 (D.seen second.old))) }
     ensures closed { OnOk result (IsTrue (D.honest first.old) → IsTrue (D.honest second.old)
         → IsClosed (D.seen first.old) × IsClosed (D.seen second.old)) }
     ensures fault { IfErr result (λ fault. IsTrue (D.honest first.old) → IsTrue (D.honest second.old)
         → CreateFaultIs fault (D.seen first.old) (D.seen second.old)
-        (IsOnlyRead D.honest D.seen D.clock D.leaves first.old first.new
-        × IsOnlyRead D.honest D.seen D.clock D.leaves second.old second.new)) }
+        (IsOnlyRead D.Disk first.old first.new
+        × IsOnlyRead D.Disk second.old second.new)) }
     ensures first_moments { IsTrue (D.honest first.old) → IsTrue (D.honest second.old)
         → AreIdle (D.leaves first.old (D.clock first.old))
-        → During (D.clock first.old) (D.clock first.new) (D.leaves first.old) (D.leaves first.new)
+        → Throughout D.Disk first.old first.new
         (WhileCreated image.now) }
     ensures second_moments { IsTrue (D.honest first.old) → IsTrue (D.honest second.old)
         → AreIdle (D.leaves second.old (D.clock second.old))
-        → During (D.clock second.old) (D.clock second.new) (D.leaves second.old) (D.leaves second.new)
+        → Throughout D.Disk second.old second.new
         IsIdle }
     ensures honesty_first { D.honest first.new ≡ D.honest first.old }
     ensures honesty_second { D.honest second.new ≡ D.honest second.old }

@@ -1,8 +1,7 @@
 //! The two ways in which a file is changed. Nothing else writes.
 ghost use Rattle.std.specs.Prelude.{◌≡◌, false, IsTrue, ◌+◌, ◌<◌, ◌^◌, ◌∷◌, ◌++◌, [], ℕ, List, length, drop, OnOk};
 ghost use Rattle.ash_disk.specs.Failures.{CountsFailure};
-ghost use Rattle.ash_disk.specs.Image.{Only};
-ghost use Rattle.ash_disk.specs.Moments.{During};
+ghost use Rattle.ash_disk.specs.Device.{IsDurable, Throughout};
 ghost use Rattle.ash_journal.specs.Layout.{IsShut};
 ghost use Rattle.ash_journal.specs.Writes.{IsSplit, IsOn, WhileShut, WhileCommitted, WhileRepaired, WhileReplaced, repaired};
 
@@ -11,11 +10,11 @@ use ash_disk::{DeviceFailed, Disk, write_durably};
 /// Writes 0 over a gate, and syncs.
 pub(crate) fn shut_gate<D: Disk>(disk: &mut D, gate: u64) -> Result<(), DeviceFailed>
     ensures shut { OnOk result ((front behind : List ℕ)
-        → IsSplit D.honest D.seen D.clock D.leaves disk.old gate front behind
-        → IsOn D.seen D.clock D.leaves disk.new (front ++ 0 ∷ drop 1 behind)) }
+        → IsSplit D.Disk disk.old gate front behind
+        → IsOn D.Disk disk.new (front ++ 0 ∷ drop 1 behind)) }
     ensures moments { (front behind : List ℕ)
-        → IsSplit D.honest D.seen D.clock D.leaves disk.old gate front behind
-        → During (D.clock disk.old) (D.clock disk.new) (D.leaves disk.old) (D.leaves disk.new)
+        → IsSplit D.Disk disk.old gate front behind
+        → Throughout D.Disk disk.old disk.new
         (WhileShut front behind) }
     ensures honesty { D.honest disk.new ≡ D.honest disk.old }
     ensures cause { CountsFailure result (D.failures disk.old) (D.failures disk.new) }
@@ -28,12 +27,12 @@ pub(crate) fn shut_gate<D: Disk>(disk: &mut D, gate: u64) -> Result<(), DeviceFa
 pub(crate) fn commit<D: Disk>(disk: &mut D, gate: u64, bytes: &[u8]) -> Result<(), DeviceFailed>
     requires { gate + 1 < 2 ^ 64 }
     ensures committed { OnOk result ((front behind : List ℕ)
-        → IsSplit D.honest D.seen D.clock D.leaves disk.old gate front (0 ∷ behind)
-        → IsOn D.seen D.clock D.leaves disk.new
+        → IsSplit D.Disk disk.old gate front (0 ∷ behind)
+        → IsOn D.Disk disk.new
         (front ++ 1 ∷ (bytes.now ++ drop (length bytes.now) behind))) }
     ensures moments { (front behind : List ℕ)
-        → IsSplit D.honest D.seen D.clock D.leaves disk.old gate front (0 ∷ behind)
-        → During (D.clock disk.old) (D.clock disk.new) (D.leaves disk.old) (D.leaves disk.new)
+        → IsSplit D.Disk disk.old gate front (0 ∷ behind)
+        → Throughout D.Disk disk.old disk.new
         (WhileCommitted front bytes.now behind) }
     ensures honesty { D.honest disk.new ≡ D.honest disk.old }
     ensures cause { CountsFailure result (D.failures disk.old) (D.failures disk.new) }
@@ -45,11 +44,11 @@ pub(crate) fn commit<D: Disk>(disk: &mut D, gate: u64, bytes: &[u8]) -> Result<(
 /// Writes 0 over a gate where it is owed, and syncs.
 pub(crate) fn repair<D: Disk>(disk: &mut D, owed: bool, gate: u64) -> Result<(), DeviceFailed>
     ensures repaired { OnOk result ((front behind : List ℕ)
-        → IsSplit D.honest D.seen D.clock D.leaves disk.old gate front behind
-        → IsOn D.seen D.clock D.leaves disk.new (front ++ repaired owed behind)) }
+        → IsSplit D.Disk disk.old gate front behind
+        → IsOn D.Disk disk.new (front ++ repaired owed behind)) }
     ensures moments { (front behind : List ℕ)
-        → IsSplit D.honest D.seen D.clock D.leaves disk.old gate front behind
-        → During (D.clock disk.old) (D.clock disk.new) (D.leaves disk.old) (D.leaves disk.new)
+        → IsSplit D.Disk disk.old gate front behind
+        → Throughout D.Disk disk.old disk.new
         (WhileRepaired owed front behind) }
     ensures only_owed { owed ≡ false → disk.new ≡ disk.old }
     ensures honesty { D.honest disk.new ≡ D.honest disk.old }
@@ -68,14 +67,14 @@ pub(crate) fn replace<D: Disk>(
     bytes: &[u8],
 ) -> Result<(), DeviceFailed>
     ensures replaced { OnOk result (IsTrue (D.honest disk.old)
-        → Only (D.seen disk.old) (D.leaves disk.old (D.clock disk.old))
+        → IsDurable D.Disk disk.old
         → (is_open ≡ false → IsShut (D.seen disk.old))
-        → IsOn D.seen D.clock D.leaves disk.new
+        → IsOn D.Disk disk.new
         (1 ∷ (bytes.now ++ drop (length bytes.now) (drop 1 (D.seen disk.old))))) }
     ensures moments { IsTrue (D.honest disk.old)
-        → Only (D.seen disk.old) (D.leaves disk.old (D.clock disk.old))
+        → IsDurable D.Disk disk.old
         → (is_open ≡ false → IsShut (D.seen disk.old))
-        → During (D.clock disk.old) (D.clock disk.new) (D.leaves disk.old) (D.leaves disk.new)
+        → Throughout D.Disk disk.old disk.new
         (WhileReplaced is_open bytes.now (D.seen disk.old)) }
     ensures honesty { D.honest disk.new ≡ D.honest disk.old }
     ensures cause { CountsFailure result (D.failures disk.old) (D.failures disk.new) }

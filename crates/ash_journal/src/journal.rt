@@ -27,6 +27,8 @@ pub struct Journal<D> {
     /// Whether that gate is still to be written over.
     stray: bool,
     beside: Beside,
+    /// Whether a device failed in a call: the journal is to be opened again.
+    failed: bool,
     ghost within: { end ≤ record_bytes + 2 ^ 33 },
 }
 
@@ -59,14 +61,14 @@ pub struct CreateRefused<D> {
 impl<D: Disk> Journal<D> {
     ghost use Rattle.std.specs.Prelude.{◌≡◌, ◌<◌, ◌-◌, ◌↔◌, ◌∷◌, ◌++◌, [], ℕ, List, length, IsTrue, IfOk, IfErr, OnOk, OnErr, IsErr, IsErrOf, MatchResult};
     ghost use Rattle.ash_journal.specs.Failures.{CountsFailures};
-    ghost use Rattle.ash_journal.specs.Journal.{first_disk, second_disk, generation, record_bytes, current_disk, IsReady, Finds, Holds, KeepsOne, KeepsOther, KeepsUnowed};
-    ghost use Rattle.ash_journal.specs.Current.{Among};
-    ghost use Rattle.ash_disk.specs.Moments.{EveryMoment};
+    ghost use Rattle.ash_journal.specs.Journal.{first_disk, second_disk, generation, record_bytes, current_disk, IsReady, IsRepaired, HasFailed, Finds, Holds, KeepsOne, KeepsOther, KeepsUnowed};
+    ghost use Rattle.ash_journal.specs.Current.{Is, Either, Represent};
+    ghost use Rattle.ash_disk.specs.Device.{IsOnlyRead, EveryMomentSince};
     ghost use Rattle.ash_journal.specs.Layout.{IsClosed};
     ghost use Rattle.ash_journal.specs.Opening.{FaultIs, CreateFaultIs, IsCreatedOrClosed};
-    ghost use Rattle.ash_journal.specs.Writes.{AreIdle};
-    ghost use Rattle.ash_journal.specs.Reading.{AreAt, IsOnlyRead, bodies_of};
-    ghost use Rattle.ash_journal.specs.Runs.{Run};
+    ghost use Rattle.ash_journal.specs.Writes.{HasRested};
+    ghost use Rattle.ash_journal.specs.Reading.{AreAt, bodies_of};
+    ghost use Rattle.ash_journal.specs.Runs.{Run, Extends, Nothing};
 
     /// Makes a journal of two disks of which neither file is open: generation 1 with an image and no records, in the
     /// first. The journal is ready for records.
@@ -75,8 +77,9 @@ impl<D: Disk> Journal<D> {
     /// `NoMemory`. They hand the disks back, and but for `DeviceFailed` nothing was written.
     ///
     /// Each file is looked at in two calls; then the first gate of each that isn't 0 there is written as 0, both files
-    /// are synced, and the generation is committed by two writes and two syncs. Where neither file ever held more than
-    /// a byte, or its first gate was 0, a crash on the way leaves no file open, or the whole generation.
+    /// are synced, and the generation is committed by two writes and two syncs. Where each file has held at most one
+    /// byte, or 0 for its first gate, since an earlier time, a crash since then leaves no file open, or the whole
+    /// generation: a caller may have looked at the disks before.
     pub fn create(
         alloc: Global,
         first: D,
@@ -85,7 +88,8 @@ impl<D: Disk> Journal<D> {
     ) -> Result<Journal<D>, CreateRefused<D>>
         requires { length image.now < 2 ^ 32 }
         ensures created { IfOk result (λ j. IsTrue (D.honest first) → IsTrue (D.honest second)
-            → Holds D.honest D.seen D.clock D.leaves j image.now []) }
+            → Holds D.Disk j image.now []) }
+        ensures ready { IfOk result IsReady }
         ensures in_first { IfOk result (λ j. current_disk j ≡ first_disk j) }
         ensures number { IfOk result (λ j. generation j ≡ 1) }
         ensures emptied { IfOk result (λ j. record_bytes j ≡ 0) }
@@ -93,17 +97,13 @@ impl<D: Disk> Journal<D> {
             → IsClosed (D.seen first) × IsClosed (D.seen second)) }
         ensures fault { IfErr result (λ r. IsTrue (D.honest first) → IsTrue (D.honest second)
             → CreateFaultIs r.fault (D.seen first) (D.seen second)
-            (IsOnlyRead D.honest D.seen D.clock D.leaves first r.first
-            × IsOnlyRead D.honest D.seen D.clock D.leaves second r.second)) }
-        ensures moments { IsTrue (D.honest first) → IsTrue (D.honest second)
-            → AreIdle (D.leaves first (D.clock first)) → AreIdle (D.leaves second (D.clock second))
+            (IsOnlyRead D.Disk first r.first
+            × IsOnlyRead D.Disk second r.second)) }
+        ensures moments { (a b : ℕ) → IsTrue (D.honest first) → IsTrue (D.honest second)
+            → HasRested D.Disk a first → HasRested D.Disk b second
             → MatchResult result
-            (λ j. EveryMoment (D.clock first) (D.clock (first_disk j)) (D.leaves (first_disk j))
-            (D.clock second) (D.clock (second_disk j)) (D.leaves (second_disk j))
-            (IsCreatedOrClosed image.now))
-            (λ r. EveryMoment (D.clock first) (D.clock r.first) (D.leaves r.first)
-            (D.clock second) (D.clock r.second) (D.leaves r.second)
-            (IsCreatedOrClosed image.now)) }
+            (λ j. EveryMomentSince D.Disk a b (first_disk j) (second_disk j) (IsCreatedOrClosed image.now))
+            (λ r. EveryMomentSince D.Disk a b r.first r.second (IsCreatedOrClosed image.now)) }
         ensures honesty_first { MatchResult result
             (λ j. D.honest (first_disk j) ≡ D.honest first) (λ r. D.honest r.first ≡ D.honest first) }
         ensures honesty_second { MatchResult result
@@ -128,6 +128,7 @@ impl<D: Disk> Journal<D> {
                 record_bytes: 0,
                 stray: false,
                 beside: Beside::Shut,
+                failed: false,
             }),
             Err(fault) => Err(CreateRefused {
                 fault,
@@ -146,24 +147,23 @@ impl<D: Disk> Journal<D> {
     /// is, else 0; `DeviceFailed`; `NoMemory`. They hand the disks back as they were read.
     pub fn open(alloc: Global, first: D, second: D) -> Result<Opened<D>, OpenRefused<D>>
         ensures found { IfOk result (λ o. IsTrue (D.honest first) → IsTrue (D.honest second)
-            → Finds D.honest D.seen D.clock D.leaves o.journal o.image.items (bodies_of o.records.items)) }
+            → Finds D.Disk o.journal o.image.items (bodies_of o.records.items)) }
         ensures offsets { IfOk result (λ o. IsTrue (D.honest first) → IsTrue (D.honest second)
             → AreAt (21 + length o.image.items) o.records.items) }
         ensures fault { IfErr result (λ r. IsTrue (D.honest first) → IsTrue (D.honest second)
             → FaultIs r.fault (D.seen first) (D.seen second)) }
-        ensures run { (a b : ℕ) (pairs : List (List ℕ × List (List ℕ)))
-            → IsTrue (D.honest first) → IsTrue (D.honest second)
-            → Run D.clock D.leaves a b first second pairs
-            → MatchResult result
-            (λ o. Among (o.image.items, bodies_of o.records.items) pairs
-            × Run D.clock D.leaves a b (first_disk o.journal) (second_disk o.journal) pairs)
-            (λ r. Run D.clock D.leaves a b r.first r.second pairs) }
+        ensures represented { IfOk result (λ o. IsTrue (D.honest first) → IsTrue (D.honest second)
+            → Represent (o.image.items, bodies_of o.records.items) (D.seen first) (D.seen second)) }
+        ensures extends { IsTrue (D.honest first) → IsTrue (D.honest second) → MatchResult result
+            (λ o. Extends D.Disk first second (first_disk o.journal) (second_disk o.journal) Nothing)
+            (λ r. Extends D.Disk first second r.first r.second Nothing) }
+        ensures sound { IfOk result (λ o. HasFailed o.journal → ⊥) }
         ensures first_read { MatchResult result
-            (λ o. IsOnlyRead D.honest D.seen D.clock D.leaves first (first_disk o.journal))
-            (λ r. IsOnlyRead D.honest D.seen D.clock D.leaves first r.first) }
+            (λ o. IsOnlyRead D.Disk first (first_disk o.journal))
+            (λ r. IsOnlyRead D.Disk first r.first) }
         ensures second_read { MatchResult result
-            (λ o. IsOnlyRead D.honest D.seen D.clock D.leaves second (second_disk o.journal))
-            (λ r. IsOnlyRead D.honest D.seen D.clock D.leaves second r.second) }
+            (λ o. IsOnlyRead D.Disk second (second_disk o.journal))
+            (λ r. IsOnlyRead D.Disk second r.second) }
         ensures cause { MatchResult result
             (λ o. CountsFailures ⊥ (D.failures first) (D.failures second)
             (D.failures (first_disk o.journal)) (D.failures (second_disk o.journal)))
@@ -194,6 +194,7 @@ impl<D: Disk> Journal<D> {
             record_bytes: reading.tail.end - 21 - reading.image.len() as u64,
             stray: reading.tail.gate != 0,
             beside: choice.beside,
+            failed: false,
         };
         Ok(Opened {
             journal,
@@ -209,23 +210,33 @@ impl<D: Disk> Journal<D> {
         self.generation
     }
 
-    /// Adds a record to the current generation, on a journal that is ready: from `create`, or from a `settle` that
-    /// answered `Ok`, until a `DeviceFailed`. At `Ok` the record is acknowledged, and every crash leaves it.
+    /// Whether records and generations may be written: from `create`, or from a `settle` that answered `Ok` after
+    /// `open`, until a `DeviceFailed`.
+    pub fn is_ready(&self) -> bool
+        ensures { IsTrue result ↔ IsReady self.now }
+    {
+        !self.failed && !self.stray && !self.beside.is_stray()
+    }
+
+    /// Adds a record to the current generation, on a journal that is ready. At `Ok` the record is acknowledged, and
+    /// every crash leaves it.
     ///
     /// `NoMemory` comes before any call of a device, and changes nothing. After `DeviceFailed` the record is there or
-    /// not, and the journal is to be opened again. A record is one write and a sync, twice; nothing is read.
+    /// not, and the journal is ready no more: it is to be opened again. A record is one write and a sync, twice;
+    /// nothing is read.
     pub fn append(&mut self, body: &[u8]) -> Result<(), AppendError>
         requires short { length body.now < 2 ^ 32 }
         requires room { record_bytes self.old < 2 ^ 62 }
+        requires ready { IsReady self.old }
         ensures acknowledged { OnOk result ((image : List ℕ) (bodies : List (List ℕ))
-            → Holds D.honest D.seen D.clock D.leaves self.old image bodies
-            → Holds D.honest D.seen D.clock D.leaves self.new image (bodies ++ body.now ∷ [])) }
-        ensures run { (image : List ℕ) (bodies : List (List ℕ))
-            → Holds D.honest D.seen D.clock D.leaves self.old image bodies
-            → (a b : ℕ) (pairs : List (List ℕ × List (List ℕ)))
-            → Run D.clock D.leaves a b (first_disk self.old) (second_disk self.old) pairs
-            → Run D.clock D.leaves a b (first_disk self.new) (second_disk self.new)
-            ((image, bodies ++ body.now ∷ []) ∷ pairs) }
+            → Holds D.Disk self.old image bodies
+            → Holds D.Disk self.new image (bodies ++ body.now ∷ [])) }
+        ensures extends { (image : List ℕ) (bodies : List (List ℕ))
+            → Holds D.Disk self.old image bodies
+            → Extends D.Disk (first_disk self.old) (second_disk self.old)
+            (first_disk self.new) (second_disk self.new) (Is (image, bodies ++ body.now ∷ [])) }
+        ensures ready { (IsErrOf result AppendError.DeviceFailed → ⊥) → IsReady self.new }
+        ensures failed { IsErrOf result AppendError.DeviceFailed → HasFailed self.new }
         ensures longer { OnOk result (record_bytes self.new
             ≡ record_bytes self.old + 5 + length body.now) }
         ensures no_longer { OnErr result (record_bytes self.new ≡ record_bytes self.old) }
@@ -244,7 +255,10 @@ impl<D: Disk> Journal<D> {
         };
         match commit(&mut self.current, self.end, &bytes) {
             Ok(()) => {}
-            Err(_) => return Err(AppendError::DeviceFailed),
+            Err(_) => {
+                self.failed = true;
+                return Err(AppendError::DeviceFailed);
+            }
         }
         let added = bytes.len() as u64;
         self.end += added;
@@ -274,25 +288,28 @@ impl<D: Disk> Journal<D> {
             record_bytes: _,
             stray: _,
             beside: _,
+            failed: _,
         } = self;
         place(swapped, current, other)
     }
 
     /// Writes 0 over the gates that a crash left with another value: the one behind the last open record, and the first
     /// of the file that isn't current unless that is an older generation. Each only where it isn't 0, and with its own
-    /// sync. At `Ok` the journal is ready for records. It takes no memory.
+    /// sync. At `Ok` a journal is ready for records, unless one of its calls has failed before. It takes no memory.
     ///
     /// After `DeviceFailed` it is to be opened again.
     pub fn settle(&mut self) -> Result<(), DeviceFailed>
         ensures settled { OnOk result ((image : List ℕ) (bodies : List (List ℕ))
-            → Finds D.honest D.seen D.clock D.leaves self.old image bodies
-            → Holds D.honest D.seen D.clock D.leaves self.new image bodies) }
-        ensures run { (image : List ℕ) (bodies : List (List ℕ))
-            → Finds D.honest D.seen D.clock D.leaves self.old image bodies
-            → (a b : ℕ) (pairs : List (List ℕ × List (List ℕ)))
-            → Run D.clock D.leaves a b (first_disk self.old) (second_disk self.old) pairs
-            → Run D.clock D.leaves a b (first_disk self.new) (second_disk self.new) pairs }
-        ensures only_owed { IsReady self.old
+            → Finds D.Disk self.old image bodies
+            → Holds D.Disk self.new image bodies) }
+        ensures extends { (image : List ℕ) (bodies : List (List ℕ))
+            → Finds D.Disk self.old image bodies
+            → Extends D.Disk (first_disk self.old) (second_disk self.old)
+            (first_disk self.new) (second_disk self.new) Nothing }
+        ensures ready { OnOk result ((HasFailed self.old → ⊥) → IsReady self.new) }
+        ensures failed { IsErr result → HasFailed self.new }
+        ensures still_failed { HasFailed self.old → HasFailed self.new }
+        ensures only_owed { IsRepaired self.old
             → (first_disk self.new ≡ first_disk self.old) × (second_disk self.new ≡ second_disk self.old) }
         ensures each_owed { KeepsUnowed self.old self.new }
         ensures number { generation self.new ≡ generation self.old }
@@ -303,10 +320,20 @@ impl<D: Disk> Journal<D> {
         ensures honesty_first { D.honest (first_disk self.new) ≡ D.honest (first_disk self.old) }
         ensures honesty_second { D.honest (second_disk self.new) ≡ D.honest (second_disk self.old) }
     {
-        repair(&mut self.current, self.stray, self.end)?;
-        self.stray = false;
-        repair(&mut self.other, self.beside.is_stray(), 0)?;
-        self.beside = self.beside.repaired();
+        match repair(&mut self.current, self.stray, self.end) {
+            Ok(()) => self.stray = false,
+            Err(failure) => {
+                self.failed = true;
+                return Err(failure);
+            }
+        }
+        match repair(&mut self.other, self.beside.is_stray(), 0) {
+            Ok(()) => self.beside = self.beside.repaired(),
+            Err(failure) => {
+                self.failed = true;
+                return Err(failure);
+            }
+        }
         Ok(())
     }
 
@@ -315,17 +342,20 @@ impl<D: Disk> Journal<D> {
     ///
     /// Refusals, the first that holds: `GenerationSpent` where the number is 2^64 - 1; `NoMemory`; both change nothing
     /// and come before any call of a device. After `DeviceFailed` the old generation is current or the new one, and the
-    /// journal is to be opened again. It is one write and a sync, twice, and once more where the other file's first
+    /// journal is ready no more: it is to be opened again. It is one write and a sync, twice, and once more where the other file's first
     /// gate is to be shut; nothing is read.
     pub fn install(&mut self, image: &[u8]) -> Result<(), InstallError>
         requires short { length image.now < 2 ^ 32 }
+        requires ready { IsReady self.old }
         ensures installed { OnOk result ((was : List ℕ) (bodies : List (List ℕ))
-            → Holds D.honest D.seen D.clock D.leaves self.old was bodies
-            → Holds D.honest D.seen D.clock D.leaves self.new image.now []) }
+            → Holds D.Disk self.old was bodies
+            → Holds D.Disk self.new image.now []) }
         ensures run { (was : List ℕ) (bodies : List (List ℕ))
-            → Holds D.honest D.seen D.clock D.leaves self.old was bodies
-            → Run D.clock D.leaves (D.clock (first_disk self.old)) (D.clock (second_disk self.old))
-            (first_disk self.new) (second_disk self.new) ((image.now, []) ∷ (was, bodies) ∷ []) }
+            → Holds D.Disk self.old was bodies
+            → Run D.Disk (D.clock (first_disk self.old)) (D.clock (second_disk self.old))
+            (first_disk self.new) (second_disk self.new) (Either (Is (image.now, [])) (Is (was, bodies))) }
+        ensures ready { (IsErrOf result InstallError.DeviceFailed → ⊥) → IsReady self.new }
+        ensures failed { IsErrOf result InstallError.DeviceFailed → HasFailed self.new }
         ensures higher { OnOk result (generation self.new ≡ generation self.old + 1) }
         ensures emptied { OnOk result (record_bytes self.new ≡ 0) }
         ensures no_higher { OnErr result ((generation self.new ≡ generation self.old)
@@ -351,7 +381,10 @@ impl<D: Disk> Journal<D> {
         };
         match replace(&mut self.other, self.beside.is_older(), &bytes) {
             Ok(()) => {}
-            Err(_) => return Err(InstallError::DeviceFailed),
+            Err(_) => {
+                self.failed = true;
+                return Err(InstallError::DeviceFailed);
+            }
         }
         mem::swap(&mut self.current, &mut self.other);
         self.swapped = !self.swapped;

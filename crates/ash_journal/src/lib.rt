@@ -25,12 +25,14 @@
 //! write and a sync of its length, body and next gate, and a write and a sync of the gate before it; and a generation
 //! is installed by the same two steps in the file that is not current, whose first gate is shut and synced before.
 //! After a crash a gate may hold another value than 0 and 1. It counts as closed, but what stands behind it may be
-//! whole, so `settle` writes 0 over it before anything is written behind it.
+//! whole, so `settle` writes 0 over it before anything is written behind it. A journal is ready for that once `settle`
+//! has answered `Ok`, and is so no more once a device has failed in one of its calls.
 //!
 //! In reading order: `journal` (the calls), `gate` (the only writers), `bytes` (what they write), `creating`,
-//! `opening` and `reading` (two files, and one), `beside` (the file that is not current), `record`, `error`. The words
-//! of the clauses stand in `specs/Layout` (a file), `specs/Current` (two files, and what they settle on), `specs/Runs`
-//! (moments), `specs/Journal` (what a journal holds) and `specs/Opening` (faults).
+//! `opening` and `reading` (two files, and one), `resuming` (the first record after an opening), `beside` (the file that
+//! is not current), `record`, `error`. The words of the clauses are in `specs/Layout` (a file), `specs/Current` (two
+//! files, and what they settle on), `specs/Runs` (moments), `specs/Journal` (what a journal holds) and `specs/Opening`
+//! (faults).
 #![tactic(auto)]
 
 mod beside;
@@ -42,7 +44,9 @@ mod journal;
 mod opening;
 mod reading;
 mod record;
+mod resuming;
 
 pub use error::{AppendError, CreateFault, InstallError, OpenFault};
 pub use journal::{CreateRefused, Journal, OpenRefused, Opened};
 pub use record::Record;
+pub use resuming::append_first;

@@ -1,10 +1,10 @@
 //! What two files are read as. Nothing here writes.
 ghost use Rattle.std.specs.Prelude.{◌≡◌, ◌+◌, ◌<◌, ◌≤◌, ◌^◌, ℕ, List, length, IsTrue, IfOk, OnOk, IsErr, IsErrOf, MatchOption, MatchResult, ◌⊎◌, if◌then◌else◌};
-ghost use Rattle.ash_disk.specs.Image.{Only};
+ghost use Rattle.ash_disk.specs.Device.{IsDurable, IsOnlyRead};
 ghost use Rattle.ash_journal.specs.Failures.{CountsFailures};
 ghost use Rattle.ash_journal.specs.Layout.{IsOpen, IsClosed, HasMark};
 ghost use Rattle.ash_journal.specs.Opening.{LooksAre, ChoiceIs, ContentsAre, FaultIs};
-ghost use Rattle.ash_journal.specs.Reading.{StandingIs, ShutIs, IsOnlyRead};
+ghost use Rattle.ash_journal.specs.Reading.{StandingIs, ShutIs};
 
 use crate::beside::Beside;
 use crate::error::OpenFault;
@@ -84,11 +84,11 @@ fn choose_greater(first: u64, second: u64) -> Result<Choice, OpenFault>
 
 fn sync_both<D: Disk>(first: &mut D, second: &mut D) -> Result<(), DeviceFailed>
     ensures durable_first { OnOk result (IsTrue (D.honest first.old)
-        → Only (D.seen first.new) (D.leaves first.new (D.clock first.new))) }
+        → IsDurable D.Disk first.new) }
     ensures durable_second { OnOk result (IsTrue (D.honest second.old)
-        → Only (D.seen second.new) (D.leaves second.new (D.clock second.new))) }
-    ensures first_read { IsOnlyRead D.honest D.seen D.clock D.leaves first.old first.new }
-    ensures second_read { IsOnlyRead D.honest D.seen D.clock D.leaves second.old second.new }
+        → IsDurable D.Disk second.new) }
+    ensures first_read { IsOnlyRead D.Disk first.old first.new }
+    ensures second_read { IsOnlyRead D.Disk second.old second.new }
     ensures cause { CountsFailures (IsErr result)
         (D.failures first.old) (D.failures second.old)
         (D.failures first.new) (D.failures second.new) }
@@ -109,8 +109,8 @@ pub(crate) struct Looks {
 pub(crate) fn look_both<D: Disk>(first: &mut D, second: &mut D) -> Result<Looks, DeviceFailed>
     ensures answer { IfOk result (λ x. IsTrue (D.honest first.old) → IsTrue (D.honest second.old)
         → LooksAre x (D.seen first.old) (D.seen second.old)) }
-    ensures first_read { IsOnlyRead D.honest D.seen D.clock D.leaves first.old first.new }
-    ensures second_read { IsOnlyRead D.honest D.seen D.clock D.leaves second.old second.new }
+    ensures first_read { IsOnlyRead D.Disk first.old first.new }
+    ensures second_read { IsOnlyRead D.Disk second.old second.new }
     ensures cause { CountsFailures (IsErr result)
         (D.failures first.old) (D.failures second.old)
         (D.failures first.new) (D.failures second.new) }
@@ -157,8 +157,8 @@ fn read_chosen<D: Disk>(
         (λ fault. FaultIs fault (D.seen first.old) (D.seen second.old)) }
     ensures within { IfOk result (λ r. 21 + length r.image.items ≤ r.tail.end) }
     ensures short { IfOk result (λ r. length r.image.items < 2 ^ 32) }
-    ensures first_read { IsOnlyRead D.honest D.seen D.clock D.leaves first.old first.new }
-    ensures second_read { IsOnlyRead D.honest D.seen D.clock D.leaves second.old second.new }
+    ensures first_read { IsOnlyRead D.Disk first.old first.new }
+    ensures second_read { IsOnlyRead D.Disk second.old second.new }
     ensures cause { CountsFailures (IsErrOf result OpenFault.DeviceFailed)
         (D.failures first.old) (D.failures second.old)
         (D.failures first.new) (D.failures second.new) }
@@ -181,13 +181,13 @@ pub(crate) fn read_both<D: Disk>(
         (λ c. ContentsAre c.choice c.reading (D.seen first.old) (D.seen second.old))
         (λ fault. FaultIs fault (D.seen first.old) (D.seen second.old)) }
     ensures durable_first { OnOk result (IsTrue (D.honest first.old)
-        → Only (D.seen first.new) (D.leaves first.new (D.clock first.new))) }
+        → IsDurable D.Disk first.new) }
     ensures durable_second { OnOk result (IsTrue (D.honest second.old)
-        → Only (D.seen second.new) (D.leaves second.new (D.clock second.new))) }
+        → IsDurable D.Disk second.new) }
     ensures within { IfOk result (λ c. 21 + length c.reading.image.items ≤ c.reading.tail.end) }
     ensures short { IfOk result (λ c. length c.reading.image.items < 2 ^ 32) }
-    ensures first_read { IsOnlyRead D.honest D.seen D.clock D.leaves first.old first.new }
-    ensures second_read { IsOnlyRead D.honest D.seen D.clock D.leaves second.old second.new }
+    ensures first_read { IsOnlyRead D.Disk first.old first.new }
+    ensures second_read { IsOnlyRead D.Disk second.old second.new }
     ensures cause { CountsFailures (IsErrOf result OpenFault.DeviceFailed)
         (D.failures first.old) (D.failures second.old)
         (D.failures first.new) (D.failures second.new) }

@@ -1,8 +1,9 @@
 //! What a file is read as. Nothing here writes.
 ghost use Rattle.std.specs.Prelude.{◌≡◌, ◌+◌, ◌<◌, ◌≤◌, ◌^◌, ◌↔◌, ◌++◌, ◌∷◌, [], ℕ, List, length, take, IsTrue, IfOk, IfSome, IsErr, IsErrOf, MatchOption, MatchResult, drop};
+ghost use Rattle.ash_disk.specs.Device.{IsOnlyRead};
 ghost use Rattle.ash_disk.specs.Image.{bytes_at};
 ghost use Rattle.ash_journal.specs.Layout.{four_bytes, mark, solid, IsShut, Fits, IsCut, HasMark};
-ghost use Rattle.ash_journal.specs.Reading.{StandingIs, IsOnlyRead, IsFailure, IsCutFault, Counts, IsBlock, IsRead};
+ghost use Rattle.ash_journal.specs.Reading.{StandingIs, IsFailure, IsCutFault, Counts, IsBlock, IsRead};
 
 use crate::bytes::MAGIC;
 use crate::error::OpenFault;
@@ -64,7 +65,7 @@ pub(crate) fn standing_of(front: &[u8]) -> Standing
 pub(crate) fn look<D: Disk>(disk: &mut D) -> Result<(Standing, u64), DeviceFailed>
     ensures answer { IfOk result (λ x. IsTrue (D.honest disk.old)
         → StandingIs x.0 (D.seen disk.old) × (x.1 ≡ length (D.seen disk.old))) }
-    ensures only_read { IsOnlyRead D.honest D.seen D.clock D.leaves disk.old disk.new }
+    ensures only_read { IsOnlyRead D.Disk disk.old disk.new }
     ensures cause { Counts (IsErr result) (D.failures disk.old) (D.failures disk.new) }
 {
     let len = disk.len()?;
@@ -93,7 +94,7 @@ fn read_size<D: Disk>(disk: &mut D, at: u64) -> Result<u32, OpenFault>
     ensures answer { IfOk result (λ size. IsTrue (D.honest disk.old)
         → at + 4 ≤ length (D.seen disk.old) → four_bytes size ≡ bytes_at (D.seen disk.old) at 4) }
     ensures fits { IfOk result (λ size. size < 2 ^ 32) }
-    ensures only_read { IsOnlyRead D.honest D.seen D.clock D.leaves disk.old disk.new }
+    ensures only_read { IsOnlyRead D.Disk disk.old disk.new }
     ensures faults { IsFailure result }
     ensures cause { Counts (IsErrOf result OpenFault.DeviceFailed)
         (D.failures disk.old) (D.failures disk.new) }
@@ -115,7 +116,7 @@ fn read_bytes<D: Disk>(
     ensures answer { IfOk result (λ bytes. IsTrue (D.honest disk.old)
         → at + size ≤ length (D.seen disk.old)
         → bytes.items ≡ bytes_at (D.seen disk.old) at size) }
-    ensures only_read { IsOnlyRead D.honest D.seen D.clock D.leaves disk.old disk.new }
+    ensures only_read { IsOnlyRead D.Disk disk.old disk.new }
     ensures faults { IsFailure result }
     ensures cause { Counts (IsErrOf result OpenFault.DeviceFailed)
         (D.failures disk.old) (D.failures disk.new) }
@@ -143,7 +144,7 @@ fn read_block<D: Disk>(
         (λ block. IsBlock block.body.items block.gate (drop at (D.seen disk.old)))) }
     ensures within { IfOk result (λ found. IfSome found (λ block. at + length block.body.items + 4 < len)) }
     ensures short { IfOk result (λ found. IfSome found (λ block. length block.body.items < 2 ^ 32)) }
-    ensures only_read { IsOnlyRead D.honest D.seen D.clock D.leaves disk.old disk.new }
+    ensures only_read { IsOnlyRead D.Disk disk.old disk.new }
     ensures faults { IsFailure result }
     ensures cause { Counts (IsErrOf result OpenFault.DeviceFailed)
         (D.failures disk.old) (D.failures disk.new) }
@@ -194,7 +195,7 @@ fn read_records<D: Disk>(
         (λ tail. IsRead generation image tail.records.items tail.end tail.gate (D.seen disk.old))
         (λ fault. IsCutFault fault (D.seen disk.old)) }
     ensures within { IfOk result (λ tail. at ≤ tail.end) }
-    ensures only_read { IsOnlyRead D.honest D.seen D.clock D.leaves disk.old disk.new }
+    ensures only_read { IsOnlyRead D.Disk disk.old disk.new }
     ensures cause { Counts (IsErrOf result OpenFault.DeviceFailed)
         (D.failures disk.old) (D.failures disk.new) }
 {
@@ -242,7 +243,7 @@ pub(crate) fn read_current<D: Disk>(
         (λ fault. IsCutFault fault (D.seen disk.old)) }
     ensures within { IfOk result (λ r. 21 + length r.image.items ≤ r.tail.end) }
     ensures short { IfOk result (λ r. length r.image.items < 2 ^ 32) }
-    ensures only_read { IsOnlyRead D.honest D.seen D.clock D.leaves disk.old disk.new }
+    ensures only_read { IsOnlyRead D.Disk disk.old disk.new }
     ensures cause { Counts (IsErrOf result OpenFault.DeviceFailed)
         (D.failures disk.old) (D.failures disk.new) }
 {

@@ -1,7 +1,7 @@
 //! A caller that makes every call of a journal, proved.
 ghost use Rattle.std.specs.Prelude.{◌≡◌, ◌<◌, ◌^◌, ◌∷◌, [], ℕ, List, length, IsTrue, IfOk};
 ghost use Rattle.ash_journal.specs.Reading.{bodies_of};
-ghost use Rattle.ash_journal.specs.Journal.{Holds};
+ghost use Rattle.ash_journal.specs.Journal.{Holds, IsReady};
 
 use ash_disk::{Disk, MemoryDisk};
 use ash_journal::{Journal, Opened};
@@ -25,8 +25,9 @@ fn three_records<D: Disk + Drop>(
 ) -> Result<Journal<D>, CallerError>
     requires image_short { length image.now < 2 ^ 32 }
     requires body_short { length body.now < 2 ^ 32 }
-    ensures { IfOk result (λ j. IsTrue (D.honest first) → IsTrue (D.honest second)
-        → Holds D.honest D.seen D.clock D.leaves j image.now (body.now ∷ body.now ∷ body.now ∷ [])) }
+    ensures ready { IfOk result IsReady }
+    ensures holds { IfOk result (λ j. IsTrue (D.honest first) → IsTrue (D.honest second)
+        → Holds D.Disk j image.now (body.now ∷ body.now ∷ body.now ∷ [])) }
 {
     let mut journal = match Journal::create(alloc, first, second, image) {
         Ok(journal) => journal,
@@ -55,12 +56,14 @@ fn reopened<D: Disk + Drop>(
 ) -> Result<Opened<D>, CallerError>
     requires image_short { length image.now < 2 ^ 32 }
     requires body_short { length body.now < 2 ^ 32 }
+    requires ready { IsReady journal }
+    ensures ready { IfOk result (λ o. IsReady o.journal) }
     ensures found { IfOk result (λ o. (was : List ℕ) (bodies : List (List ℕ))
-        → Holds D.honest D.seen D.clock D.leaves journal was bodies
+        → Holds D.Disk journal was bodies
         → (o.image.items ≡ image.now) × (bodies_of o.records.items ≡ body.now ∷ [])) }
-    ensures ready { IfOk result (λ o. (was : List ℕ) (bodies : List (List ℕ))
-        → Holds D.honest D.seen D.clock D.leaves journal was bodies
-        → Holds D.honest D.seen D.clock D.leaves o.journal image.now (body.now ∷ [])) }
+    ensures holds { IfOk result (λ o. (was : List ℕ) (bodies : List (List ℕ))
+        → Holds D.Disk journal was bodies
+        → Holds D.Disk o.journal image.now (body.now ∷ [])) }
 {
     match journal.install(image) {
         Ok(()) => {}
@@ -92,7 +95,7 @@ fn composed<D: Disk + Drop>(
     requires image_short { length image.now < 2 ^ 32 }
     requires body_short { length body.now < 2 ^ 32 }
     ensures { IfOk result (λ j. IsTrue (D.honest first) → IsTrue (D.honest second)
-        → Holds D.honest D.seen D.clock D.leaves j image.now (body.now ∷ body.now ∷ [])) }
+        → Holds D.Disk j image.now (body.now ∷ body.now ∷ [])) }
 {
     let journal = match three_records(alloc, first, second, image, body) {
         Ok(journal) => journal,

@@ -1,5 +1,5 @@
 use Rattle.std.proofs.Common.{◌≡◌, ◌∙◌, ◌∷◌, ◌++◌, [], ℕ, List, IsTrue, length, drop, inl, sym, subst}
-use Rattle.ash_disk.specs.Moments.{During}
+use Rattle.ash_disk.specs.Device.{Throughout}
 use Rattle.ash_disk.proofs.MomentLaws.{weaker}
 use Rattle.ash_journal.specs.Layout.{mark, block}
 use Rattle.ash_journal.specs.Reading.{ShutIs}
@@ -17,13 +17,13 @@ returns-in-Ok-start-clause-created g c honest_first honest_second =
     let bytes_are : c.deref.result.now ≡ mark 1 ++ (block c.args.image.now ++ 0 ∷ []) = c.deref.ensures.value ∙ c.in-Ok-generation_bytes.ensures in
     let first_read = c.in-Ok.ensures.first_read in
     let second_read = c.in-Ok.ensures.second_read in
-    let first_shut = subst (λ (l : List ℕ). ShutIs c.in-Some.one l) (sym (first_read.same honest_first)) shut.0.1 in
-    let second_shut = subst (λ (l : List ℕ). ShutIs c.in-Some.two l) (sym (second_read.same honest_second)) shut.1.1 in
+    let first_shut = subst (λ (l : List ℕ). ShutIs c.in-Some.one l) (sym (first_read.seen honest_first)) shut.0.1 in
+    let second_shut = subst (λ (l : List ℕ). ShutIs c.in-Some.two l) (sym (second_read.seen honest_second)) shut.1.1 in
     let honest_first' = subst IsTrue (sym first_read.honesty) honest_first in
     let honest_second' = subst IsTrue (sym second_read.honesty) honest_second in
     let on = c.in-Ok-start.ensures.created honest_first' first_shut in
-    let on' = subst (λ (l : List ℕ). IsOn d.seen d.clock d.leaves c.start.new.first (1 ∷ (l ++ drop (length l) (drop 1 (d.seen c.look_both.new.first))))) bytes_are on in
-    subst (λ (l : List ℕ). IsOn d.seen d.clock d.leaves c.start.new.first (1 ∷ ((mark 1 ++ (block c.args.image.now ++ 0 ∷ [])) ++ drop (length (mark 1 ++ (block c.args.image.now ++ 0 ∷ []))) (drop 1 l)))) (first_read.same honest_first) on'
+    let on' = subst (λ (l : List ℕ). IsOn d c.start.new.first (1 ∷ (l ++ drop (length l) (drop 1 (d.seen c.look_both.new.first))))) bytes_are on in
+    subst (λ (l : List ℕ). IsOn d c.start.new.first (1 ∷ ((mark 1 ++ (block c.args.image.now ++ 0 ∷ [])) ++ drop (length (mark 1 ++ (block c.args.image.now ++ 0 ∷ []))) (drop 1 l)))) (first_read.seen honest_first) on'
 
 pub returns-in-Ok-start-clause-beside : goal.returns-in-Ok-start-clause-beside
 returns-in-Ok-start-clause-beside g c honest_first honest_second =
@@ -35,12 +35,12 @@ returns-in-Ok-start-clause-beside g c honest_first honest_second =
     let bytes_are : c.deref.result.now ≡ mark 1 ++ (block c.args.image.now ++ 0 ∷ []) = c.deref.ensures.value ∙ c.in-Ok-generation_bytes.ensures in
     let first_read = c.in-Ok.ensures.first_read in
     let second_read = c.in-Ok.ensures.second_read in
-    let first_shut = subst (λ (l : List ℕ). ShutIs c.in-Some.one l) (sym (first_read.same honest_first)) shut.0.1 in
-    let second_shut = subst (λ (l : List ℕ). ShutIs c.in-Some.two l) (sym (second_read.same honest_second)) shut.1.1 in
+    let first_shut = subst (λ (l : List ℕ). ShutIs c.in-Some.one l) (sym (first_read.seen honest_first)) shut.0.1 in
+    let second_shut = subst (λ (l : List ℕ). ShutIs c.in-Some.two l) (sym (second_read.seen honest_second)) shut.1.1 in
     let honest_first' = subst IsTrue (sym first_read.honesty) honest_first in
     let honest_second' = subst IsTrue (sym second_read.honesty) honest_second in
     let on = c.in-Ok-start.ensures.beside honest_second' second_shut in
-    subst (λ (l : List ℕ). IsOn d.seen d.clock d.leaves c.start.new.second (0 ∷ drop 1 l)) (second_read.same honest_second) on
+    subst (λ (l : List ℕ). IsOn d c.start.new.second (0 ∷ drop 1 l)) (second_read.seen honest_second) on
 
 pub returns-in-Ok-start-clause-first_moments : goal.returns-in-Ok-start-clause-first_moments
 returns-in-Ok-start-clause-first_moments g c honest_first honest_second idle =
@@ -52,13 +52,13 @@ returns-in-Ok-start-clause-first_moments g c honest_first honest_second idle =
     let bytes_are : c.deref.result.now ≡ mark 1 ++ (block c.args.image.now ++ 0 ∷ []) = c.deref.ensures.value ∙ c.in-Ok-generation_bytes.ensures in
     let first_read = c.in-Ok.ensures.first_read in
     let second_read = c.in-Ok.ensures.second_read in
-    let first_shut = subst (λ (l : List ℕ). ShutIs c.in-Some.one l) (sym (first_read.same honest_first)) shut.0.1 in
-    let second_shut = subst (λ (l : List ℕ). ShutIs c.in-Some.two l) (sym (second_read.same honest_second)) shut.1.1 in
+    let first_shut = subst (λ (l : List ℕ). ShutIs c.in-Some.one l) (sym (first_read.seen honest_first)) shut.0.1 in
+    let second_shut = subst (λ (l : List ℕ). ShutIs c.in-Some.two l) (sym (second_read.seen honest_second)) shut.1.1 in
     let honest_first' = subst IsTrue (sym first_read.honesty) honest_first in
     let honest_second' = subst IsTrue (sym second_read.honesty) honest_second in
-    let call = c.start.ensures.first_moments honest_first' first_shut (read_idle d.honest d.seen d.clock d.leaves one c.look_both.new.first honest_first first_read idle) in
-    let call' = subst (λ (l : List ℕ). During (d.clock c.look_both.new.first) (d.clock c.start.new.first) (d.leaves c.look_both.new.first) (d.leaves c.start.new.first) (WhileStarted l (d.seen c.look_both.new.first))) bytes_are call in
-    idle_goes_on d.honest d.seen d.clock d.leaves one c.look_both.new.first c.start.new.first (WhileCreated c.args.image.now) honest_first first_read idle (λ image is. inl is)
+    let call = c.start.ensures.first_moments honest_first' first_shut (read_idle d one c.look_both.new.first honest_first first_read idle) in
+    let call' = subst (λ (l : List ℕ). Throughout d c.look_both.new.first c.start.new.first (WhileStarted l (d.seen c.look_both.new.first))) bytes_are call in
+    idle_goes_on d one c.look_both.new.first c.start.new.first (WhileCreated c.args.image.now) honest_first first_read idle (λ image is. inl is)
     (weaker _ _ _ _ (WhileStarted (mark 1 ++ (block c.args.image.now ++ 0 ∷ [])) (d.seen c.look_both.new.first)) (WhileCreated c.args.image.now) (started_created c.args.image.now (d.seen c.look_both.new.first)) call')
 
 pub returns-clause-first_moments : goal.returns-clause-first_moments
@@ -71,13 +71,13 @@ returns-clause-first_moments g c honest_first honest_second idle =
     let bytes_are : c.deref.result.now ≡ mark 1 ++ (block c.args.image.now ++ 0 ∷ []) = c.deref.ensures.value ∙ c.in-Ok-generation_bytes.ensures in
     let first_read = c.in-Ok.ensures.first_read in
     let second_read = c.in-Ok.ensures.second_read in
-    let first_shut = subst (λ (l : List ℕ). ShutIs c.in-Some.one l) (sym (first_read.same honest_first)) shut.0.1 in
-    let second_shut = subst (λ (l : List ℕ). ShutIs c.in-Some.two l) (sym (second_read.same honest_second)) shut.1.1 in
+    let first_shut = subst (λ (l : List ℕ). ShutIs c.in-Some.one l) (sym (first_read.seen honest_first)) shut.0.1 in
+    let second_shut = subst (λ (l : List ℕ). ShutIs c.in-Some.two l) (sym (second_read.seen honest_second)) shut.1.1 in
     let honest_first' = subst IsTrue (sym first_read.honesty) honest_first in
     let honest_second' = subst IsTrue (sym second_read.honesty) honest_second in
-    let call = c.start.ensures.first_moments honest_first' first_shut (read_idle d.honest d.seen d.clock d.leaves one c.look_both.new.first honest_first first_read idle) in
-    let call' = subst (λ (l : List ℕ). During (d.clock c.look_both.new.first) (d.clock c.start.new.first) (d.leaves c.look_both.new.first) (d.leaves c.start.new.first) (WhileStarted l (d.seen c.look_both.new.first))) bytes_are call in
-    idle_goes_on d.honest d.seen d.clock d.leaves one c.look_both.new.first c.start.new.first (WhileCreated c.args.image.now) honest_first first_read idle (λ image is. inl is)
+    let call = c.start.ensures.first_moments honest_first' first_shut (read_idle d one c.look_both.new.first honest_first first_read idle) in
+    let call' = subst (λ (l : List ℕ). Throughout d c.look_both.new.first c.start.new.first (WhileStarted l (d.seen c.look_both.new.first))) bytes_are call in
+    idle_goes_on d one c.look_both.new.first c.start.new.first (WhileCreated c.args.image.now) honest_first first_read idle (λ image is. inl is)
     (weaker _ _ _ _ (WhileStarted (mark 1 ++ (block c.args.image.now ++ 0 ∷ [])) (d.seen c.look_both.new.first)) (WhileCreated c.args.image.now) (started_created c.args.image.now (d.seen c.look_both.new.first)) call')
 
 pub returns-in-Ok-start-clause-second_moments : goal.returns-in-Ok-start-clause-second_moments
@@ -90,12 +90,12 @@ returns-in-Ok-start-clause-second_moments g c honest_first honest_second idle =
     let bytes_are : c.deref.result.now ≡ mark 1 ++ (block c.args.image.now ++ 0 ∷ []) = c.deref.ensures.value ∙ c.in-Ok-generation_bytes.ensures in
     let first_read = c.in-Ok.ensures.first_read in
     let second_read = c.in-Ok.ensures.second_read in
-    let first_shut = subst (λ (l : List ℕ). ShutIs c.in-Some.one l) (sym (first_read.same honest_first)) shut.0.1 in
-    let second_shut = subst (λ (l : List ℕ). ShutIs c.in-Some.two l) (sym (second_read.same honest_second)) shut.1.1 in
+    let first_shut = subst (λ (l : List ℕ). ShutIs c.in-Some.one l) (sym (first_read.seen honest_first)) shut.0.1 in
+    let second_shut = subst (λ (l : List ℕ). ShutIs c.in-Some.two l) (sym (second_read.seen honest_second)) shut.1.1 in
     let honest_first' = subst IsTrue (sym first_read.honesty) honest_first in
     let honest_second' = subst IsTrue (sym second_read.honesty) honest_second in
-    let call = c.start.ensures.second_moments honest_second' second_shut (read_idle d.honest d.seen d.clock d.leaves two c.look_both.new.second honest_second second_read idle) in
-    idle_goes_on d.honest d.seen d.clock d.leaves two c.look_both.new.second c.start.new.second IsIdle honest_second second_read idle (λ image is. is) call
+    let call = c.start.ensures.second_moments honest_second' second_shut (read_idle d two c.look_both.new.second honest_second second_read idle) in
+    idle_goes_on d two c.look_both.new.second c.start.new.second IsIdle honest_second second_read idle (λ image is. is) call
 
 pub returns-clause-second_moments : goal.returns-clause-second_moments
 returns-clause-second_moments g c honest_first honest_second idle =
@@ -107,9 +107,9 @@ returns-clause-second_moments g c honest_first honest_second idle =
     let bytes_are : c.deref.result.now ≡ mark 1 ++ (block c.args.image.now ++ 0 ∷ []) = c.deref.ensures.value ∙ c.in-Ok-generation_bytes.ensures in
     let first_read = c.in-Ok.ensures.first_read in
     let second_read = c.in-Ok.ensures.second_read in
-    let first_shut = subst (λ (l : List ℕ). ShutIs c.in-Some.one l) (sym (first_read.same honest_first)) shut.0.1 in
-    let second_shut = subst (λ (l : List ℕ). ShutIs c.in-Some.two l) (sym (second_read.same honest_second)) shut.1.1 in
+    let first_shut = subst (λ (l : List ℕ). ShutIs c.in-Some.one l) (sym (first_read.seen honest_first)) shut.0.1 in
+    let second_shut = subst (λ (l : List ℕ). ShutIs c.in-Some.two l) (sym (second_read.seen honest_second)) shut.1.1 in
     let honest_first' = subst IsTrue (sym first_read.honesty) honest_first in
     let honest_second' = subst IsTrue (sym second_read.honesty) honest_second in
-    let call = c.start.ensures.second_moments honest_second' second_shut (read_idle d.honest d.seen d.clock d.leaves two c.look_both.new.second honest_second second_read idle) in
-    idle_goes_on d.honest d.seen d.clock d.leaves two c.look_both.new.second c.start.new.second IsIdle honest_second second_read idle (λ image is. is) call
+    let call = c.start.ensures.second_moments honest_second' second_shut (read_idle d two c.look_both.new.second honest_second second_read idle) in
+    idle_goes_on d two c.look_both.new.second c.start.new.second IsIdle honest_second second_read idle (λ image is. is) call

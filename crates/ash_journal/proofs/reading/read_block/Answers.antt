@@ -14,7 +14,7 @@ pub returns-clause-answer : goal.returns-clause-answer
 returns-clause-answer g c honest len_is =
     let seen = g.D.Disk.seen c.args.disk.now in
     let size_is = c.in-Ok.ensures.answer honest (omega (arith, len_is, c.if-room-lt4.false, c.saturating_sub-room.ensures)) in
-    let same = c.in-Ok.ensures.only_read.same honest in
+    let same = c.in-Ok.ensures.only_read.seen honest in
     let honest' = subst IsTrue (sym c.in-Ok.ensures.only_read.honesty) honest in
     let room : c.args.at + 4 + (c.in-Ok.size + 1) ≤ length seen = omega (arith, len_is, c.from.ensures, c.if-room-from.false, c.saturating_sub-room.ensures) in
     let read = c.in-Ok-read_bytes.ensures.answer honest' (omega (arith, ap length same, room)) in

@@ -2,12 +2,13 @@ use Rattle.std.proofs.Common.{◌∙◌, ◌+◌, ℕ, List, IsTrue, length, dro
 use Rattle.ash_journal.specs.declared.record.Record.{Record}
 use Rattle.ash_journal.specs.Layout.{IsCut}
 use Rattle.ash_journal.specs.Reading.{IsBlock, IsReadTo}
-use Rattle.ash_journal.proofs.ReadLaws.{read_none, read_on, read_start, read_cut, read_more}
+use Rattle.ash_disk.proofs.DeviceLaws.{read_none, read_on}
+use Rattle.ash_journal.proofs.ReadLaws.{read_start, read_cut, read_more}
 use Rattle.ash_journal.proofs.reading.read_records.Goals as goal
 
 pub loop-gate-init : goal.loop-gate-init
 loop-gate-init g c = record {
-  only_read = read_none g.D.Disk.honest g.D.Disk.seen g.D.Disk.clock g.D.Disk.leaves c.args.disk.now;
+  only_read = read_none g.D.Disk c.args.disk.now;
   steady = refl;
   within = c.requires;
   goes_on = omega arith;
@@ -20,7 +21,7 @@ returns-in-Ok-None-clause-answer g c generation image rest honest len_is fits is
     let i = c.loop-gate.invariant in
     let so_far = i.answer generation image rest honest len_is fits is at_is in
     let honest' = subst IsTrue (sym i.only_read.honesty) honest in
-    let same = i.only_read.same honest in
+    let same = i.only_read.seen honest in
     let found = c.in-Ok-None.ensures.answer honest' (len_is ∙ ap length (sym same)) in
     let cut = rw c.in-Ok-None.field-0-is at found in
     read_cut generation image (d.seen c.args.disk.now) c.loop-gate.records.items c.loop-gate.end c.loop-gate.gate c.loop-gate-test.true so_far
@@ -28,7 +29,7 @@ returns-in-Ok-None-clause-answer g c generation image rest honest len_is fits is
 
 pub loop-gate-preserved : goal.loop-gate-preserved
 loop-gate-preserved g c = record {
-  only_read = read_on g.D.Disk.honest g.D.Disk.seen g.D.Disk.clock g.D.Disk.leaves c.args.disk.now c.loop-gate.disk c.read_block.new.disk c.loop-gate.invariant.only_read c.read_block.ensures.only_read;
+  only_read = read_on g.D.Disk c.args.disk.now c.loop-gate.disk c.read_block.new.disk c.loop-gate.invariant.only_read c.read_block.ensures.only_read;
   steady = c.in-Ok-Some.ensures.cause.none (λ failed. cc) ∙ c.loop-gate.invariant.steady;
   within = let inside = rw c.in-Ok-Some.field-0-is at c.in-Ok-Some.ensures.within in omega (arith, inside, c.len.ensures, c.in-Ok-Some.block.body.ok.0);
   goes_on = omega (arith, c.loop-gate.invariant.goes_on);
@@ -37,7 +38,7 @@ loop-gate-preserved g c = record {
       let i = c.loop-gate.invariant in
       let so_far = i.answer generation image rest honest len_is fits is at_is in
       let honest' = subst IsTrue (sym i.only_read.honesty) honest in
-      let same = i.only_read.same honest in
+      let same = i.only_read.seen honest in
       let found = c.in-Ok-Some.ensures.answer honest' (len_is ∙ ap length (sym same)) in
       let block = rw c.in-Ok-Some.field-0-is at found in
       let r : Record = record { gate = c.loop-gate.end; body = c.in-Ok-Some.block.body } in

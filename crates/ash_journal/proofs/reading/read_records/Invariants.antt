@@ -1,12 +1,13 @@
 use Rattle.std.proofs.Common.{◌≡◌, ◌-◌, ◌<◌, ◌≤◌, ◌∷◌, ◌++◌, [], ℕ, List, IsTrue, length}
+use Rattle.ash_disk.specs.Device.{IsOnlyRead}
 use Rattle.ash_journal.specs.Layout.{solid, Fits}
-use Rattle.ash_journal.specs.Reading.{IsOnlyRead, IsReadTo}
+use Rattle.ash_journal.specs.Reading.{IsReadTo}
 use Rattle.ash_journal.proofs.reading.read_records.Given as goal
 
 abbrev pub invariant-loop-gate : goal.invariant-loop-gate
 invariant-loop-gate g l =
     record {
-      only_read : IsOnlyRead g.D.Disk.honest g.D.Disk.seen g.D.Disk.clock g.D.Disk.leaves l.fn.disk l.disk;
+      only_read : IsOnlyRead g.D.Disk l.fn.disk l.disk;
       steady : g.D.Disk.failures l.disk ≡ g.D.Disk.failures l.fn.disk;
       within : l.end < l.len;
       goes_on : l.at ≤ l.end;

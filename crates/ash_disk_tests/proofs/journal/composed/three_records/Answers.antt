@@ -1,8 +1,8 @@
 use Rattle.std.proofs.Common.{◌∷◌, []}
 use Rattle.ash_disk_tests.proofs.journal.composed.three_records.Goals as goal
 
-pub returns-in-Ok-append-3 : goal.returns-in-Ok-append-3
-returns-in-Ok-append-3 g c honest_first honest_second =
+pub returns-in-Ok-append-3-clause-holds : goal.returns-in-Ok-append-3-clause-holds
+returns-in-Ok-append-3-clause-holds g c honest_first honest_second =
     let image = c.args.image.now in
     let body = c.args.body.now in
     let none = c.in-Ok.ensures.created honest_first honest_second in
