@@ -1,6 +1,6 @@
 -- Each word stands in its table: the look-up finds it by its characters.
-use Rattle.std.proofs.Common.{◌≡◌, ℕ, List, length, Some, sym, refl, ap, ◌∙◌}
-use Rattle.std.proofs.lemmas.Slice.Eq.{HasBytesAt, text_from_reads}
+use Rattle.std.proofs.Common.{◌≡◌, ℕ, ◌<◌, List, [], ◌∷◌, length, Some, get_or, refl, arith, find}
+use Rattle.std.specs.Str.{bytes_eq}
 use Rattle.ash_lex.specs.Words.{reserved_text, unsupported_text}
 use Rattle.ash_lex.specs.Scan.{reserved_word, unsupported_word}
 use Rattle.ash_lex.specs.declared.words.ReservedWord.{ReservedWord}
@@ -43,10 +43,10 @@ reserved_word-of_text Break = refl
 reserved_word-of_text Continue = refl
 reserved_word-of_text Return = refl
 
--- a text that has a word's length and bytes is that word
-pub reserved_word-at : (w : ReservedWord) (text : List ℕ) → length text ≡ length (reserved_text w) → HasBytesAt text 0 (reserved_text w) → Some w ≡ reserved_word text
-reserved_word-at w text len bytes =
-    sym (reserved_word-of_text w) ∙ ap reserved_word (sym (text_from_reads text (reserved_text w) len bytes))
+-- words that give each text with this first byte its word give this text its word
+pub reserved_word-from : (text : List ℕ) (words : List ReservedWord) → 0 < length text → ((after : List ℕ) → find (λ w. bytes_eq (get_or text 0 0 ∷ after) (reserved_text w)) words ≡ reserved_word (get_or text 0 0 ∷ after)) → find (λ w. bytes_eq text (reserved_text w)) words ≡ reserved_word text
+reserved_word-from [] words some each = absurd (omega arith)
+reserved_word-from (b ∷ after) words some each = each after
 
 -- the look-up of a word's own characters gives the word
 pub unsupported_word-of_text : (w : UnsupportedWord) → unsupported_word (unsupported_text w) ≡ Some w
@@ -72,7 +72,7 @@ unsupported_word-of_text Typedef = refl
 unsupported_word-of_text Uint8 = refl
 unsupported_word-of_text Uint16 = refl
 
--- a text that has a word's length and bytes is that word
-pub unsupported_word-at : (w : UnsupportedWord) (text : List ℕ) → length text ≡ length (unsupported_text w) → HasBytesAt text 0 (unsupported_text w) → Some w ≡ unsupported_word text
-unsupported_word-at w text len bytes =
-    sym (unsupported_word-of_text w) ∙ ap unsupported_word (sym (text_from_reads text (unsupported_text w) len bytes))
+-- words that give each text with this first byte its word give this text its word
+pub unsupported_word-from : (text : List ℕ) (words : List UnsupportedWord) → 0 < length text → ((after : List ℕ) → find (λ w. bytes_eq (get_or text 0 0 ∷ after) (unsupported_text w)) words ≡ unsupported_word (get_or text 0 0 ∷ after)) → find (λ w. bytes_eq text (unsupported_text w)) words ≡ unsupported_word text
+unsupported_word-from [] words some each = absurd (omega arith)
+unsupported_word-from (b ∷ after) words some each = each after

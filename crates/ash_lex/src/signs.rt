@@ -1,6 +1,6 @@
 //! The signs: operators, brackets and punctuation.
 
-ghost use Rattle.std.specs.Prelude.{◌≡◌, Some};
+ghost use Rattle.std.specs.Prelude.{◌≡◌, ◌∷◌, Some};
 ghost use Rattle.ash_lex.specs.Bytes.{begins_with_word};
 ghost use Rattle.ash_lex.specs.Signs.{sign_text};
 ghost use Rattle.ash_lex.specs.Scan.{first_sign};
@@ -185,63 +185,120 @@ impl fmt::Display for Sign {
     }
 }
 
+/// The longest sign that begins with `!`.
+fn not_sign(after: &[u8]) -> Sign
+    ensures { Some result ≡ first_sign (33 ∷ after.now) }
+{
+    match after {
+        [b'i', b's', behind @ ..] if !begins_with_word(behind) => Sign::NotIs,
+        [b'=', ..] => Sign::NotEqual,
+        _ => Sign::LogicalNot,
+    }
+}
+
+/// The longest sign that begins with `<`.
+fn less_sign(after: &[u8]) -> Sign
+    ensures { Some result ≡ first_sign (60 ∷ after.now) }
+{
+    match after {
+        [b'<', b'=', ..] => Sign::ShiftLeftAssign,
+        [b'=', ..] => Sign::LessOrEqual,
+        [b'<', ..] => Sign::ShiftLeft,
+        _ => Sign::Less,
+    }
+}
+
+/// The longest sign that begins with `>`.
+fn greater_sign(after: &[u8]) -> Sign
+    ensures { Some result ≡ first_sign (62 ∷ after.now) }
+{
+    match after {
+        [b'>', b'>', b'=', ..] => Sign::ShiftRightArithmeticAssign,
+        [b'>', b'=', ..] => Sign::ShiftRightAssign,
+        [b'>', b'>', ..] => Sign::ShiftRightArithmetic,
+        [b'=', ..] => Sign::GreaterOrEqual,
+        [b'>', ..] => Sign::ShiftRight,
+        _ => Sign::Greater,
+    }
+}
+
+/// The longest sign of a byte and what stands after it.
+fn sign_from(first: u8, after: &[u8]) -> Option<Sign>
+    ensures { result ≡ first_sign (first ∷ after.now) }
+{
+    let sign = match first {
+        b'(' => Sign::OpenParenthesis,
+        b')' => Sign::CloseParenthesis,
+        b'{' => Sign::OpenBrace,
+        b'}' => Sign::CloseBrace,
+        b'[' => Sign::OpenBracket,
+        b']' => Sign::CloseBracket,
+        b';' => Sign::Semicolon,
+        b',' => Sign::Comma,
+        b'?' => Sign::Question,
+        b'.' => Sign::Dot,
+        b'@' => Sign::Handle,
+        b'~' => Sign::BitNot,
+        b'!' => not_sign(after),
+        b'<' => less_sign(after),
+        b'>' => greater_sign(after),
+        b':' => match after {
+            [b':', ..] => Sign::Scope,
+            _ => Sign::Colon,
+        },
+        b'=' => match after {
+            [b'=', ..] => Sign::Equal,
+            _ => Sign::Assign,
+        },
+        b'+' => match after {
+            [b'+', ..] => Sign::Increment,
+            [b'=', ..] => Sign::PlusAssign,
+            _ => Sign::Plus,
+        },
+        b'-' => match after {
+            [b'-', ..] => Sign::Decrement,
+            [b'=', ..] => Sign::MinusAssign,
+            _ => Sign::Minus,
+        },
+        b'*' => match after {
+            [b'=', ..] => Sign::StarAssign,
+            [b'*', ..] => Sign::Power,
+            _ => Sign::Star,
+        },
+        b'/' => match after {
+            [b'=', ..] => Sign::SlashAssign,
+            _ => Sign::Slash,
+        },
+        b'%' => match after {
+            [b'=', ..] => Sign::PercentAssign,
+            _ => Sign::Percent,
+        },
+        b'&' => match after {
+            [b'&', ..] => Sign::LogicalAnd,
+            [b'=', ..] => Sign::BitAndAssign,
+            _ => Sign::BitAnd,
+        },
+        b'|' => match after {
+            [b'|', ..] => Sign::LogicalOr,
+            [b'=', ..] => Sign::BitOrAssign,
+            _ => Sign::BitOr,
+        },
+        b'^' => match after {
+            [b'^', ..] => Sign::LogicalXor,
+            [b'=', ..] => Sign::BitXorAssign,
+            _ => Sign::BitXor,
+        },
+        _ => return None,
+    };
+    Some(sign)
+}
+
 /// The longest sign that the bytes begin with.
 pub fn sign_at(bytes: &[u8]) -> Option<Sign>
     ensures { result ≡ first_sign bytes.now }
 {
-    let sign = match bytes {
-        [b'>', b'>', b'>', b'=', ..] => Sign::ShiftRightArithmeticAssign,
-        [b'!', b'i', b's', after @ ..] if !begins_with_word(after) => Sign::NotIs,
-        [b'<', b'<', b'=', ..] => Sign::ShiftLeftAssign,
-        [b'>', b'>', b'=', ..] => Sign::ShiftRightAssign,
-        [b'>', b'>', b'>', ..] => Sign::ShiftRightArithmetic,
-        [b'=', b'=', ..] => Sign::Equal,
-        [b'!', b'=', ..] => Sign::NotEqual,
-        [b'<', b'=', ..] => Sign::LessOrEqual,
-        [b'>', b'=', ..] => Sign::GreaterOrEqual,
-        [b'+', b'+', ..] => Sign::Increment,
-        [b'+', b'=', ..] => Sign::PlusAssign,
-        [b'-', b'-', ..] => Sign::Decrement,
-        [b'-', b'=', ..] => Sign::MinusAssign,
-        [b'*', b'=', ..] => Sign::StarAssign,
-        [b'/', b'=', ..] => Sign::SlashAssign,
-        [b'%', b'=', ..] => Sign::PercentAssign,
-        [b'&', b'&', ..] => Sign::LogicalAnd,
-        [b'&', b'=', ..] => Sign::BitAndAssign,
-        [b'|', b'|', ..] => Sign::LogicalOr,
-        [b'|', b'=', ..] => Sign::BitOrAssign,
-        [b'^', b'^', ..] => Sign::LogicalXor,
-        [b'^', b'=', ..] => Sign::BitXorAssign,
-        [b'<', b'<', ..] => Sign::ShiftLeft,
-        [b'>', b'>', ..] => Sign::ShiftRight,
-        [b'*', b'*', ..] => Sign::Power,
-        [b':', b':', ..] => Sign::Scope,
-        [b'(', ..] => Sign::OpenParenthesis,
-        [b')', ..] => Sign::CloseParenthesis,
-        [b'{', ..] => Sign::OpenBrace,
-        [b'}', ..] => Sign::CloseBrace,
-        [b'[', ..] => Sign::OpenBracket,
-        [b']', ..] => Sign::CloseBracket,
-        [b';', ..] => Sign::Semicolon,
-        [b',', ..] => Sign::Comma,
-        [b':', ..] => Sign::Colon,
-        [b'?', ..] => Sign::Question,
-        [b'.', ..] => Sign::Dot,
-        [b'@', ..] => Sign::Handle,
-        [b'~', ..] => Sign::BitNot,
-        [b'!', ..] => Sign::LogicalNot,
-        [b'=', ..] => Sign::Assign,
-        [b'<', ..] => Sign::Less,
-        [b'>', ..] => Sign::Greater,
-        [b'+', ..] => Sign::Plus,
-        [b'-', ..] => Sign::Minus,
-        [b'*', ..] => Sign::Star,
-        [b'/', ..] => Sign::Slash,
-        [b'%', ..] => Sign::Percent,
-        [b'&', ..] => Sign::BitAnd,
-        [b'|', ..] => Sign::BitOr,
-        [b'^', ..] => Sign::BitXor,
-        _ => return None,
-    };
-    Some(sign)
+    match bytes {
+        [first, after @ ..] => sign_from(*first, after),
+        [] => None,
+    }
 }

@@ -1,6 +1,7 @@
 //! The words that are no names.
 
-ghost use Rattle.std.specs.Prelude.{◌≡◌, Some};
+ghost use Rattle.std.specs.Prelude.{◌≡◌, ℕ, List, ◌∷◌, Some, find};
+ghost use Rattle.std.specs.Str.{bytes_eq};
 ghost use Rattle.ash_lex.specs.Words.{reserved_text, unsupported_text};
 ghost use Rattle.ash_lex.specs.Scan.{reserved_word, unsupported_word};
 
@@ -162,6 +163,13 @@ impl ReservedWord {
             ReservedWord::Return => "return",
         }
     }
+
+    /// Whether the bytes are how the word is written.
+    fn is_spelled(self, bytes: &[u8]) -> bool
+        ensures { result ≡ bytes_eq bytes.now (reserved_text self) }
+    {
+        bytes == self.as_str().as_bytes()
+    }
 }
 
 impl fmt::Display for ReservedWord {
@@ -172,46 +180,62 @@ impl fmt::Display for ReservedWord {
     }
 }
 
+/// The reserved words that begin with this byte.
+fn reserved_words_from(first: u8) -> &'static [ReservedWord]
+    ensures { (after : List ℕ) → find (λ w. bytes_eq (first ∷ after) (reserved_text w)) result.now ≡ reserved_word (first ∷ after) }
+{
+    match first {
+        b'a' => &[ReservedWord::And, ReservedWord::Array],
+        b'b' => &[ReservedWord::Bool, ReservedWord::Break],
+        b'c' => &[
+            ReservedWord::Class,
+            ReservedWord::Cast,
+            ReservedWord::Case,
+            ReservedWord::Continue,
+        ],
+        b'd' => &[ReservedWord::Do, ReservedWord::Default],
+        b'e' => &[ReservedWord::Else],
+        b'f' => &[ReservedWord::False, ReservedWord::For],
+        b'i' => &[
+            ReservedWord::Is,
+            ReservedWord::Int,
+            ReservedWord::Int32,
+            ReservedWord::Int64,
+            ReservedWord::Interface,
+            ReservedWord::If,
+        ],
+        b'n' => &[ReservedWord::Not, ReservedWord::Null],
+        b'o' => &[ReservedWord::Or],
+        b'r' => &[ReservedWord::Return],
+        b's' => &[ReservedWord::Switch],
+        b't' => &[ReservedWord::True, ReservedWord::This],
+        b'u' => &[
+            ReservedWord::Uint,
+            ReservedWord::Uint32,
+            ReservedWord::Uint64,
+        ],
+        b'v' => &[ReservedWord::Void],
+        b'w' => &[ReservedWord::While],
+        b'x' => &[ReservedWord::Xor],
+        _ => &[],
+    }
+}
+
+/// The first of these words that the bytes are.
+fn reserved_word_among(words: &[ReservedWord], bytes: &[u8]) -> Option<ReservedWord>
+    ensures { result ≡ find (λ w. bytes_eq bytes.now (reserved_text w)) words.now }
+{
+    words.iter().copied().find(|word| word.is_spelled(bytes))
+}
+
 /// The reserved word that the bytes are, if they are one.
 pub fn reserved_word(bytes: &[u8]) -> Option<ReservedWord>
     ensures { result ≡ reserved_word bytes.now }
 {
-    let word = match bytes {
-        b"and" => ReservedWord::And,
-        b"or" => ReservedWord::Or,
-        b"xor" => ReservedWord::Xor,
-        b"not" => ReservedWord::Not,
-        b"is" => ReservedWord::Is,
-        b"null" => ReservedWord::Null,
-        b"true" => ReservedWord::True,
-        b"false" => ReservedWord::False,
-        b"void" => ReservedWord::Void,
-        b"bool" => ReservedWord::Bool,
-        b"int" => ReservedWord::Int,
-        b"int32" => ReservedWord::Int32,
-        b"int64" => ReservedWord::Int64,
-        b"uint" => ReservedWord::Uint,
-        b"uint32" => ReservedWord::Uint32,
-        b"uint64" => ReservedWord::Uint64,
-        b"class" => ReservedWord::Class,
-        b"interface" => ReservedWord::Interface,
-        b"cast" => ReservedWord::Cast,
-        b"array" => ReservedWord::Array,
-        b"this" => ReservedWord::This,
-        b"if" => ReservedWord::If,
-        b"else" => ReservedWord::Else,
-        b"while" => ReservedWord::While,
-        b"do" => ReservedWord::Do,
-        b"for" => ReservedWord::For,
-        b"switch" => ReservedWord::Switch,
-        b"case" => ReservedWord::Case,
-        b"default" => ReservedWord::Default,
-        b"break" => ReservedWord::Break,
-        b"continue" => ReservedWord::Continue,
-        b"return" => ReservedWord::Return,
-        _ => return None,
-    };
-    Some(word)
+    match bytes {
+        [first, ..] => reserved_word_among(reserved_words_from(*first), bytes),
+        [] => None,
+    }
 }
 
 impl UnsupportedWord {
@@ -243,6 +267,13 @@ impl UnsupportedWord {
             UnsupportedWord::Uint16 => "uint16",
         }
     }
+
+    /// Whether the bytes are how the word is written.
+    fn is_spelled(self, bytes: &[u8]) -> bool
+        ensures { result ≡ bytes_eq bytes.now (unsupported_text self) }
+    {
+        bytes == self.as_str().as_bytes()
+    }
 }
 
 impl fmt::Display for UnsupportedWord {
@@ -253,33 +284,46 @@ impl fmt::Display for UnsupportedWord {
     }
 }
 
+/// The unsupported words that begin with this byte.
+fn unsupported_words_from(first: u8) -> &'static [UnsupportedWord]
+    ensures { (after : List ℕ) → find (λ w. bytes_eq (first ∷ after) (unsupported_text w)) result.now ≡ unsupported_word (first ∷ after) }
+{
+    match first {
+        b'a' => &[UnsupportedWord::Auto],
+        b'c' => &[UnsupportedWord::Catch, UnsupportedWord::Const],
+        b'd' => &[UnsupportedWord::Double],
+        b'e' => &[UnsupportedWord::Enum],
+        b'f' => &[UnsupportedWord::Float, UnsupportedWord::Funcdef],
+        b'i' => &[
+            UnsupportedWord::Import,
+            UnsupportedWord::In,
+            UnsupportedWord::Inout,
+            UnsupportedWord::Int8,
+            UnsupportedWord::Int16,
+        ],
+        b'm' => &[UnsupportedWord::Mixin],
+        b'n' => &[UnsupportedWord::Namespace],
+        b'o' => &[UnsupportedWord::Out],
+        b'p' => &[UnsupportedWord::Private, UnsupportedWord::Protected],
+        b't' => &[UnsupportedWord::Try, UnsupportedWord::Typedef],
+        b'u' => &[UnsupportedWord::Uint8, UnsupportedWord::Uint16],
+        _ => &[],
+    }
+}
+
+/// The first of these words that the bytes are.
+fn unsupported_word_among(words: &[UnsupportedWord], bytes: &[u8]) -> Option<UnsupportedWord>
+    ensures { result ≡ find (λ w. bytes_eq bytes.now (unsupported_text w)) words.now }
+{
+    words.iter().copied().find(|word| word.is_spelled(bytes))
+}
+
 /// The unsupported word that the bytes are, if they are one.
 pub fn unsupported_word(bytes: &[u8]) -> Option<UnsupportedWord>
     ensures { result ≡ unsupported_word bytes.now }
 {
-    let word = match bytes {
-        b"auto" => UnsupportedWord::Auto,
-        b"catch" => UnsupportedWord::Catch,
-        b"const" => UnsupportedWord::Const,
-        b"double" => UnsupportedWord::Double,
-        b"enum" => UnsupportedWord::Enum,
-        b"float" => UnsupportedWord::Float,
-        b"funcdef" => UnsupportedWord::Funcdef,
-        b"import" => UnsupportedWord::Import,
-        b"in" => UnsupportedWord::In,
-        b"inout" => UnsupportedWord::Inout,
-        b"int8" => UnsupportedWord::Int8,
-        b"int16" => UnsupportedWord::Int16,
-        b"mixin" => UnsupportedWord::Mixin,
-        b"namespace" => UnsupportedWord::Namespace,
-        b"out" => UnsupportedWord::Out,
-        b"private" => UnsupportedWord::Private,
-        b"protected" => UnsupportedWord::Protected,
-        b"try" => UnsupportedWord::Try,
-        b"typedef" => UnsupportedWord::Typedef,
-        b"uint8" => UnsupportedWord::Uint8,
-        b"uint16" => UnsupportedWord::Uint16,
-        _ => return None,
-    };
-    Some(word)
+    match bytes {
+        [first, ..] => unsupported_word_among(unsupported_words_from(*first), bytes),
+        [] => None,
+    }
 }
