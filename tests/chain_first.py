@@ -1,0 +1,93 @@
+#!/usr/bin/env python3
+"""`rt ci`, with the processors shared out so that the longest chain of crates gets most of them.
+
+The crates stand on each other in one long chain, and `rt ci` shares the processors evenly among all tasks that are ready,
+the tests and edits of crates that have none among them. So the crate that all others wait for would be proved at one job.
+Here a task that has nothing to do takes no share, and of the others the one with most behind it gets what the rest leave.
+Only the order of the work is another one: what is proved, tried and run, and the verdict, are those of `rt ci`. Under a
+toolchain that was not tried with this, plain `rt ci` runs.
+"""
+
+import importlib.machinery
+import importlib.util
+import os
+import shutil
+import subprocess
+import sys
+from concurrent.futures import FIRST_COMPLETED, ThreadPoolExecutor, wait
+
+TRIED_WITH = "rattle-kit-13b logic dac8208d650f15bf"
+MOST_JOBS = 4
+# What each further job of a check adds to its memory, and how much of the free memory is given out.
+MEMORY_OF_A_JOB = 0.6
+MEMORY_GIVEN_OUT = 0.85
+
+
+def load_rt():
+    file = os.path.realpath(shutil.which("rt"))
+    loader = importlib.machinery.SourceFileLoader("rt", file)
+    made = importlib.util.module_from_spec(importlib.util.spec_from_loader("rt", loader))
+    loader.exec_module(made)
+    return made
+
+
+def behind(tasks):
+    """For each task the lines of the longest chain of tasks that begins with it. A task comes after those it waits for."""
+    lines = dict.fromkeys(tasks, 0)
+    for key in reversed([*tasks]):
+        waits_for, own = tasks[key][:2]
+        lines[key] += own
+        for it in waits_for:
+            lines[it] = max(lines[it], lines[key])
+    return lines
+
+
+def jobs_for(idle, others, needs, room):
+    """How many jobs a task gets: the idle processors but one for each other task that is ready, and half of them at the
+    least, as far as memory goes."""
+    by_processors = max(idle - others, idle // 2, 1)
+    by_memory = 1 + int((room / needs - 1) / MEMORY_OF_A_JOB)
+    return max(1, min(MOST_JOBS, by_processors, by_memory))
+
+
+def in_lanes(tasks, processors, memory):
+    """Runs tasks side by side and returns what each gave. A task is what it waits for, its work in lines, its memory, and
+    a call that takes what was given so far and how many jobs it may use."""
+    order = behind(tasks)
+    left, running, given = sorted(tasks, key=lambda it: -order[it]), {}, {}
+    with ThreadPoolExecutor(max(processors, len(tasks))) as pool:
+        while left or running:
+            ready = [it for it in left if all(below in given for below in tasks[it][0])]
+            empty = [it for it in ready if not tasks[it][1]]
+            for key in empty:
+                left.remove(key)
+                given[key] = tasks[key][3](given, 1)
+            if empty:
+                continue
+            for number, key in enumerate(ready, 1):
+                _, _, needs, call = tasks[key]
+                idle = processors - sum(jobs for _, _, jobs in running.values())
+                room = memory - sum(taken for _, taken, _ in running.values())
+                if idle > 0 and (needs <= room or not running):
+                    # an edit's check takes one job
+                    jobs = 1 if key[1] == "edits" else jobs_for(idle, len(ready) - number, needs, room)
+                    taken = needs * (1 + MEMORY_OF_A_JOB * (jobs - 1))
+                    left.remove(key)
+                    running[pool.submit(call, given, jobs)] = key, taken, jobs
+            for it in wait(running, return_when=FIRST_COMPLETED).done:
+                given[running.pop(it)[0]] = it.result()
+    return given
+
+
+def main():
+    identity = subprocess.run(["rt", "version"], capture_output=True, text=True, check=True).stdout.strip()
+    if identity != TRIED_WITH:
+        print(f"chain_first: not tried with {identity}, so plain rt ci runs", flush=True)
+        os.execvp("rt", ["rt", "ci"])
+    rt = load_rt()
+    rt.in_lanes = lambda tasks: in_lanes(tasks, rt.processors(), MEMORY_GIVEN_OUT * rt.free())
+    return rt.main(["ci"])
+
+
+if __name__ == "__main__":
+    sys.exit(main())
