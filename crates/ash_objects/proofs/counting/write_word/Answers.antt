@@ -1,0 +1,6 @@
+use Rattle.ash_objects.proofs.Steps.{written_at}
+use Rattle.ash_objects.proofs.counting.write_word.Goals as goal
+
+pub returns-clause-written : goal.returns-clause-written
+returns-clause-written g c = λ number is_in.
+    written_at c.args.slot number c.args.store.now.objects c.item_mut-item.result.now c.item_mut-item.ensures.stored is_in (c.item_mut-item.ensures.value number is_in) c.args.place c.args.word c.in-Script.script c.set.new.self c.in-Script.is c.set.ensures

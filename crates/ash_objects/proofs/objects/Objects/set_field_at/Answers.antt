@@ -1,0 +1,69 @@
+use Rattle.std.proofs.Common.{◌≡◌, ◌<◌, refl, sym, ap, ◌∙◌, List, length, Some, subst, ℕ}
+use Rattle.std.specs.Prelude.{slice_get, IsSomeAnd, IfSome}
+use Rattle.ash_host.specs.declared.word.Word.{Word}
+use Rattle.ash_host.specs.Objects.{object_at, handle}
+use Rattle.ash_objects.specs.Bodies.{words_of}
+use Rattle.ash_objects.specs.Store.{Placed}
+use Rattle.ash_objects.specs.Table.{change_at}
+use Rattle.ash_objects.specs.Counting.{counted, change_handle, once_more, once_less, written}
+use Rattle.ash_objects.proofs.Fields.{after_all, before_counted, view_field, face_more, in_face, words_face}
+use Rattle.ash_objects.proofs.Views.{in_view, place_view, alive_view, fits_view, table_field}
+use Rattle.ash_objects.proofs.objects.Objects.set_field_at.Goals as goal
+
+pub refer-requires-clause-alive : goal.refer-requires-clause-alive
+refer-requires-clause-alive g c =
+    let alive = rw (← c.self.view_is) at c.requires.alive in
+    alive_view (handle c.args.word) c.self.inside.store.objects alive
+
+pub refer-requires-clause-fits : goal.refer-requires-clause-fits
+refer-requires-clause-fits g c = fits_view c.self.inside.store.objects _ _ c.self.invariant
+
+pub write_word-before-requires : goal.write_word-before-requires
+write_word-before-requires g c =
+    let l = c.self.inside.store.objects in
+    let n = c.requires.there.0 in
+    let at = rw (← c.self.view_is) at c.requires.there.1 in
+    let there = rw (← c.self.view_is) at c.requires.there.2 in
+    rw c.refer.ensures (
+      n,
+      in_face n c.args.slot (change_handle once_more (handle c.args.word) l) l (face_more (handle c.args.word) n l) (in_view n c.args.slot l at),
+      words_face (λ ws. c.args.place < length ws) n (change_handle once_more (handle c.args.word) l) l (face_more (handle c.args.word) n l) (place_view n c.args.place l there),
+    )
+
+pub release-requires : goal.release-requires
+release-requires g c =
+    let l = c.self.inside.store.objects in
+    let n = c.requires.there.0 in
+    let at = rw (← c.self.view_is) at c.requires.there.1 in
+    let alive = alive_view (handle c.args.word) l (rw (← c.self.view_is) at c.requires.alive) in
+    let same = face_more (handle c.args.word) n l in
+    let here = rw (← c.refer.ensures) at (in_face n c.args.slot (change_handle once_more (handle c.args.word) l) l same (in_view n c.args.slot l at)) in
+    let read = rw c.refer.ensures at (c.write_word-before.ensures.before n here) in
+    let there = words_face (λ ws. slice_get ws c.args.place ≡ Some c.write_word-before.result) n l (change_handle once_more (handle c.args.word) l) (sym same) read in
+    let all = c.write_word-before.ensures.written n here ∙ ap (λ (k : List (ℕ × Placed _)). change_at n (written c.args.place c.args.word) k) c.refer.ensures in
+    subst (λ (k : List (ℕ × Placed _)). IfSome (handle c.write_word-before.result) (λ number. 0 < counted number k)) (sym all)
+    (before_counted n c.args.place c.args.word c.write_word-before.result l c.self.invariant.in_order c.self.invariant.counted alive there)
+
+pub invariant_of-self : goal.invariant_of-self
+invariant_of-self g c =
+    let l = c.self.inside.store.objects in
+    let n = c.requires.there.0 in
+    let at = rw (← c.self.view_is) at c.requires.there.1 in
+    let alive = alive_view (handle c.args.word) l (rw (← c.self.view_is) at c.requires.alive) in
+    let same = face_more (handle c.args.word) n l in
+    let here = rw (← c.refer.ensures) at (in_face n c.args.slot (change_handle once_more (handle c.args.word) l) l same (in_view n c.args.slot l at)) in
+    let read = rw c.refer.ensures at (c.write_word-before.ensures.before n here) in
+    let there = words_face (λ ws. slice_get ws c.args.place ≡ Some c.write_word-before.result) n l (change_handle once_more (handle c.args.word) l) (sym same) read in
+    rw (c.release.ensures.objects, c.write_word-before.ensures.written n here, c.refer.ensures)
+    (table_field l _ _ c.self.invariant n c.args.place c.args.word c.write_word-before.result alive there)
+
+pub returns : goal.returns
+returns g c = λ n is.
+    let l = c.self.inside.store.objects in
+    let at = rw (← c.self.view_is) at is in
+    let alive = alive_view (handle c.args.word) l (rw (← c.self.view_is) at c.requires.alive) in
+    let same = face_more (handle c.args.word) n l in
+    let here = rw (← c.refer.ensures) at (in_face n c.args.slot (change_handle once_more (handle c.args.word) l) l same (in_view n c.args.slot l at)) in
+    let read = rw c.refer.ensures at (c.write_word-before.ensures.before n here) in
+    let there = words_face (λ ws. slice_get ws c.args.place ≡ Some c.write_word-before.result) n l (change_handle once_more (handle c.args.word) l) (sym same) read in
+    rw (← c.self.view_is, c.release.ensures.objects, c.write_word-before.ensures.written n here, c.refer.ensures, view_field n c.args.place c.args.word c.write_word-before.result l c.self.invariant.in_order c.self.invariant.counted alive there) refl

@@ -1,0 +1,31 @@
+use Rattle.std.proofs.Common.{sym, ◌∙◌, refl}
+use Rattle.ash_objects.proofs.Views.{in_view}
+use Rattle.ash_objects.proofs.Boxes.{some_box, table_box, view_box, box_view}
+use Rattle.ash_objects.proofs.objects.Objects.start_at.Goals as goal
+
+pub start_in-requires : goal.start_in-requires
+start_in-requires g c =
+    let l = c.self.inside.store.objects in
+    let at = rw (← c.self.view_is) at c.requires.1 in
+    let some = rw (← c.self.view_is) at c.requires.2 in
+    (c.requires.0, in_view c.requires.0 c.args.slot l at, some_box c.requires.0 l some)
+
+pub invariant_of-self : goal.invariant_of-self
+invariant_of-self g c =
+    let l = c.self.inside.store.objects in
+    let at = rw (← c.self.view_is) at c.requires.1 in
+    let a = c.start_in.ensures c.requires.0 (in_view c.requires.0 c.args.slot l at) in
+    rw a.becomes (table_box c.requires.0 l _ _ a.before a.after c.self.invariant a.was)
+
+pub returns : goal.returns
+returns g c = λ number is.
+    let l = c.self.inside.store.objects in
+    let at = rw (← c.self.view_is) at is in
+    let a = c.start_in.ensures number (in_view number c.args.slot l at) in
+    record {
+      before = a.before;
+      after = a.after;
+      was = rw (← c.self.view_is) (box_view number l ∙ a.was);
+      responds = a.responds;
+      becomes = rw (← c.self.view_is, a.becomes, view_box number l a.before a.after c.self.invariant.in_order c.self.invariant.counted a.was) refl;
+    }

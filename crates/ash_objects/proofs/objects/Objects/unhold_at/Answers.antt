@@ -1,0 +1,24 @@
+use Rattle.std.proofs.Common.{refl, arith, ◌<◌}
+use Rattle.ash_objects.specs.Counting.{counted}
+use Rattle.ash_objects.proofs.Counts.{view_less}
+use Rattle.ash_objects.proofs.Views.{in_view, holds_view, table_less}
+use Rattle.ash_objects.proofs.objects.Objects.unhold_at.Goals as goal
+
+pub count_less-requires : goal.count_less-requires
+count_less-requires g c =
+    let at = rw (← c.self.view_is) at c.requires.1 in
+    let some = rw (← c.self.view_is) at c.requires.2 in
+    let more = holds_view c.requires.0 c.self.inside.store.objects some in
+    (c.requires.0, in_view c.requires.0 c.args.slot c.self.inside.store.objects at, omega (arith, more))
+
+pub invariant_of-self : goal.invariant_of-self
+invariant_of-self g c =
+    let at = rw (← c.self.view_is) at c.requires.1 in
+    let some = rw (← c.self.view_is) at c.requires.2 in
+    rw (c.count_less.ensures.counted c.requires.0 (in_view c.requires.0 c.args.slot c.self.inside.store.objects at))
+    (table_less c.self.inside.store.objects _ _ c.self.invariant c.requires.0 (holds_view c.requires.0 c.self.inside.store.objects some))
+
+pub returns : goal.returns
+returns g c = λ number is.
+    let at = rw (← c.self.view_is) at is in
+    rw (← c.self.view_is, c.count_less.ensures.counted number (in_view number c.args.slot c.self.inside.store.objects at), view_less number c.self.inside.store.objects c.self.invariant.in_order c.self.invariant.counted) refl

@@ -1,0 +1,15 @@
+-- What objects hold.
+use Rattle.std.specs.Prelude.{ℕ, List, [], slice_set}
+use Rattle.ash_host.specs.declared.word.Word.{Word}
+use Rattle.ash_objects.specs.declared.body.Body.{Body}
+use Rattle.ash_objects.specs.declared.body.Body.TheVariants.{Script, Host}
+
+-- the words that an object holds; a host object holds none
+abbrev pub words_of : {B : Type 0} → Body B → List Word
+words_of (Script script) = script.fields
+words_of (Host _) = []
+
+-- an object with a word at a place
+abbrev pub with_word : {B : Type 0} → ℕ → Word → Body B → Body B
+with_word place word (Script script) = Script (record script { fields = slice_set script.fields place word })
+with_word place word (Host box) = Host box

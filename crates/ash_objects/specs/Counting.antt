@@ -1,0 +1,77 @@
+-- How the table counts: what it keeps beside each object, and what a contract sees of it.
+use Rattle.std.specs.Prelude.{◌≡◌, ℕ, ◌+◌, ◌-◌, ◌<◌, ◌≤◌, ◌^◌, ◌==◌, Bool, true, false, List, [], ◌∷◌, length, Option, None, Some, IfSome, nat_eq, sum_by, if◌then◌else◌}
+use Rattle.std.specs.Option.{option_map_or}
+use Rattle.std.specs.Map.{values_of}
+use Rattle.ash_host.specs.declared.word.Word.{Word}
+use Rattle.ash_host.specs.Objects.{object_at, Lives, IsInOrder, handle, handles_to}
+use Rattle.ash_objects.specs.declared.entry.Item.{Item}
+use Rattle.ash_objects.specs.Bodies.{words_of, with_word}
+use Rattle.ash_objects.specs.Store.{Placed, with_item}
+use Rattle.ash_objects.specs.Table.{Living, change_at}
+
+module _ {B : Type 0} where
+  -- how many handles to an object another one holds
+  abbrev pub holding : ℕ → Placed B → ℕ
+  holding number object = handles_to number (words_of (object.item).body)
+
+  -- how many handles to an object these hold
+  abbrev pub fields_in : ℕ → List (ℕ × Placed B) → ℕ
+  fields_in number objects = sum_by (holding number) (values_of objects)
+
+  -- the count that is kept of an object; none where none lives
+  abbrev pub counted : ℕ → List (ℕ × Placed B) → ℕ
+  counted number objects = option_map_or (λ object. (object.item).count) (object_at number objects) 0
+
+  -- what a contract sees of an object to which there are so many handles in fields
+  abbrev pub living : ℕ → Placed B → Living B
+  living handles object = record { slot = object.slot; holds = (object.item).count - handles; touched = (object.item).touched; body = (object.item).body }
+
+  -- the same of some objects among all
+  abbrev pub living_among : List (ℕ × Placed B) → List (ℕ × Placed B) → List (ℕ × Living B)
+  living_among all [] = []
+  living_among all (e ∷ objects) = (e.0, living (fields_in e.0 all) e.1) ∷ living_among all objects
+
+  -- the same of all
+  abbrev pub living_in : List (ℕ × Placed B) → List (ℕ × Living B)
+  living_in objects = living_among objects objects
+
+  -- Counts cover the handles in fields, with at most 2^127 holds beside them; what has none waits for the sweep; no
+  -- object is longer than an array may be, and there are no more than may live.
+  pub record AreCounted (objects : List (ℕ × Placed B)) : Type 0 where
+    pub covered : (number : ℕ) → fields_in number objects ≤ counted number objects
+    pub bounded : (number : ℕ) → counted number objects ≤ fields_in number objects + 2 ^ 127
+    pub waiting : (number : ℕ) → IfSome (object_at number objects) (λ object. (object.item).count ≡ 0 → object.waiting ≡ true)
+    pub short : (number : ℕ) → IfSome (object_at number objects) (λ object. length (words_of (object.item).body) ≤ 4096)
+    pub few : length objects ≤ 4096
+
+  -- every number was given: none is 0 or above the last
+  abbrev pub AreGiven : ℕ → List (ℕ × Placed B) → Type 0
+  AreGiven last objects = (number : ℕ) → Lives objects number → (0 < number) × (number ≤ last)
+
+  -- an object with another count
+  abbrev pub with_count : ℕ → Item B → Item B
+  with_count count item = record item { count = count }
+
+  -- an object that is counted once more
+  abbrev pub once_more : Placed B → Placed B
+  once_more object = with_item (with_count ((object.item).count + 1) object.item) object
+
+  -- an object that is counted once less; where nothing is left it waits for the sweep
+  abbrev pub once_less : Placed B → Placed B
+  once_less object = record { slot = object.slot; waiting = if (object.item).count == 1 then true else object.waiting; item = with_count ((object.item).count - 1) object.item }
+
+  -- the objects, with the one that a word is a handle to changed, if it is one
+  abbrev pub change_handle : (Placed B → Placed B) → Option ℕ → List (ℕ × Placed B) → List (ℕ × Placed B)
+  change_handle change None objects = objects
+  change_handle change (Some number) objects = change_at number change objects
+
+  -- an object with a word at a place, which touches it
+  abbrev pub written : ℕ → Word → Placed B → Placed B
+  written place word object = with_item (record { count = (object.item).count; touched = true; body = with_word place word (object.item).body }) object
+
+  -- what holds of the objects of a table
+  pub record IsTable (objects : List (ℕ × Placed B)) (last settled : ℕ) : Type 0 where
+    pub in_order : IsInOrder objects
+    pub counted : AreCounted objects
+    pub given : AreGiven last objects
+    pub cleared : settled ≤ last

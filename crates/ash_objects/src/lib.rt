@@ -1,0 +1,21 @@
+//! The objects of a host: those that live, by their numbers and with their counts; the boxes of the embedding program
+//! that are free; its services. It stands on `ash_host` alone, for words and host objects, and on a slab, in which each
+//! object has a slot while it lives. It promises that a table is a map from numbers to objects, in which a count is the
+//! number of fields that hold the object and one for each hold that was not undone.
+//!
+//! In reading order: `words` and `body` (what an object is), `objects` (the table and its calls), `counting` (how
+//! counts follow words), `store` and `entry` (objects in slots, found by their numbers).
+#![tactic(auto)]
+
+mod body;
+mod calling;
+mod counting;
+mod entry;
+mod host_calls;
+mod objects;
+mod store;
+mod words;
+
+pub use body::{Body, Script};
+pub use objects::Objects;
+pub use words::Words;
