@@ -7,3 +7,4 @@ pub mod Steps
 pub mod Fields
 pub mod Views
 pub mod Boxes
+pub mod Newcomers

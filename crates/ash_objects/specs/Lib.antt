@@ -4,3 +4,4 @@ pub mod Lending
 pub mod Table
 pub mod Counting
 pub mod Responses
+pub mod Making

@@ -12,10 +12,12 @@ mod calling;
 mod counting;
 mod entry;
 mod host_calls;
+mod making;
 mod objects;
 mod store;
 mod words;
 
 pub use body::{Body, Script};
+pub use making::{MAX_OBJECTS, MakeFault};
 pub use objects::Objects;
 pub use words::Words;

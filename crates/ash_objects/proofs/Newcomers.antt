@@ -1,0 +1,138 @@
+-- What a new object leaves of the table.
+use Rattle.std.proofs.Common.{◌≡◌, ◌≢◌, ℕ, Bool, true, false, cond, List, [], ◌∷◌, refl, sym, subst, ap, ◌∙◌, nat_eq, arith, Option, Some, None, length, zero, suc, ◌+◌, ◌-◌, ◌≤◌, ◌<◌, Less, Equal, Greater, get_or}
+use Rattle.std.specs.Prelude.{IsSomeAnd, IsSome, IfSome, sum_by, slice_get}
+use Rattle.std.specs.Option.{option_map, option_map_or, unwrap_or}
+use Rattle.std.specs.Map.{values_of, lookup}
+use Rattle.std.specs.BTreeMap.{is_at}
+use Rattle.std.specs.Ordering.{nat_cmp, match_ordering}
+use Rattle.std.specs.declared.cmp.Ordering.{Ordering}
+use Rattle.std.proofs.lemmas.Bool.{eqb-true, eq-eqb}
+use Rattle.std.proofs.lemmas.Cmp.{nat_cmp_total}
+use Rattle.std.proofs.lemmas.Map.Entries.{sum_by-insert_entry}
+use Rattle.std.proofs.lemmas.Map.Keys.{sorted_from_strictly_increasing}
+use Rattle.ash_host.specs.declared.word.Word.{Word}
+use Rattle.ash_host.specs.Objects.{object_at, numbers, IsInOrder, with_at, Lives, handles_to}
+use Rattle.ash_host.proofs.Order.{object_at-with_at, in_order-with_at, same_in_order}
+use Rattle.ash_objects.specs.Bodies.{words_of}
+use Rattle.ash_objects.specs.Store.{Placed}
+use Rattle.ash_objects.specs.Table.{Living, Table, slot_of}
+use Rattle.ash_objects.specs.Making.{made, with_made, first_of_kind}
+use Rattle.std.specs.List.{remove}
+use Rattle.ash_host.specs.declared.host_object.HostObject.{Ghosts}
+use Rattle.ash_objects.specs.declared.body.Body.{Body}
+use Rattle.ash_objects.specs.declared.body.Body.TheVariants.{Host}
+use Rattle.ash_objects.specs.Counting.{holding, fields_in, counted, living, living_among, living_in, AreCounted, AreGiven, IsTable}
+use Rattle.ash_objects.proofs.Placing.{found_by_number}
+use Rattle.ash_objects.proofs.Counts.{object_at-living, numbers-living}
+
+length-with_at : {A : Type 0} (n : ℕ) (v : A) (l : List (ℕ × A)) → length (with_at n v l) ≤ length l + 1
+length-with_at n v [] = omega arith
+length-with_at {A} n v (e ∷ l) =
+    go (nat_cmp n e.0) (length-with_at n v l)
+  where
+    go : (b : Ordering) → length (with_at n v l) ≤ length l + 1 → length (match_ordering b ((n, v) ∷ e ∷ l) ((e.0, v) ∷ l) (e ∷ with_at n v l)) ≤ suc (length l) + 1
+    go Less later = omega arith
+    go Equal later = omega arith
+    go Greater later = omega (arith, later)
+
+module _ {B : Type 0} (n : ℕ) (p : Placed B) (l : List (ℕ × Placed B)) (o : IsInOrder l) (none : object_at n l ≡ None) (empty : words_of (p.item).body ≡ []) (fresh : (p.item).count ≡ 0) where
+  at_new : (m : ℕ) → object_at m (with_at n p l) ≡ cond (nat_eq m n) (Some p) (object_at m l)
+  at_new m = object_at-with_at n p m l
+
+  fields_new : (m : ℕ) → fields_in m (with_at n p l) ≡ fields_in m l
+  fields_new m =
+      let sums = sum_by-insert_entry (holding m) nat_cmp_total l n p (sorted_from_strictly_increasing (numbers l) o) in
+      let there = ap (λ (v : Option (Placed B)). unwrap_or (option_map (holding m) v) 0) (found_by_number n l ∙ none) in
+      let words = ap (λ (ws : List Word). handles_to m ws) empty in
+      omega (arith, sums, there, words)
+
+  counted_new : (m : ℕ) → counted m (with_at n p l) ≡ counted m l
+  counted_new m = ap (λ (v : Option (Placed B)). option_map_or (λ object. (object.item).count) v 0) (at_new m) ∙ go (nat_eq m n) refl
+    where
+      go : (b : Bool) → nat_eq m n ≡ b → option_map_or (λ object. (object.item).count) (cond b (Some p) (object_at m l)) 0 ≡ counted m l
+      go false is = refl
+      go true is =
+          let nothing : object_at m l ≡ None = ap (λ (k : ℕ). object_at k l) (eqb-true m n is) ∙ none in
+          fresh ∙ sym (ap (λ (v : Option (Placed B)). option_map_or (λ object. (object.item).count) v 0) nothing)
+
+  -- what a contract sees: one object more, which nothing holds
+  pub view_new : (p.item).touched ≡ true → living_in (with_at n p l) ≡ with_at n (made p.slot (p.item).body) (living_in l)
+  view_new touched =
+      same_in_order (living_in (with_at n p l)) (with_at n (made p.slot (p.item).body) (living_in l)) (rw (numbers-living (with_at n p l) (with_at n p l)) (in_order-with_at n p l o)) (in_order-with_at n (made p.slot (p.item).body) (living_in l) (rw (numbers-living l l) o))
+      (λ m.
+      object_at-living m (with_at n p l) (with_at n p l)
+      ∙ ap (λ (k : ℕ). option_map (living k) (object_at m (with_at n p l))) (fields_new m)
+      ∙ ap (λ (v : Option (Placed B)). option_map (living (fields_in m l)) v) (at_new m)
+      ∙ each m (nat_eq m n)
+      ∙ sym (object_at-with_at n (made p.slot (p.item).body) m (living_in l) ∙ ap (λ (v : Option (Living B)). cond (nat_eq m n) (Some (made p.slot (p.item).body)) v) (object_at-living m l l)))
+    where
+      here : (k : ℕ) → living k p ≡ made p.slot (p.item).body
+      here k =
+          let holds : (p.item).count - k ≡ 0 = omega (arith, fresh) in
+          ap (λ (h : ℕ). record { slot = p.slot; holds = h; touched = (p.item).touched; body = (p.item).body }) holds
+          ∙ ap (λ (t : Bool). record { slot = p.slot; holds = 0; touched = t; body = (p.item).body }) touched
+
+      each : (m : ℕ) (b : Bool) → option_map (living (fields_in m l)) (cond b (Some p) (object_at m l)) ≡ cond b (Some (made p.slot (p.item).body)) (option_map (living (fields_in m l)) (object_at m l))
+      each m false = refl
+      each m true = ap Some (here (fields_in m l))
+
+  each_new : (P : Placed B → Type 0) → P p → ((m : ℕ) → IfSome (object_at m l) P) → (m : ℕ) → IfSome (object_at m (with_at n p l)) P
+  each_new P mine each m = subst (λ (v : Option (Placed B)). IfSome v P) (sym (at_new m)) (go (nat_eq m n) (each m))
+    where
+      go : (b : Bool) → IfSome (object_at m l) P → IfSome (cond b (Some p) (object_at m l)) P
+      go true h = mine
+      go false h = h
+
+  pub table_new : (last settled : ℕ) → IsTable l last settled → p.waiting ≡ true → length l < 4096 → last < n → IsTable (with_at n p l) n settled
+  table_new last settled t waits few later = record {
+    in_order = in_order-with_at n p l o;
+    counted = record {
+      covered = λ m. omega (arith, fields_new m, counted_new m, t.counted.covered m);
+      bounded = λ m. omega (arith, fields_new m, counted_new m, t.counted.bounded m);
+      waiting = each_new (λ x. (x.item).count ≡ 0 → x.waiting ≡ true) (λ zero. waits) t.counted.waiting;
+      short = each_new (λ x. length (words_of (x.item).body) ≤ 4096) (let none_of = ap length empty in omega (arith, none_of)) t.counted.short;
+      few = let longer = length-with_at n p l in omega (arith, longer, few);
+    };
+    given = λ m lives. given_new m (nat_eq m n) refl (subst (λ (v : Option (Placed B)). IsSome v) (at_new m) lives);
+    cleared = let before = t.cleared in omega (arith, before, later);
+  }
+    where
+      given_new : (m : ℕ) (b : Bool) → nat_eq m n ≡ b → IsSome (cond b (Some p) (object_at m l)) → (0 < m) × (m ≤ n)
+      given_new m true is h = let same = eqb-true m n is in (omega (arith, same, later), omega (arith, same))
+      given_new m false is h = let g = t.given m h in (g.0, let g1 = g.1 in omega (arith, g1, later))
+
+-- a number above the last is new
+pub absent : {B : Type 0} (l : List (ℕ × Placed B)) (last n : ℕ) → AreGiven last l → last < n → object_at n l ≡ None
+absent {B} l last n given later = go (object_at n l) refl
+  where
+    go : (v : Option (Placed B)) → object_at n l ≡ v → object_at n l ≡ None
+    go None is = is
+    go (Some p) is = let g = given n (subst (λ (v : Option (Placed B)). IsSome v) (sym is) refl) in let g1 = g.1 in absurd (omega (arith, g1, later))
+
+-- a contract sees as many objects as there are
+pub length-living : {B : Type 0} (all l : List (ℕ × Placed B)) → length (living_among all l) ≡ length l
+length-living all [] = refl
+length-living all (e ∷ l) = ap suc (length-living all l)
+
+-- what a look-up within a list finds
+pub got : {A : Type 0} (xs : List A) (i : ℕ) (x : A) → i < length xs → x ≡ get_or xs i x → slice_get xs i ≡ Some x
+got [] i x within is = absurd (omega arith)
+got (y ∷ xs) zero x within is = ap Some (sym is)
+got (y ∷ xs) (suc i) x within is = got xs i x (omega arith) is
+
+-- what a box that is drawn leaves
+pub drawn_is : {B : Type 0} (G : Ghosts B) (kind : ℕ) (t : Table B) (n slot place : ℕ) (box : B) (objects : List (ℕ × Living B)) (pool : List B) → first_of_kind G kind t ≡ Some place → slice_get t.pool place ≡ Some box → n ≡ t.last + 1 → objects ≡ with_at n (made slot (Host box)) t.objects → pool ≡ remove t.pool place → IsSomeAnd (first_of_kind G kind t) (λ place. IsSomeAnd (slice_get t.pool place) (λ box. IsSomeAnd (slot_of n (record t { objects = objects; pool = pool; last = n })) (λ slot. record t { objects = objects; pool = pool; last = n } ≡ record (with_made slot (Host box) t) { pool = remove t.pool place })))
+drawn_is {B} G kind t n slot place box objects pool first there number put taken =
+    rw (first, there, slot_is) final
+  where
+    slot_is : slot_of n (record t { objects = objects; pool = pool; last = n }) ≡ Some slot
+    slot_is =
+        ap (λ (l : List (ℕ × Living B)). option_map (λ object. object.slot) (object_at n l)) put
+        ∙ ap (λ (v : Option (Living B)). option_map (λ object. object.slot) v) (object_at-with_at n (made slot (Host box)) n t.objects)
+        ∙ ap (λ (b : Bool). option_map (λ object. object.slot) (cond b (Some (made slot (Host box))) (object_at n t.objects))) (eq-eqb n n refl)
+
+    final : record t { objects = objects; pool = pool; last = n } ≡ record (with_made slot (Host box) t) { pool = remove t.pool place }
+    final =
+        ap (λ (l : List (ℕ × Living B)). record t { objects = l; pool = pool; last = n }) put
+        ∙ ap (λ (p : List B). record t { objects = with_at n (made slot (Host box)) t.objects; pool = p; last = n }) taken
+        ∙ ap (λ (k : ℕ). record t { objects = with_at k (made slot (Host box)) t.objects; pool = remove t.pool place; last = k }) number
