@@ -1,8 +1,7 @@
 -- What a call of a host object leaves: its box, and nothing else.
-use Rattle.std.proofs.Common.{◌≡◌, ◌≢◌, ℕ, Bool, true, false, cond, List, [], ◌∷◌, refl, sym, subst, ap, ◌∙◌, nat_eq, arith, Option, Some, None, length, zero, suc, ◌+◌, ◌-◌, ◌≤◌, ◌<◌}
-use Rattle.std.specs.Prelude.{IsSomeAnd, IsSome, IfSome, sum_by}
+use Rattle.std.proofs.Common.{◌≡◌, ℕ, Bool, true, false, cond, List, [], ◌∷◌, refl, sym, subst, ap, ◌∙◌, nat_eq, arith, Option, Some, None, length, ◌≤◌}
+use Rattle.std.specs.Prelude.{IsSomeAnd, IsSome}
 use Rattle.std.specs.Option.{option_map, option_map_or, option_and_then}
-use Rattle.std.specs.Map.{values_of}
 use Rattle.ash_host.specs.declared.word.Word.{Word}
 use Rattle.ash_host.specs.Objects.{object_at, IsInOrder, handles_to}
 use Rattle.ash_objects.specs.declared.entry.Item.{Item}
@@ -17,10 +16,10 @@ use Rattle.ash_host.specs.declared.answer.HostAnswer.{HostAnswer}
 use Rattle.ash_host.specs.declared.answer.HostAnswer.TheVariants as answers
 use Rattle.ash_host.specs.declared.event.Target.{Target}
 use Rattle.ash_host.specs.declared.event.Event.TheVariants.{Called}
-use Rattle.ash_objects.specs.Counting.{holding, fields_in, counted, living, living_in, AreCounted, AreGiven, IsTable}
+use Rattle.ash_objects.specs.Counting.{holding, fields_in, living, living_in, AreCounted, IsTable}
 use Rattle.ash_objects.proofs.Changing.{object_at-change, length-change, in_order-change, sum-change, change_in_is}
 use Rattle.ash_objects.proofs.Counts.{object_at-living, each-change, given-change}
-use Rattle.ash_objects.proofs.Fields.{face, face_at, view_face, counted_same}
+use Rattle.ash_objects.proofs.Fields.{face, view_face, counted_same}
 use Rattle.ash_objects.proofs.Steps.{change_same}
 
 module _ {B : Type 0} where

@@ -1,19 +1,17 @@
 -- What is kept of counts, and what a contract sees of it.
-use Rattle.std.proofs.Common.{◌≡◌, ◌≢◌, ℕ, Bool, true, false, cond, List, [], ◌∷◌, refl, sym, subst, ap, ◌∙◌, nat_eq, arith, Option, Some, None, length, zero, suc, ◌+◌, ◌-◌, ◌≤◌, ◌<◌, ◌^◌, ◌*◌, set, get_or}
-use Rattle.std.specs.Prelude.{IsSomeAnd, IsSome, IfSome, is_some, sum_by, count_by}
+use Rattle.std.proofs.Common.{◌≡◌, ℕ, Bool, true, false, cond, List, [], ◌∷◌, refl, sym, subst, ap, ◌∙◌, nat_eq, arith, Option, Some, None, length, ◌+◌, ◌-◌, ◌≤◌, ◌<◌, ◌^◌, ◌*◌}
+use Rattle.std.specs.Prelude.{IsSome, IfSome}
 use Rattle.std.specs.Option.{option_map, option_map_or}
 use Rattle.std.specs.Map.{values_of}
 use Rattle.std.proofs.lemmas.Bool.{eqb-true, eq-eqb}
-use Rattle.std.proofs.lemmas.Bool.Decides.{nat_tests}
-use Rattle.std.proofs.lemmas.List.Sums.{sum_by-cons, sum_by-set, count_by-le-length}
-use Rattle.ash_host.specs.declared.word.Word.{Word}
-use Rattle.ash_host.specs.Objects.{object_at, numbers, IsInOrder, Lives, handles_to, is_handle_to, handle}
+use Rattle.std.proofs.lemmas.List.Sums.{sum_by-cons, count_by-le-length}
+use Rattle.ash_host.specs.Objects.{object_at, numbers, IsInOrder, handles_to, is_handle_to}
 use Rattle.ash_host.proofs.Order.{none_behind, in_order_behind, same_in_order}
 use Rattle.ash_objects.specs.Bodies.{words_of}
 use Rattle.ash_objects.specs.Store.{Placed}
 use Rattle.ash_objects.specs.Table.{Living, change_at, fields_holding, held, unheld}
-use Rattle.ash_objects.specs.Counting.{holding, fields_in, counted, living, living_among, living_in, AreCounted, AreGiven, once_more, once_less, change_handle}
-use Rattle.ash_objects.proofs.Changing.{object_at-change, numbers-change, length-change, in_order-change, sum-change, sum_same-change}
+use Rattle.ash_objects.specs.Counting.{holding, fields_in, counted, living, living_among, living_in, AreCounted, AreGiven, once_more, once_less}
+use Rattle.ash_objects.proofs.Changing.{object_at-change, length-change, in_order-change, sum_same-change}
 
 module _ {B : Type 0} where
   -- what a contract sees at a number

@@ -1,6 +1,6 @@
 -- What writing a field leaves: the counts follow the words, and nothing else changes.
-use Rattle.std.proofs.Common.{◌≡◌, ◌≢◌, ℕ, Bool, true, false, cond, List, [], ◌∷◌, refl, sym, subst, ap, ◌∙◌, nat_eq, arith, Option, Some, None, length, zero, suc, ◌+◌, ◌-◌, ◌≤◌, ◌<◌, ◌^◌, ◌*◌, set, get_or}
-use Rattle.std.specs.Prelude.{IsSomeAnd, IsSome, IfSome, is_some, sum_by, count_by, slice_get, ◌==◌}
+use Rattle.std.proofs.Common.{◌≡◌, ℕ, Bool, true, false, cond, List, [], ◌∷◌, refl, sym, subst, ap, ◌∙◌, nat_eq, arith, Option, Some, None, length, zero, suc, ◌+◌, ◌-◌, ◌≤◌, ◌<◌, set, get_or}
+use Rattle.std.specs.Prelude.{IsSomeAnd, IsSome, IfSome, sum_by, slice_get}
 use Rattle.std.specs.Option.{option_map, option_map_or}
 use Rattle.std.specs.Map.{values_of}
 use Rattle.std.proofs.lemmas.Bool.{eqb-true, eq-eqb}
@@ -9,14 +9,14 @@ use Rattle.std.proofs.lemmas.List.{length-set}
 use Rattle.std.proofs.lemmas.List.Sums.{sum_by-cons, sum_by-set, get_or-le-sum_by}
 use Rattle.ash_host.specs.declared.word.Word.{Word}
 use Rattle.ash_host.specs.declared.word.Word.TheVariants as words
-use Rattle.ash_host.specs.Objects.{object_at, numbers, IsInOrder, Lives, handles_to, is_handle_to, handle}
+use Rattle.ash_host.specs.Objects.{object_at, IsInOrder, Lives, handles_to, is_handle_to, handle}
 use Rattle.ash_objects.specs.declared.body.Body.{Body}
 use Rattle.ash_objects.specs.declared.body.Body.TheVariants.{Script, Host}
 use Rattle.ash_objects.specs.Bodies.{words_of, with_word}
 use Rattle.ash_objects.specs.Store.{Placed}
 use Rattle.ash_objects.specs.Table.{Living, change_at, with_field}
-use Rattle.ash_objects.specs.Counting.{holding, fields_in, counted, living, living_among, living_in, AreCounted, AreGiven, once_more, once_less, change_handle, written}
-use Rattle.ash_objects.proofs.Changing.{object_at-change, numbers-change, length-change, in_order-change, sum-change, sum_same-change}
+use Rattle.ash_objects.specs.Counting.{holding, fields_in, counted, living, living_in, AreCounted, once_more, once_less, change_handle, written}
+use Rattle.ash_objects.proofs.Changing.{object_at-change, length-change, in_order-change, sum-change, sum_same-change}
 use Rattle.ash_objects.proofs.Counts.{view_change, counted-change, each-change}
 
 -- whether a handle is to an object, as a number

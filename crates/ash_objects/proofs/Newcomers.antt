@@ -1,9 +1,7 @@
 -- What a new object leaves of the table.
-use Rattle.std.proofs.Common.{◌≡◌, ◌≢◌, ℕ, Bool, true, false, cond, List, [], ◌∷◌, refl, sym, subst, ap, ◌∙◌, nat_eq, arith, Option, Some, None, length, zero, suc, ◌+◌, ◌-◌, ◌≤◌, ◌<◌, Less, Equal, Greater, get_or}
-use Rattle.std.specs.Prelude.{IsSomeAnd, IsSome, IfSome, sum_by, slice_get}
+use Rattle.std.proofs.Common.{◌≡◌, ℕ, Bool, true, false, cond, List, [], ◌∷◌, refl, sym, subst, ap, ◌∙◌, nat_eq, arith, Option, Some, None, length, zero, suc, ◌+◌, ◌-◌, ◌≤◌, ◌<◌, Less, Equal, Greater, get_or}
+use Rattle.std.specs.Prelude.{IsSomeAnd, IsSome, IfSome, slice_get}
 use Rattle.std.specs.Option.{option_map, option_map_or, unwrap_or}
-use Rattle.std.specs.Map.{values_of, lookup}
-use Rattle.std.specs.BTreeMap.{is_at}
 use Rattle.std.specs.Ordering.{nat_cmp, match_ordering}
 use Rattle.std.specs.declared.cmp.Ordering.{Ordering}
 use Rattle.std.proofs.lemmas.Bool.{eqb-true, eq-eqb}
@@ -11,7 +9,7 @@ use Rattle.std.proofs.lemmas.Cmp.{nat_cmp_total}
 use Rattle.std.proofs.lemmas.Map.Entries.{sum_by-insert_entry}
 use Rattle.std.proofs.lemmas.Map.Keys.{sorted_from_strictly_increasing}
 use Rattle.ash_host.specs.declared.word.Word.{Word}
-use Rattle.ash_host.specs.Objects.{object_at, numbers, IsInOrder, with_at, Lives, handles_to}
+use Rattle.ash_host.specs.Objects.{object_at, numbers, IsInOrder, with_at, handles_to}
 use Rattle.ash_host.proofs.Order.{object_at-with_at, in_order-with_at, same_in_order}
 use Rattle.ash_objects.specs.Bodies.{words_of}
 use Rattle.ash_objects.specs.Store.{Placed}
@@ -19,9 +17,8 @@ use Rattle.ash_objects.specs.Table.{Living, Table, slot_of}
 use Rattle.ash_objects.specs.Making.{made, with_made, first_of_kind}
 use Rattle.std.specs.List.{remove}
 use Rattle.ash_host.specs.declared.host_object.HostObject.{Ghosts}
-use Rattle.ash_objects.specs.declared.body.Body.{Body}
 use Rattle.ash_objects.specs.declared.body.Body.TheVariants.{Host}
-use Rattle.ash_objects.specs.Counting.{holding, fields_in, counted, living, living_among, living_in, AreCounted, AreGiven, IsTable}
+use Rattle.ash_objects.specs.Counting.{holding, fields_in, counted, living, living_among, living_in, AreGiven, IsTable}
 use Rattle.ash_objects.proofs.Placing.{found_by_number}
 use Rattle.ash_objects.proofs.Counts.{object_at-living, numbers-living}
 

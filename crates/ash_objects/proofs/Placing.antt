@@ -1,19 +1,17 @@
 -- Objects in slots: what a look-up finds, and what a write of a slot changes.
-use Rattle.std.proofs.Common.{◌≡◌, ◌≢◌, ℕ, Bool, true, false, cond, List, [], ◌∷◌, ◌⊎◌, inl, inr, refl, sym, subst, ap, ◌∙◌, nat_eq, arith, Option, Some, None, length, zero, suc, ◌+◌, ◌≤◌, ◌<◌, get_or, set, count_by, sum_by}
-use Rattle.std.specs.Prelude.{IsSomeAnd, IsSome, IfSome}
+use Rattle.std.proofs.Common.{◌≡◌, ℕ, Bool, true, false, cond, List, [], ◌∷◌, refl, sym, subst, ap, ◌∙◌, nat_eq, arith, Option, Some, None, length, suc}
+use Rattle.std.specs.Prelude.{IsSomeAnd, IfSome}
 use Rattle.std.specs.Option.{option_map}
 use Rattle.std.specs.List.{Contains}
 use Rattle.std.specs.Map.{lookup}
 use Rattle.std.specs.Ordering.{nat_cmp}
 use Rattle.std.specs.BTreeMap.{is_at}
-use Rattle.std.proofs.lemmas.Bool.{eqb-true, eq-eqb}
+use Rattle.std.proofs.lemmas.Bool.{eqb-true}
 use Rattle.std.proofs.lemmas.Bool.Decides.{nat_tests}
-use Rattle.slab.specs.Slab.{Slab, get, with_value, Updates}
-use Rattle.slab.proofs.SlabLemmas.{Updates-with_value}
-use Rattle.ash_host.specs.Objects.{object_at, numbers, IsInOrder, with_at}
-use Rattle.ash_host.proofs.Order.{none_behind, in_order_behind}
+use Rattle.slab.specs.Slab.{Slab, get}
+use Rattle.ash_host.specs.Objects.{object_at, numbers, IsInOrder}
 use Rattle.ash_objects.specs.declared.entry.Entry.{Entry}
-use Rattle.ash_objects.specs.Store.{Placed, placed, with_entry, placed_in, ArePlaced, IsStored, AreStored, NoneWaits, IsIn, IsOccupied, change_in}
+use Rattle.ash_objects.specs.Store.{Placed, placed, with_entry, placed_in, ArePlaced, AreStored, NoneWaits, IsIn, IsOccupied}
 
 is_at_eq : (x y : ℕ) → is_at (nat_cmp x) y ≡ nat_eq x y
 is_at_eq x y = grind (arith, nat_tests)

@@ -1,6 +1,6 @@
 -- What the code does in a slot, as changes at a number.
-use Rattle.std.proofs.Common.{◌≡◌, ◌≢◌, ℕ, Bool, true, false, cond, List, [], ◌∷◌, refl, sym, subst, ap, ◌∙◌, nat_eq, arith, Option, Some, None, length, zero, suc, ◌+◌, ◌-◌, ◌≤◌, ◌<◌}
-use Rattle.std.specs.Prelude.{IsSomeAnd, IsSome, IfSome, ◌==◌, slice_get, slice_set}
+use Rattle.std.proofs.Common.{◌≡◌, ℕ, Bool, true, false, cond, List, [], ◌∷◌, refl, sym, subst, ap, ◌∙◌, nat_eq, arith, Option, Some, None, ◌+◌, ◌-◌, ◌<◌}
+use Rattle.std.specs.Prelude.{IsSomeAnd, ◌==◌, slice_set}
 use Rattle.std.specs.Option.{option_map, option_map_or}
 use Rattle.std.proofs.lemmas.Bool.{eqb-true, eq-eqb}
 use Rattle.ash_host.specs.Objects.{object_at, IsInOrder}
@@ -10,7 +10,7 @@ use Rattle.ash_objects.specs.declared.entry.Item.{Item}
 use Rattle.ash_objects.specs.declared.body.Body.{Body}
 use Rattle.ash_objects.specs.declared.body.Body.TheVariants.{Script}
 use Rattle.ash_objects.specs.declared.body.Script as scripts
-use Rattle.ash_objects.specs.Bodies.{words_of, with_word}
+use Rattle.ash_objects.specs.Bodies.{with_word}
 use Rattle.ash_objects.specs.Store.{Placed, AreStored, IsIn, IsOccupied, change_in, with_item, with_waiting}
 use Rattle.ash_objects.specs.Table.{change_at}
 use Rattle.ash_objects.specs.Counting.{counted, once_more, once_less, with_count, written}

@@ -1,15 +1,15 @@
 -- What a contract sees of the objects of a table, and what the code knows of them.
-use Rattle.std.proofs.Common.{◌≡◌, ◌≢◌, ℕ, Bool, true, false, cond, List, [], ◌∷◌, refl, sym, subst, ap, ◌∙◌, nat_eq, arith, Option, Some, None, length, zero, suc, ◌+◌, ◌-◌, ◌≤◌, ◌<◌, ◌^◌}
+use Rattle.std.proofs.Common.{◌≡◌, ℕ, List, [], ◌∷◌, refl, sym, subst, ap, ◌∙◌, arith, Option, Some, None, length, zero, suc, ◌+◌, ◌-◌, ◌<◌, ◌^◌}
 use Rattle.std.specs.Prelude.{IsSomeAnd, IsSome, IfSome, slice_get}
 use Rattle.std.specs.Option.{option_map, option_map_or, option_and_then}
 use Rattle.ash_host.specs.declared.word.Word.{Word}
-use Rattle.ash_host.specs.Objects.{object_at, IsInOrder, Lives, handle}
+use Rattle.ash_host.specs.Objects.{object_at, Lives, handle}
 use Rattle.ash_objects.specs.Bodies.{words_of}
 use Rattle.ash_objects.specs.Store.{Placed, IsIn}
-use Rattle.ash_objects.specs.Table.{Living, change_at, fields_holding, held, unheld, with_field}
-use Rattle.ash_objects.specs.Counting.{fields_in, counted, living, living_in, AreCounted, AreGiven, IsTable, once_more, once_less, change_handle, written}
+use Rattle.ash_objects.specs.Table.{Living, change_at, fields_holding}
+use Rattle.ash_objects.specs.Counting.{fields_in, counted, living, living_in, AreGiven, IsTable, once_more, once_less, change_handle, written}
 use Rattle.ash_objects.proofs.Changing.{in_order-change}
-use Rattle.ash_objects.proofs.Counts.{object_at-living, fields-living, count_is, counted_fits, sound_more, sound_less, given-change}
+use Rattle.ash_objects.proofs.Counts.{object_at-living, count_is, counted_fits, sound_more, sound_less, given-change}
 use Rattle.ash_objects.proofs.Fields.{after_all, sound_field, order_write, handle_order}
 use Rattle.ash_objects.proofs.Steps.{is_in_from}
 

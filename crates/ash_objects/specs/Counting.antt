@@ -1,9 +1,9 @@
 -- How the table counts: what it keeps beside each object, and what a contract sees of it.
-use Rattle.std.specs.Prelude.{◌≡◌, ℕ, ◌+◌, ◌-◌, ◌<◌, ◌≤◌, ◌^◌, ◌==◌, Bool, true, false, List, [], ◌∷◌, length, Option, None, Some, IfSome, nat_eq, sum_by, if◌then◌else◌}
+use Rattle.std.specs.Prelude.{◌≡◌, ℕ, ◌+◌, ◌-◌, ◌<◌, ◌≤◌, ◌^◌, ◌==◌, true, List, [], ◌∷◌, length, Option, None, Some, IfSome, sum_by, if◌then◌else◌}
 use Rattle.std.specs.Option.{option_map_or}
 use Rattle.std.specs.Map.{values_of}
 use Rattle.ash_host.specs.declared.word.Word.{Word}
-use Rattle.ash_host.specs.Objects.{object_at, Lives, IsInOrder, handle, handles_to}
+use Rattle.ash_host.specs.Objects.{object_at, Lives, IsInOrder, handles_to}
 use Rattle.ash_objects.specs.declared.entry.Item.{Item}
 use Rattle.ash_objects.specs.Bodies.{words_of, with_word}
 use Rattle.ash_objects.specs.Store.{Placed, with_item}

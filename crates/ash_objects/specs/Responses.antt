@@ -1,5 +1,5 @@
 -- What host objects do at calls.
-use Rattle.std.specs.Prelude.{◌≡◌, ℕ, ◌≤◌, true, List, [], ◌∷◌, ◌++◌, length, Option, Some, None, slice_get, slice_set}
+use Rattle.std.specs.Prelude.{◌≡◌, ℕ, ◌≤◌, true, List, [], ◌∷◌, length, Option, Some, None, slice_get, slice_set}
 use Rattle.std.specs.Option.{option_and_then}
 use Rattle.ash_host.specs.declared.answer.HostAnswer.{HostAnswer}
 use Rattle.ash_host.specs.declared.answer.HostAnswer.TheVariants.{NoMemory}

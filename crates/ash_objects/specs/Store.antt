@@ -1,9 +1,7 @@
 -- Objects in their slots, as a list by ascending number.
-use Rattle.std.specs.Prelude.{◌≡◌, ℕ, ◌+◌, ◌≤◌, Bool, true, false, not, List, [], ◌∷◌, length, Option, None, Some, IsSome, IfSome, IsSomeAnd, Contains, nat_eq, count_by, if◌then◌else◌, vec_capacity}
-use Rattle.std.specs.Map.{lookup}
-use Rattle.std.specs.List.Sorted.{IsStrictlyIncreasing}
+use Rattle.std.specs.Prelude.{◌≡◌, ℕ, ◌+◌, ◌≤◌, Bool, true, false, not, List, [], ◌∷◌, length, Option, None, Some, IfSome, IsSomeAnd, Contains, nat_eq, count_by, if◌then◌else◌}
 use Rattle.slab.specs.Slab.{Slab, get}
-use Rattle.ash_host.specs.Objects.{object_at, numbers, IsInOrder}
+use Rattle.ash_host.specs.Objects.{object_at, IsInOrder}
 use Rattle.ash_objects.specs.declared.entry.Item.{Item}
 use Rattle.ash_objects.specs.declared.entry.Entry.{Entry}
 

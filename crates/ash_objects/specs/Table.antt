@@ -1,11 +1,10 @@
 -- The table: objects by their numbers, and what else the host keeps of objects.
-use Rattle.std.specs.Prelude.{◌≡◌, ℕ, ◌+◌, ◌-◌, ◌<◌, ◌≤◌, ◌^◌, Bool, true, false, List, [], ◌∷◌, length, Option, None, Some, IsSome, IfSome, IsSomeAnd, nat_eq, sum_by, slice_get, slice_set, if◌then◌else◌}
+use Rattle.std.specs.Prelude.{◌≡◌, ℕ, ◌+◌, ◌-◌, Bool, true, List, [], ◌∷◌, Option, Some, IfSome, nat_eq, sum_by, slice_get, if◌then◌else◌}
 use Rattle.std.specs.Option.{option_map, option_map_or, option_and_then}
 use Rattle.std.specs.Map.{values_of}
 use Rattle.ash_host.specs.declared.word.Word.{Word}
 use Rattle.ash_host.specs.Objects.{object_at, Lives, handle, handles_to}
 use Rattle.ash_objects.specs.declared.body.Body.{Body}
-use Rattle.ash_objects.specs.declared.body.Body.TheVariants.{Script, Host}
 use Rattle.ash_objects.specs.Bodies.{words_of, with_word}
 
 -- An object: the slot that it is in, how many holds of it were not undone, whether it was made or changed since the

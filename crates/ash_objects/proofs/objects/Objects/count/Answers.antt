@@ -1,4 +1,4 @@
-use Rattle.std.proofs.Common.{◌≡◌, sym, ap, ◌∙◌, refl, subst, arith, Some, None, Option}
+use Rattle.std.proofs.Common.{sym, ap, ◌∙◌, Option}
 use Rattle.std.specs.Option.{option_map_or}
 use Rattle.ash_objects.specs.Store.{Placed}
 use Rattle.ash_objects.proofs.Counts.{count_is}

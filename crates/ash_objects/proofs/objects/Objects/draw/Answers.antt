@@ -1,5 +1,4 @@
-use Rattle.std.proofs.Common.{rules, ◌≡◌, refl, arith, sym, ap, ◌∙◌, ◌≤◌, ◌<◌, ◌+◌, ℕ, length, true, Some, None}
-use Rattle.std.specs.Prelude.{slice_get}
+use Rattle.std.proofs.Common.{rules, ◌≡◌, refl, arith, sym, ap, ◌∙◌, ◌<◌, ◌+◌, length, true}
 use Rattle.ash_host.specs.Objects.{with_at}
 use Rattle.ash_objects.specs.declared.body.Body.TheVariants.{Host}
 use Rattle.ash_objects.specs.Counting.{living_in}

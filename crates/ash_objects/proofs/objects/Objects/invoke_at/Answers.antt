@@ -1,4 +1,4 @@
-use Rattle.std.proofs.Common.{sym, ◌∙◌, refl}
+use Rattle.std.proofs.Common.{◌∙◌, refl}
 use Rattle.ash_host.specs.declared.event.Target.TheVariants.{Object}
 use Rattle.ash_objects.proofs.Views.{in_view}
 use Rattle.ash_objects.proofs.Boxes.{some_box, table_box, view_box, box_view, called_is}

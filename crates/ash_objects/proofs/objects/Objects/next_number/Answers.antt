@@ -1,4 +1,4 @@
-use Rattle.std.proofs.Common.{refl, arith, sym, ◌∙◌, ◌≤◌, ◌<◌, ℕ}
+use Rattle.std.proofs.Common.{refl, arith}
 use Rattle.ash_objects.proofs.Newcomers.{length-living}
 use Rattle.ash_objects.proofs.objects.Objects.next_number.Goals as goal
 

@@ -1,4 +1,4 @@
-use Rattle.std.proofs.Common.{sym, ◌∙◌, refl}
+use Rattle.std.proofs.Common.{◌∙◌, refl}
 use Rattle.ash_objects.proofs.Views.{in_view}
 use Rattle.ash_objects.proofs.Boxes.{some_box, table_box, view_box, box_view}
 use Rattle.ash_objects.proofs.objects.Objects.set_prop_at.Goals as goal

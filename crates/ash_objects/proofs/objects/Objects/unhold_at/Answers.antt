@@ -1,5 +1,4 @@
-use Rattle.std.proofs.Common.{refl, arith, ◌<◌}
-use Rattle.ash_objects.specs.Counting.{counted}
+use Rattle.std.proofs.Common.{refl, arith}
 use Rattle.ash_objects.proofs.Counts.{view_less}
 use Rattle.ash_objects.proofs.Views.{in_view, holds_view, table_less}
 use Rattle.ash_objects.proofs.objects.Objects.unhold_at.Goals as goal

@@ -1,4 +1,4 @@
-use Rattle.std.proofs.Common.{rules, sym, ap, ◌∙◌, refl, true, Some}
+use Rattle.std.proofs.Common.{rules, sym, ap, ◌∙◌, refl, true}
 use Rattle.std.specs.Option.{option_copied_mut}
 use Rattle.ash_objects.specs.Store.{with_waiting}
 use Rattle.ash_objects.proofs.Placing.{not_empty, are_stored}

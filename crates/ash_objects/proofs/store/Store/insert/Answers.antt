@@ -1,8 +1,8 @@
-use Rattle.std.proofs.Common.{◌≡◌, ◌≤◌, ◌+◌, sym, ap, ◌∙◌, refl, subst, arith, Some, None, Option, List, ℕ, true, length, nat_eq, vec_capacity, rules}
+use Rattle.std.proofs.Common.{◌≡◌, ◌≤◌, ◌+◌, sym, ap, ◌∙◌, refl, subst, arith, Some, None, Option, ℕ, true, length, vec_capacity, rules}
 use Rattle.std.specs.Option.{option_map}
 use Rattle.slab.specs.Slab.{Updates, slab_len}
 use Rattle.ash_host.specs.Objects.{object_at, with_at}
-use Rattle.ash_objects.specs.Store.{Placed, Store, placed_in}
+use Rattle.ash_objects.specs.Store.{Placed, placed_in}
 use Rattle.ash_objects.proofs.Placing.{slots_of}
 use Rattle.ash_objects.proofs.Moving.{SameBut, stored_regrown, placed_regrown, inserted_stored, inserted_in}
 use Rattle.ash_objects.proofs.store.Store.insert.Goals as goal

@@ -1,4 +1,4 @@
-use Rattle.std.proofs.Common.{sym, ap, ◌∙◌, refl, Some}
+use Rattle.std.proofs.Common.{sym, ap, ◌∙◌, refl}
 use Rattle.std.specs.Option.{option_copied}
 use Rattle.ash_objects.proofs.Placing.{item_in, not_empty}
 use Rattle.ash_objects.proofs.store.Store.item.Goals as goal

@@ -1,4 +1,4 @@
-use Rattle.std.proofs.Common.{sym, ap, ◌∙◌, refl, Some, length, vec_capacity}
+use Rattle.std.proofs.Common.{sym, ap, ◌∙◌, refl, length, vec_capacity}
 use Rattle.std.specs.Option.{option_copied_mut}
 use Rattle.ash_objects.specs.Store.{with_item}
 use Rattle.ash_objects.proofs.Placing.{item_in, not_empty, are_stored}

@@ -1,4 +1,4 @@
-use Rattle.std.proofs.Common.{sym, ap, ◌∙◌, refl, length}
+use Rattle.std.proofs.Common.{sym, ◌∙◌}
 use Rattle.ash_objects.proofs.Placing.{length-placed, are_stored}
 use Rattle.ash_objects.proofs.store.Store.len.Goals as goal
 

@@ -1,4 +1,4 @@
-use Rattle.std.proofs.Common.{sym, ap, ◌∙◌, refl, subst, Some, List, ℕ, true, false, ◌≡◌, arith, length}
+use Rattle.std.proofs.Common.{sym, ap, ◌∙◌, refl, subst, List, ℕ, true, false, ◌≡◌, arith, length}
 use Rattle.std.specs.Prelude.{IfSome}
 use Rattle.std.specs.List.{Contains}
 use Rattle.std.specs.Option.{option_copied_mut}

@@ -1,4 +1,4 @@
-use Rattle.std.proofs.Common.{sym, ap, ◌∙◌, refl, subst, Some, Option, List, ℕ, nat_eq}
+use Rattle.std.proofs.Common.{sym, ◌∙◌, refl, subst, Option}
 use Rattle.std.specs.Prelude.{IsSome}
 use Rattle.std.proofs.lemmas.Map.Keys.{IsStrictlyIncreasing-from_sorted}
 use Rattle.ash_objects.specs.declared.entry.Entry.{Entry}
