@@ -6,8 +6,9 @@ import sys
 
 TOP = os.path.dirname(os.path.dirname(os.path.abspath(__file__)))
 
-# How many minutes it takes to prove and build ashd from nothing, by the number of processors.
-MINUTES = {2: 60, 4: 35}
+# Within how many minutes a run of the gate had ashd proved from nothing, by the number of processors. The gate proves the
+# tests beside it; a build by ashd.sh alone was not timed.
+MINUTES = {4: 45}
 
 
 def processors():
@@ -15,7 +16,7 @@ def processors():
 
 
 def time_to_prove():
-    """About how long it takes to prove and build ashd here: the time that was measured on the nearest machine below."""
+    """About how long it takes to prove and build ashd, as the gate did on the machine nearest to this one."""
     measured = max((it for it in MINUTES if it <= processors()), default=min(MINUTES))
     return f"about {MINUTES[measured]} minutes on {measured} processors (this machine has {processors()})"
 
