@@ -3,7 +3,8 @@
 
 The crates stand on each other in one long chain, and `rt ci` shares the processors evenly among all tasks that are ready,
 the tests and edits of crates that have none among them. So the crate that all others wait for would be proved at one job.
-Here a task that has nothing to do takes no share, and of the others the one with most behind it gets what the rest leave.
+Here a task that has nothing to do takes no share, and of the others the one with most behind it gets all processors that
+are idle but one, on which another runs beside it.
 Only the order of the work is another one: what is proved, tried and run, and the verdict, are those of `rt ci`. Under a
 toolchain that was not tried with this, plain `rt ci` runs.
 """
@@ -43,9 +44,8 @@ def behind(tasks):
 
 
 def jobs_for(idle, others, needs, room):
-    """How many jobs a task gets: the idle processors but one for each other task that is ready, and half of them at the
-    least, as far as memory goes."""
-    by_processors = max(idle - others, idle // 2, 1)
+    """How many jobs a task gets: the idle processors, but one where another task is ready, as far as memory goes."""
+    by_processors = max(idle - min(others, 1), 1)
     by_memory = 1 + int((room / needs - 1) / MEMORY_OF_A_JOB)
     return max(1, min(MOST_JOBS, by_processors, by_memory))
 
