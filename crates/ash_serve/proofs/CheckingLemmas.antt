@@ -8,17 +8,17 @@ use Rattle.ash_meaning.specs.declared.refusal.Refusal.TheVariants as the
 use Rattle.ash_meaning.specs.Refusals.{Refusal, refusal_of}
 use Rattle.ash_meaning.specs.Refusals as refusals
 use Rattle.ash_meaning.specs.Checking.{Checking, TakesToCheck}
-use Rattle.ash_serve.specs.Source.{Feed}
-use Rattle.ash_serve.specs.Sink.{Outlet}
-use Rattle.ash_serve.specs.Reading.{kept_part, ReadsBytes}
+use Rattle.ash_lines.specs.Source.{Feed}
+use Rattle.ash_lines.specs.Sink.{Outlet}
+use Rattle.ash_lines.specs.Reading.{kept_part, ReadsBytes}
 use Rattle.ash_serve.specs.Serving.{fault_of}
 use Rattle.ash_serve.specs.Checking.{found_line, judged, Judges, Tells, ReadsScript, ChecksScript, IsScriptOf, ChecksFile}
-use Rattle.ash_serve.specs.Reader.{left_of, allowance_of, reader_feed}
-use Rattle.ash_serve.specs.Writer.{writer_outlet}
-use Rattle.ash_serve.specs.declared.reader.Reader.{Reader}
-use Rattle.ash_serve.specs.declared.writer.Writer.{Writer}
-use Rattle.ash_serve.specs.declared.source.ReadFault.{ReadFault}
-use Rattle.ash_serve.specs.declared.source.ReadFault.TheVariants as reads
+use Rattle.ash_lines.specs.Reader.{left_of, allowance_of, reader_feed}
+use Rattle.ash_lines.specs.Writer.{writer_outlet}
+use Rattle.ash_lines.specs.declared.reader.Reader.{Reader}
+use Rattle.ash_lines.specs.declared.writer.Writer.{Writer}
+use Rattle.ash_lines.specs.declared.source.ReadFault.{ReadFault}
+use Rattle.ash_lines.specs.declared.source.ReadFault.TheVariants as reads
 use Rattle.ash_serve.specs.declared.fault.RunFault.TheVariants as faults
 use Rattle.ash_serve.specs.declared.program.ending.Ending.{Ending}
 use Rattle.ash_serve.specs.declared.program.fault.Fault.{Fault}

@@ -1,7 +1,7 @@
 -- What is kept of a source.
 use Rattle.std.proofs.Common.{◌≡◌, ◌<◌, ◌≤◌, ℕ, List, [], ◌∷◌, ◌++◌, length, take, refl, sym, ap, ◌∙◌, arith, zero, suc, nat_lt, Bool, true, false}
 use borrow.Author.Tests.{ltb-true, ltb-false}
-use Rattle.ash_serve.specs.Reading.{kept_part}
+use Rattle.ash_lines.specs.Reading.{kept_part}
 
 -- one more byte, where there is room for it
 

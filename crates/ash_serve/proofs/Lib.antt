@@ -1,14 +1,7 @@
-pub mod SourceLemmas
-pub mod LineLemmas
-pub mod NumberLemmas
-pub mod WordLemmas
-pub mod SinkLemmas
 pub mod KeptLemmas
 pub mod NextLemmas
 pub mod TakenLemmas
 pub mod ServingLemmas
-pub mod ReaderLemmas
-pub mod WriterLemmas
 pub mod RunningLemmas
 pub mod ServiceLemmas
 pub mod CheckingLemmas

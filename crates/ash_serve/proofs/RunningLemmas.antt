@@ -4,15 +4,15 @@ use Rattle.std.proofs.lemmas.List.{append-nil}
 use Rattle.std.specs.Option.{option_to_list}
 use Rattle.std.specs.Io.Buffered.{reader_remaining}
 use Rattle.std.specs.Io.KnownBytes.{Appends, Keeps, Consumes, IsAtEnd, prepend_known}
-use Rattle.ash_serve.specs.Lines.{Line, Asked, Quit, BadRequest, LineTooLong, Asks}
-use Rattle.ash_serve.specs.Replies.{Told, Replied, Left, NoRequest, LongLine, reply_line, text_of}
-use Rattle.ash_serve.specs.Sink.{Sent}
+use Rattle.ash_lines.specs.Lines.{Line, Asked, Quit, BadRequest, LineTooLong, Asks}
+use Rattle.ash_lines.specs.Replies.{Told, Replied, Left, NoRequest, LongLine, reply_line, text_of}
+use Rattle.ash_lines.specs.Sink.{Sent}
 use Rattle.ash_serve.specs.Serving.{Carrying, IsKept, Answers, AnswersAll, Log, Serves, Served, IsOver}
 use Rattle.ash_serve.specs.Running.{Run, RunEnds, ReadsFrom, ReadsBefore, ReadsAll, GoOn, EndsWithQuit}
-use Rattle.ash_serve.specs.Reader.{left_of, allowance_of, reader_feed, reader_is_feed}
-use Rattle.ash_serve.specs.Writer.{writer_outlet, writer_is_outlet, appends-onward}
-use Rattle.ash_serve.specs.declared.reader.Reader.{Reader}
-use Rattle.ash_serve.specs.declared.writer.Writer.{Writer}
+use Rattle.ash_lines.specs.Reader.{left_of, allowance_of, reader_feed, reader_is_feed}
+use Rattle.ash_lines.specs.Writer.{writer_outlet, writer_is_outlet, appends-onward}
+use Rattle.ash_lines.specs.declared.reader.Reader.{Reader}
+use Rattle.ash_lines.specs.declared.writer.Writer.{Writer}
 use Rattle.ash_serve.specs.declared.fault.RunFault.{RunFault}
 use Rattle.ash_serve.specs.declared.fault.RunFault.TheVariants as faults
 use Rattle.ash_serve.proofs.ServingLemmas.{log-more, text-more, asks-more, answers-more}

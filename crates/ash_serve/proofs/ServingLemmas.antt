@@ -2,10 +2,10 @@
 use Rattle.std.proofs.Common.{◌≡◌, ◌<◌, ℕ, true, false, List, [], ◌∷◌, ◌++◌, length, refl, sym, ap, ◌∙◌, subst, arith, append_assoc, Some, None, Ok, Err, Result}
 use Rattle.std.proofs.lemmas.List.{append-nil}
 use Rattle.std.specs.List.{AllByRecursion}
-use Rattle.ash_serve.specs.Source.{Feed, IsFeed}
-use Rattle.ash_serve.specs.Sink.{Outlet, IsOutlet, Sent, Stops}
-use Rattle.ash_serve.specs.Lines.{Line, Asked, Quit, BadRequest, LineTooLong, GoesOn, Whole, next, Asks, is_unfinished}
-use Rattle.ash_serve.specs.Replies.{Told, Replied, Left, NoRequest, LongLine, reply_line, text_of}
+use Rattle.ash_lines.specs.Source.{Feed, IsFeed}
+use Rattle.ash_lines.specs.Sink.{Outlet, IsOutlet, Sent, Stops}
+use Rattle.ash_lines.specs.Lines.{Line, Asked, Quit, BadRequest, LineTooLong, GoesOn, Whole, next, Asks, is_unfinished}
+use Rattle.ash_lines.specs.Replies.{Told, Replied, Left, NoRequest, LongLine, reply_line, text_of}
 use Rattle.ash_serve.specs.Serving.{Carrying, Taken, Turns, Served, Answers, AnswersAll, Spells, Log, GoneOn, Serves, Ends, told_of, turn_after}
 use Rattle.ash_serve.specs.declared.fault.RunFault.{RunFault}
 use Rattle.ash_serve.specs.declared.fault.RunFault.TheVariants as faults

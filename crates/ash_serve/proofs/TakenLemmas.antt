@@ -2,17 +2,17 @@
 use Rattle.std.proofs.Common.{◌≡◌, ◌<◌, ◌≤◌, ℕ, true, List, [], ◌∷◌, ◌++◌, length, refl, sym, ap, ◌∙◌, subst, arith, Some, Ok, Err}
 use Rattle.ash_meaning.specs.State.{Load, reply_of}
 use Rattle.ash_meaning.specs.declared.request.Reply as reply
-use Rattle.ash_serve.specs.Source.{Feed, IsFeed, Faults}
-use Rattle.ash_serve.specs.Reading.{Within, Through, FaultsWithin, kept_part}
-use Rattle.ash_serve.specs.Lines.{Line, Asked, BadRequest, LineTooLong, spelling, Says, Loads, next, is_unfinished}
+use Rattle.ash_lines.specs.Source.{Feed, IsFeed, Faults}
+use Rattle.ash_lines.specs.Reading.{Within, Through, FaultsWithin, kept_part}
+use Rattle.ash_lines.specs.Lines.{Line, Asked, BadRequest, LineTooLong, spelling, Says, Loads, next, is_unfinished}
 use Rattle.ash_serve.specs.Serving.{Carrying, IsBlind, Taken, Answers, told_of, fault_of}
-use Rattle.ash_serve.specs.declared.source.ReadFault.{ReadFault}
-use Rattle.ash_serve.specs.declared.source.ReadFault.TheVariants.{TooLong, Failed}
+use Rattle.ash_lines.specs.declared.source.ReadFault.{ReadFault}
+use Rattle.ash_lines.specs.declared.source.ReadFault.TheVariants.{TooLong, Failed}
 use Rattle.ash_serve.specs.declared.fault.RunFault.{RunFault}
 use Rattle.ash_serve.specs.declared.fault.RunFault.TheVariants as faults
 use Rattle.ash_serve.specs.declared.request.Told.{Told as CodeTold}
 use Rattle.ash_serve.specs.declared.request.Told.TheVariants as tolds
-use Rattle.ash_serve.proofs.SourceLemmas.{faults_after}
+use Rattle.ash_lines.proofs.SourceLemmas.{faults_after}
 use Rattle.ash_serve.proofs.NextLemmas.{next-cut, unfinished-line, spells-long, spells-line, spells-load, spells-unended, cut-source, cut-unended}
 
 -- a fault in a request that is unfinished

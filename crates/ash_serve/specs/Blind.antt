@@ -2,7 +2,7 @@
 use Rattle.std.specs.Prelude.{refl}
 use Rattle.ash_durable.specs.Hosting.{Device, Carries}
 use Rattle.ash_durable.proofs.LongSources.{carries_kept}
-use Rattle.ash_serve.specs.Reading.{kept_part}
+use Rattle.ash_lines.specs.Reading.{kept_part}
 use Rattle.ash_serve.specs.Serving.{IsBlind}
 
 pub carries_blind : {D : Type 0} (device : Device D) → IsBlind (Carries device)

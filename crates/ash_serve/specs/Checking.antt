@@ -6,11 +6,11 @@ use Rattle.ash_meaning.specs.declared.refusal.Refusal as code
 use Rattle.ash_meaning.specs.Refusals.{Refusal, refusal_of}
 use Rattle.ash_meaning.specs.Refusals as refusals
 use Rattle.ash_meaning.specs.Checking.{Checking, checked_source}
-use Rattle.ash_serve.specs.Source.{Feed, Faults}
-use Rattle.ash_serve.specs.Sink.{Outlet, Sent, Stops}
-use Rattle.ash_serve.specs.Reading.{kept_part}
-use Rattle.ash_serve.specs.Replies.{refusal_text}
-use Rattle.ash_serve.specs.declared.source.ReadFault.TheVariants as reads
+use Rattle.ash_lines.specs.Source.{Feed, Faults}
+use Rattle.ash_lines.specs.Sink.{Outlet, Sent, Stops}
+use Rattle.ash_lines.specs.Reading.{kept_part}
+use Rattle.ash_lines.specs.Replies.{refusal_text}
+use Rattle.ash_lines.specs.declared.source.ReadFault.TheVariants as reads
 use Rattle.ash_serve.specs.declared.fault.RunFault.TheVariants as faults
 use Rattle.ash_serve.specs.declared.program.ending.Ending.{Ending}
 use Rattle.ash_serve.specs.declared.program.ending.Ending.TheVariants as endings

@@ -1,14 +1,5 @@
-pub mod Source
-pub mod Sink
-pub mod Reading
-pub mod Lines
-pub mod Words
-pub mod Spelled
-pub mod Replies
 pub mod Serving
 pub mod Blind
-pub mod Reader
-pub mod Writer
 pub mod Running
 pub mod Program
 pub mod Checking

@@ -2,8 +2,8 @@
 use Rattle.std.specs.Prelude.{◌≡◌, ◌<◌, ◌≤◌, ◌⊎◌, ℕ, ◌^◌, true, List, [], ◌∷◌, ◌++◌, length, Option, Result, Ok, Err, IfSome}
 use Rattle.std.specs.List.{AllByRecursion}
 use Rattle.std.specs.Io.KnownBytes.{Appends, Keeps}
-use Rattle.ash_serve.specs.Lines.{Line, Quit, GoesOn, Cut, next, Asks, is_unfinished}
-use Rattle.ash_serve.specs.Replies.{Told, text_of}
+use Rattle.ash_lines.specs.Lines.{Line, Quit, GoesOn, Cut, next, Asks, is_unfinished}
+use Rattle.ash_lines.specs.Replies.{Told, text_of}
 use Rattle.ash_serve.specs.Serving.{Carrying, AnswersAll}
 use Rattle.ash_serve.specs.declared.fault.RunFault.{RunFault}
 use Rattle.ash_serve.specs.declared.fault.RunFault.TheVariants as faults

@@ -2,13 +2,13 @@
 use Rattle.std.specs.Prelude.{◌≡◌, ◌⊎◌, ℕ, true, List, [], ◌∷◌, ◌++◌, Result, Ok, Err, Option, Some, None}
 use Rattle.std.specs.List.{AllByRecursion}
 use Rattle.ash_meaning.specs.State.{Request, Load, Reply}
-use Rattle.ash_serve.specs.Source.{Feed, Faults}
-use Rattle.ash_serve.specs.Reading.{kept_part}
-use Rattle.ash_serve.specs.Sink.{Outlet, Sent, Stops}
-use Rattle.ash_serve.specs.Lines.{Line, Asked, Quit, BadRequest, LineTooLong, GoesOn, Cut, Whole, next, Asks, is_unfinished}
-use Rattle.ash_serve.specs.Replies.{Told, Replied, Left, NoRequest, LongLine, reply_line, text_of}
-use Rattle.ash_serve.specs.declared.source.ReadFault.{ReadFault}
-use Rattle.ash_serve.specs.declared.source.ReadFault.TheVariants as reads
+use Rattle.ash_lines.specs.Source.{Feed, Faults}
+use Rattle.ash_lines.specs.Reading.{kept_part}
+use Rattle.ash_lines.specs.Sink.{Outlet, Sent, Stops}
+use Rattle.ash_lines.specs.Lines.{Line, Asked, Quit, BadRequest, LineTooLong, GoesOn, Cut, Whole, next, Asks, is_unfinished}
+use Rattle.ash_lines.specs.Replies.{Told, Replied, Left, NoRequest, LongLine, reply_line, text_of}
+use Rattle.ash_lines.specs.declared.source.ReadFault.{ReadFault}
+use Rattle.ash_lines.specs.declared.source.ReadFault.TheVariants as reads
 use Rattle.ash_serve.specs.declared.fault.RunFault.{RunFault}
 use Rattle.ash_serve.specs.declared.fault.RunFault.TheVariants as faults
 use Rattle.ash_serve.specs.declared.request.Told.{Told as CodeTold}

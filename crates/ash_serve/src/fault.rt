@@ -3,7 +3,7 @@
 ghost use Rattle.std.specs.Prelude.{◌≡◌};
 ghost use Rattle.ash_serve.specs.Serving.{fault_of};
 
-use crate::source::ReadFault;
+use ash_lines::source::ReadFault;
 use thiserror::Error;
 
 /// Why a run stopped before the end of its input.

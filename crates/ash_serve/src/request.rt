@@ -1,16 +1,16 @@
 // A request is read and carried out.
 
 ghost use Rattle.std.specs.Prelude.{◌≡◌, ◌≤◌, ℕ, List, length, vec_capacity};
-ghost use Rattle.ash_serve.specs.Lines.{Loads, spelling};
-ghost use Rattle.ash_serve.specs.Reading.{Through};
+ghost use Rattle.ash_lines.specs.Lines.{Loads, spelling};
+ghost use Rattle.ash_lines.specs.Reading.{Through};
 ghost use Rattle.ash_serve.specs.Serving.{Taken};
 
-use crate::bytes::read_bytes;
 use crate::carrier::Carrier;
 use crate::fault::{RunFault, run_fault};
-use crate::line::{LineRead, Skipped, read_line, skip_line};
-use crate::source::Source;
-use crate::spelled::{Spelled, read_words};
+use ash_lines::bytes::read_bytes;
+use ash_lines::line::{LineRead, Skipped, read_line, skip_line};
+use ash_lines::source::Source;
+use ash_lines::spelled::{Spelled, read_words};
 use ash_meaning::request::{Argument, Reply, Request};
 
 /// What is told of a line.

@@ -4,11 +4,11 @@ ghost use Rattle.ash_durable.specs.Hosting.{Carries, IsSaved};
 ghost use Rattle.ash_serve.specs.Running.{RunEnds};
 
 use crate::fault::RunFault;
-use crate::reader::Reader;
 use crate::serve::serve;
-use crate::writer::Writer;
 use ash_disk::Disk;
 use ash_durable::Host;
+use ash_lines::reader::Reader;
+use ash_lines::writer::Writer;
 use std::alloc::Global;
 use std::io::{Read, Write};
 

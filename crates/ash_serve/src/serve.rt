@@ -3,14 +3,14 @@
 ghost use Rattle.std.specs.Prelude.{◌≡◌, []};
 ghost use Rattle.ash_serve.specs.Serving.{Serves};
 
-use crate::bytes::MOST_KEPT;
 use crate::carrier::Carrier;
 use crate::fault::RunFault;
-use crate::line::MOST_LINE;
-use crate::sink::Sink;
-use crate::source::Source;
-use crate::spelled::MOST_ARGUMENTS;
 use crate::turn::{Turn, take_turn};
+use ash_lines::bytes::MOST_KEPT;
+use ash_lines::line::MOST_LINE;
+use ash_lines::sink::Sink;
+use ash_lines::source::Source;
+use ash_lines::spelled::MOST_ARGUMENTS;
 use std::alloc::Global;
 
 /// Reads requests, has the host carry each out with this budget in ticks, and sends each reply before the next

@@ -1,16 +1,16 @@
 // One turn of the run: a request is taken, carried out and answered.
 
 ghost use Rattle.std.specs.Prelude.{◌≡◌, ◌≤◌, length, vec_capacity};
-ghost use Rattle.ash_serve.specs.Replies.{reply_line};
-ghost use Rattle.ash_serve.specs.Sink.{Says};
+ghost use Rattle.ash_lines.specs.Replies.{reply_line};
+ghost use Rattle.ash_lines.specs.Sink.{Says};
 ghost use Rattle.ash_serve.specs.Serving.{Turns, Ends, told_of, turn_after};
 
 use crate::carrier::Carrier;
 use crate::fault::RunFault;
-use crate::reply::{say, say_reply};
 use crate::request::{Told, take_request};
-use crate::sink::{Sink, WriteFault};
-use crate::source::Source;
+use ash_lines::reply::{say, say_reply};
+use ash_lines::sink::{Sink, WriteFault};
+use ash_lines::source::Source;
 use ash_meaning::request::Argument;
 
 /// What a turn came to.

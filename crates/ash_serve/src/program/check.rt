@@ -5,15 +5,15 @@ ghost use Rattle.ash_serve.specs.Checking.{ReadsScript, Judges, found_of, Tells,
 
 use super::ending::Ending;
 use super::fault::Fault;
-use crate::bytes::{MOST_KEPT, read_bytes};
 use crate::fault::{RunFault, run_fault};
-use crate::reader::Reader;
-use crate::reply::{say, say_refusal};
 use crate::run::ROOM;
-use crate::sink::Sink;
-use crate::source::Source;
-use crate::writer::Writer;
 use ash_durable::check_source;
+use ash_lines::bytes::{MOST_KEPT, read_bytes};
+use ash_lines::reader::Reader;
+use ash_lines::reply::{say, say_refusal};
+use ash_lines::sink::Sink;
+use ash_lines::source::Source;
+use ash_lines::writer::Writer;
 use ash_meaning::refusal::Refusal;
 use ash_registry::Registry;
 use std::alloc::Global;

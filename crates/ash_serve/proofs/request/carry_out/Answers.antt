@@ -1,6 +1,6 @@
 use Rattle.std.proofs.Common.{sym, refl}
 use Rattle.ash_meaning.specs.State.{Call, Global, Seq}
-use Rattle.ash_serve.specs.Lines.{Asked, Quit, BadRequest}
+use Rattle.ash_lines.specs.Lines.{Asked, Quit, BadRequest}
 use Rattle.ash_serve.specs.declared.request.Told.TheVariants as tolds
 use Rattle.ash_serve.proofs.TakenLemmas.{line_told}
 use Rattle.ash_serve.proofs.request.carry_out.Goals as goal

@@ -1,4 +1,4 @@
-use Rattle.ash_serve.specs.Replies.{reply_line}
+use Rattle.ash_lines.specs.Replies.{reply_line}
 use Rattle.ash_serve.proofs.turn.tell.Goals as goal
 
 pub returns-in-Replied : goal.returns-in-Replied

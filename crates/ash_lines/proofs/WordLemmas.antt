@@ -1,0 +1,97 @@
+-- Words that are taken one after another.
+use Rattle.std.proofs.Common.{◌≡◌, ◌<◌, ◌≤◌, ℕ, ◌+◌, ◌==◌, Bool, true, false, List, [], ◌∷◌, ◌++◌, length, get_or, refl, sym, ap, ◌∙◌, arith, Option, Some, None, is_some, not, append_assoc, zero, suc, lit<}
+use Rattle.std.proofs.lemmas.List.{append-nil}
+use Rattle.std.proofs.lemmas.Bool.Decides.{nat_tests}
+use Rattle.std.proofs.lemmas.Str.{IsUtf8-from_ascii}
+use Rattle.std.specs.List.{list_all}
+use Rattle.std.specs.Str.{IsUtf8}
+use Rattle.std.specs.Borrow.{Bor}
+use Rattle.ash_meaning.specs.declared.request.Argument.{Argument}
+use Rattle.ash_lines.specs.Lines.{pieces, onto, is_visible, is_word, both, argument_of, arguments_of, Says, BadRequest, spelling, words_spelling}
+use Rattle.ash_lines.specs.Words.{is_none_left, words_left}
+use Rattle.ash_lines.specs.Spelled.{prepend}
+use Rattle.ash_lines.proofs.LineLemmas.{pieces-space, pieces-other}
+
+-- a line has a piece
+
+onto-some : (byte : ℕ) (words : List (List ℕ)) → is_none_left (onto byte words) ≡ false
+onto-some byte [] = refl
+onto-some byte (word ∷ words) = refl
+
+piece_at : (byte : ℕ) (more : List ℕ) (t : Bool) → (byte == 32) ≡ t → is_none_left (pieces (byte ∷ more)) ≡ false
+piece_at byte more true e = ap is_none_left (pieces-space byte more e)
+piece_at byte more false e = ap is_none_left (pieces-other byte more e) ∙ onto-some byte (pieces more)
+
+pub pieces-left : (line : List ℕ) → is_none_left (pieces line) ≡ false
+unfolding pieces
+pieces-left [] = refl
+pieces-left (byte ∷ more) = piece_at byte more (byte == 32) refl
+
+-- whether words are left
+pub left_or_none : (rest : Option (Bor (List ℕ))) (t : Bool) → is_some rest ≡ not t → t ≡ is_none_left (words_left rest)
+left_or_none None true e = refl
+left_or_none None false e = cc
+left_or_none (Some line) true e = cc
+left_or_none (Some line) false e = sym (pieces-left line.now)
+
+-- a line has at most one piece more than bytes
+
+onto-length : (byte : ℕ) (words : List (List ℕ)) → length (onto byte words) ≤ length words + 1
+onto-length byte [] = omega arith
+onto-length byte (word ∷ words) = omega arith
+
+length_at : (byte : ℕ) (more : List ℕ) (t : Bool) → (byte == 32) ≡ t → length (pieces more) ≤ length more + 1 → length (pieces (byte ∷ more)) ≤ length more + 2
+length_at byte more true e h = rw (pieces-space byte more e) (omega arith)
+length_at byte more false e h = rw (pieces-other byte more e) (omega (arith, onto-length byte (pieces more)))
+
+pub length-pieces : (line : List ℕ) → length (pieces line) ≤ length line + 1
+unfolding pieces
+length-pieces [] = omega arith
+length-pieces (byte ∷ more) = let h = length_at byte more (byte == 32) refl (length-pieces more) in omega (arith, h)
+
+-- a word is text
+
+visible-at : (word : List ℕ) (i : ℕ) → list_all is_visible word ≡ true → get_or word i 0 < 128
+visible-at [] i h = lit< tt
+visible-at (byte ∷ word) zero h = grind (arith, nat_tests, h)
+visible-at (byte ∷ word) (suc i) h = visible-at word i (grind (arith, h))
+
+pub utf8-word : (word : List ℕ) → is_word word ≡ true → IsUtf8 word
+utf8-word word h =
+    let v : list_all is_visible word ≡ true = grind (arith, h) in
+    IsUtf8-from_ascii word (λ i. visible-at word i v)
+
+-- arguments
+
+pub arguments-cons : (word : List ℕ) (words : List (List ℕ)) → arguments_of (word ∷ words) ≡ both (argument_of word) (arguments_of words)
+unfolding arguments_of
+arguments-cons word words = refl
+
+pub arguments-nil : arguments_of [] ≡ Some []
+unfolding arguments_of
+arguments-nil = refl
+
+prepend-both : (arguments : List Argument) (argument : Argument) (more : Option (List Argument)) → prepend arguments (both (Some argument) more) ≡ prepend (arguments ++ argument ∷ []) more
+prepend-both arguments argument None = refl
+prepend-both arguments argument (Some others) = ap (λ (x : List Argument). Some x) (sym (append_assoc arguments (argument ∷ []) others))
+
+-- one more argument
+pub arguments-more : (arguments : List Argument) (left more : List (List ℕ)) (word : List ℕ) (argument : Argument) → left ≡ word ∷ more → Some argument ≡ argument_of word → prepend arguments (arguments_of left) ≡ prepend (arguments ++ argument ∷ []) (arguments_of more)
+arguments-more arguments left more word argument e f = rw (e, arguments-cons word more, ← f) (prepend-both arguments argument (arguments_of more))
+
+-- a word that is none
+pub arguments-bad : (arguments : List Argument) (left more : List (List ℕ)) (word : List ℕ) → left ≡ word ∷ more → None ≡ argument_of word → prepend arguments (arguments_of left) ≡ None
+arguments-bad arguments left more word e f = rw (e, arguments-cons word more, ← f) refl
+
+pub arguments-end : (arguments : List Argument) (left : List (List ℕ)) → left ≡ [] → prepend arguments (arguments_of left) ≡ Some arguments
+arguments-end arguments left e = rw (e, arguments-nil) (ap (λ (x : List Argument). Some x) (append-nil arguments))
+
+-- lines
+
+pub spelling-bad : (line : List ℕ) → false ≡ list_all is_word (pieces line) → Says BadRequest ≡ spelling line
+unfolding spelling
+spelling-bad line e = rw (← e) refl
+
+pub spelling-good : (line : List ℕ) (words : List (List ℕ)) → true ≡ list_all is_word (pieces line) → pieces line ≡ words → words_spelling words ≡ spelling line
+unfolding spelling
+spelling-good line words e f = rw (← e, f) refl

@@ -1,0 +1,12 @@
+use Rattle.std.proofs.Common.{◌∙◌, ap}
+use Rattle.ash_lines.specs.Words.{words_left}
+use Rattle.ash_lines.proofs.LineLemmas.{pieces-at, pieces-none, none-space}
+use Rattle.ash_lines.proofs.words.Words.next.Goals as goal
+
+pub returns-in-None : goal.returns-in-None
+returns-in-None c =
+    ap words_left c.in_ok-line.was ∙ pieces-none c.in_ok-line.line.now (none-space c.in_ok-line.line.now c.in-None.ensures)
+
+pub returns-in-Some : goal.returns-in-Some
+returns-in-Some c =
+    ap words_left c.in_ok-line.was ∙ pieces-at c.in_ok-line.line.now c.in-Some.space c.in-Some.ensures

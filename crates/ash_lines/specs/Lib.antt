@@ -1,0 +1,9 @@
+pub mod Source
+pub mod Sink
+pub mod Reading
+pub mod Lines
+pub mod Words
+pub mod Spelled
+pub mod Replies
+pub mod Reader
+pub mod Writer

@@ -1,0 +1,50 @@
+-- A reader as a source of bytes.
+use Rattle.std.specs.Prelude.{◌≡◌, ℕ, ◌+◌, true, List, [], ◌∷◌, ◌++◌, length, Option, Some, None, is_some, refl, ⊤, if◌then◌else◌}
+use Rattle.std.specs.Option.{option_to_list}
+use Rattle.std.specs.Io.Buffered.{reader_remaining}
+use Rattle.std.specs.Io.KnownBytes.{Consumes, Keeps, IsAtEnd, prepend_known}
+use Rattle.std.proofs.Common.{sym, ap, ◌∙◌, append_assoc, arith, length-append}
+use Rattle.ash_lines.specs.Source.{Feed, IsFeed}
+use Rattle.ash_lines.specs.declared.reader.Reader.{Reader}
+use Rattle.ash_lines.specs.declared.reader.Arrival.{Arrival}
+use Rattle.ash_lines.specs.declared.reader.Arrival.TheVariants as arrivals
+
+-- what a read came to, where the reader's bytes are known
+abbrev pub Came : Option (List ℕ) → Arrival → Option (List ℕ) → Type 0
+Came old (arrivals.Byte byte) new = Consumes old new (byte ∷ [])
+Came old arrivals.End new = Keeps old new × IsAtEnd new
+Came old arrivals.Failed new = ⊤
+
+-- the bytes that are left, where they are known
+abbrev pub left_of : {R : Type 0} → (R → Option (List ℕ)) → Reader R → Option (List ℕ)
+left_of remaining s = prepend_known (option_to_list s.extra) (reader_remaining remaining s.reader)
+
+-- how many bytes may still be read: none once one came past the allowance
+abbrev pub allowance_of : {R : Type 0} → Reader R → ℕ
+allowance_of s = if is_some s.extra then 0 else s.allowance
+
+abbrev pub reader_feed : {R : Type 0} → (R → Option (List ℕ)) → Feed (Reader R)
+reader_feed remaining = record {
+  takes = λ s bytes t. Consumes (left_of remaining s) (left_of remaining t) bytes × (length bytes + allowance_of t ≡ allowance_of s) × (t.failed ≡ s.failed);
+  breaks = λ s t. t.failed ≡ true;
+  ended = λ s. IsAtEnd (left_of remaining s);
+  unread = λ s. is_some s.extra ≡ true;
+  allowance = λ s. allowance_of s;
+}
+
+consumes-nothing : (known : Option (List ℕ)) → Consumes known known []
+consumes-nothing None = tt
+consumes-nothing (Some bytes) = refl
+
+consumes-onward : (first second third : Option (List ℕ)) (bytes more : List ℕ) → Consumes first second bytes → Consumes second third more → Consumes first third (bytes ++ more)
+consumes-onward None second third bytes more h k = tt
+consumes-onward (Some xs) None third bytes more h k = absurd h
+consumes-onward (Some xs) (Some ys) None bytes more h k = absurd k
+consumes-onward (Some xs) (Some ys) (Some zs) bytes more h k = h ∙ (ap (λ (x : List ℕ). bytes ++ x) k ∙ sym (append_assoc bytes more zs))
+
+pub reader_is_feed : {R : Type 0} (remaining : R → Option (List ℕ)) → IsFeed (reader_feed remaining)
+reader_is_feed remaining = record {
+  nothing = λ s. (consumes-nothing (left_of remaining s), omega arith, refl);
+  onward = λ s t u first more h k. (consumes-onward (left_of remaining s) (left_of remaining t) (left_of remaining u) first more h.0 k.0, omega (arith, length-append first more, h.1, k.1), k.2 ∙ h.2);
+  counted = λ s t bytes h. h.1;
+}

@@ -1,0 +1,96 @@
+// A source over any reader.
+
+ghost use Rattle.std.specs.Prelude.{◌≡◌, ◌^◌, IfOk, None, false};
+ghost use Rattle.std.specs.Io.Buffered.{reader_remaining};
+ghost use Rattle.std.specs.Io.KnownBytes.{Keeps};
+ghost use Rattle.ash_lines.specs.Reader.{reader_feed, reader_is_feed, left_of, allowance_of, Came};
+
+use crate::source::{ReadFault, Source};
+use std::alloc::{AllocError, Global};
+use std::io::{BufReader, ErrorKind, Read};
+
+/// The most bytes that are read in one run.
+pub const MOST_READ: u64 = 1 << 40;
+
+/// How often in a row a read may be interrupted before it counts as failed.
+const MOST_TRIES: u32 = u32::MAX;
+
+/// The bytes of a reader, up to 2^40 of them, read through a buffer. A read that is interrupted is tried again.
+#[derive(Drop)]
+pub struct Reader<R> {
+    reader: BufReader<R>,
+    /// A byte that came past the allowance.
+    extra: Option<u8>,
+    allowance: u64,
+    failed: bool,
+}
+
+/// What came of a read.
+enum Arrival {
+    Byte(u8),
+    End,
+    Failed,
+}
+
+impl<R: Read + Drop> Reader<R> {
+    pub fn new(alloc: Global, reader: R) -> Result<Reader<R>, AllocError>
+        ensures left { IfOk result (λ r. left_of R.remaining r ≡ R.remaining reader) }
+        ensures allowance { IfOk result (λ r. allowance_of r ≡ 2 ^ 40) }
+    {
+        match BufReader::new(alloc, reader) {
+            Err(_) => Err(AllocError),
+            Ok(reader) => Ok(Reader {
+                reader,
+                extra: None,
+                allowance: MOST_READ,
+                failed: false,
+            }),
+        }
+    }
+}
+
+impl<R: Read + Drop> Source for Reader<R> {
+    ghost feed = { reader_feed R.remaining };
+
+    ghost is_feed = { reader_is_feed R.remaining };
+
+    fn next(&mut self) -> Result<Option<u8>, ReadFault> {
+        if self.extra.is_some() {
+            return Err(ReadFault::TooLong);
+        }
+        match read_byte(&mut self.reader) {
+            Arrival::Failed => {
+                self.failed = true;
+                Err(ReadFault::Failed)
+            }
+            Arrival::End => Ok(None),
+            Arrival::Byte(byte) => {
+                if self.allowance == 0 {
+                    self.extra = Some(byte);
+                    return Err(ReadFault::TooLong);
+                }
+                self.allowance -= 1;
+                Ok(Some(byte))
+            }
+        }
+    }
+}
+
+/// Reads one byte.
+fn read_byte<R: Read>(reader: &mut R) -> Arrival
+    ensures { Came (R.remaining reader.old) result (R.remaining reader.new) }
+{
+    let mut byte = [0u8; 1];
+    'tries: for _i in 0..MOST_TRIES {
+        match reader.read(&mut byte) {
+            Ok(0) => return Arrival::End,
+            Ok(_) => return Arrival::Byte(byte[0]),
+            Err(fault) => {
+                if fault.kind() != ErrorKind::Interrupted {
+                    return Arrival::Failed;
+                }
+            }
+        }
+    }
+    Arrival::Failed
+}

@@ -1,0 +1,134 @@
+// A sink over any writer.
+
+ghost use Rattle.std.specs.Prelude.{◌≡◌, ◌≤◌, [], ◌++◌, length, take, IfOk, IfErr, OnOk};
+ghost use Rattle.std.specs.Io.KnownBytes.{Keeps, Appends};
+ghost use Rattle.ash_lines.specs.Writer.{writer_outlet, writer_is_outlet, Wrote, Passes};
+
+use crate::sink::{Sink, WriteFault};
+use std::io::{ErrorKind, Write};
+
+/// A writer behind a buffer, so that a reply is one write. A write that is interrupted is tried again.
+#[derive(Drop)]
+pub struct Writer<'a, W> {
+    writer: &'a mut W,
+    buffer: Vec<u8>,
+    failed: bool,
+}
+
+impl<'a, W: Write> Writer<'a, W> {
+    /// A writer behind this buffer, which is emptied first. The room of the buffer is what is held back at the most.
+    pub fn new(writer: &'a mut W, mut buffer: Vec<u8>) -> Writer<'a, W>
+        ensures held { result.buffer.items ≡ [] }
+        ensures writer { result.writer ≡ writer.entry }
+    {
+        buffer.clear();
+        Writer {
+            writer,
+            buffer,
+            failed: false,
+        }
+    }
+
+    /// The writer, and nothing of what is held.
+    pub fn into_writer(self) -> &'a mut W
+        ensures { result ≡ self.entry.writer }
+    {
+        let Writer {
+            writer,
+            buffer,
+            failed: _,
+        } = self;
+        drop(buffer);
+        writer
+    }
+}
+
+impl<'a, W: Write> Sink for Writer<'a, W> {
+    ghost outlet = { writer_outlet W.contents };
+
+    ghost is_outlet = { writer_is_outlet W.contents };
+
+    fn put(&mut self, bytes: &[u8]) -> Result<(), WriteFault> {
+        let room = self.buffer.capacity().saturating_sub(self.buffer.len());
+        if bytes.len() <= room {
+            self.buffer.extend_from_slice(bytes).unwrap();
+            return Ok(());
+        }
+        match self.send() {
+            Err(fault) => Err(fault),
+            Ok(()) => self.pass(bytes),
+        }
+    }
+
+    fn flush(&mut self) -> Result<(), WriteFault> {
+        match self.send() {
+            Err(fault) => Err(fault),
+            Ok(()) => self.flush_writer(),
+        }
+    }
+}
+
+impl<'a, W: Write> Writer<'a, W> {
+    /// Sends what is held.
+    fn send(&mut self) -> Result<(), WriteFault>
+        ensures { Passes (writer_outlet W.contents) self.old self.old.buffer.items result self.new [] }
+    {
+        match write_out(self.writer, self.buffer.as_slice()) {
+            Ok(()) => {
+                self.buffer.clear();
+                Ok(())
+            }
+            Err(_) => {
+                self.failed = true;
+                Err(WriteFault)
+            }
+        }
+    }
+
+    fn flush_writer(&mut self) -> Result<(), WriteFault>
+        ensures { Passes (writer_outlet W.contents) self.old [] result self.new self.old.buffer.items }
+    {
+        match self.writer.flush() {
+            Ok(()) => Ok(()),
+            Err(_) => {
+                self.failed = true;
+                Err(WriteFault)
+            }
+        }
+    }
+
+    /// Sends these bytes past the buffer.
+    fn pass(&mut self, bytes: &[u8]) -> Result<(), WriteFault>
+        ensures { Passes (writer_outlet W.contents) self.old bytes.now result self.new self.old.buffer.items }
+    {
+        match write_out(self.writer, bytes) {
+            Ok(()) => Ok(()),
+            Err(_) => {
+                self.failed = true;
+                Err(WriteFault)
+            }
+        }
+    }
+}
+
+/// Writes the bytes, or so many of them before a write failed or took none.
+fn write_out<W: Write>(writer: &mut W, bytes: &[u8]) -> Result<(), usize>
+    ensures { Wrote (W.contents writer.old) bytes.now result (W.contents writer.new) }
+{
+    let mut sent = 0;
+    'tries: for _i in 0..u64::MAX {
+        if sent >= bytes.len() {
+            return Ok(());
+        }
+        match writer.write(&bytes[sent..]) {
+            Ok(0) => return Err(sent),
+            Ok(count) => sent += count,
+            Err(fault) => {
+                if fault.kind() != ErrorKind::Interrupted {
+                    return Err(sent);
+                }
+            }
+        }
+    }
+    Err(sent)
+}

@@ -1,6 +1,0 @@
-use Rattle.std.proofs.Common.{refl}
-use Rattle.ash_serve.specs.Reader.{reader_is_feed}
-use Rattle.ash_serve.proofs.reader.ReaderSource.next.Goals as goal
-
-pub returns-in-Failed : goal.returns-in-Failed
-returns-in-Failed g c = (c.args.self.now, (reader_is_feed g.R.Read.remaining).nothing c.args.self.now, refl)

@@ -1,5 +1,0 @@
-use Rattle.ash_serve.proofs.WordLemmas.{left_or_none}
-use Rattle.ash_serve.proofs.words.Words.is_empty.Goals as goal
-
-pub returns : goal.returns
-returns c = left_or_none c.args.self.now.rest c.is_none.result c.is_none.ensures

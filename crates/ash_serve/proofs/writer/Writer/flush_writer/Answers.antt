@@ -1,9 +1,0 @@
-use Rattle.std.proofs.Common.{[], refl}
-use Rattle.ash_serve.proofs.WriterLemmas.{keeps_none}
-use Rattle.ash_serve.proofs.writer.Writer.flush_writer.Goals as goal
-
-pub returns-in-Ok : goal.returns-in-Ok
-returns-in-Ok g c = ((keeps_none _ _ c.flush.ensures.bytes, refl, refl), refl)
-
-pub returns-in-Err : goal.returns-in-Err
-returns-in-Err g c = ([], [], (keeps_none _ _ c.flush.ensures.bytes, refl, refl), refl)
