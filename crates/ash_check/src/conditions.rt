@@ -3,6 +3,7 @@
 ghost use Rattle.std.specs.Prelude.{◌≡◌, Ok, map, option_map, IfOk};
 ghost use Rattle.ash_tree.specs.Views as written;
 ghost use Rattle.ash_typed.specs.Views.{expr_of};
+ghost use Rattle.ash_typed.specs.StatementTree.{If, IfElse, While, DoWhile, For};
 ghost use Rattle.ash_typed.specs.BodyViews.{stmt_of};
 ghost use Rattle.ash_typed.specs.Statements as definition;
 ghost use Rattle.ash_expressions.specs.Gives.{Gives};
@@ -21,11 +22,17 @@ pub(crate) fn if_made(alloc: Global, line: usize, condition: Typed, inner: Stmt)
     ensures { Gives stmt_of result (definition.if_typed line (Ok (typed_of condition)) (Ok (stmt_of inner))) }
 {
     truth(condition.at, condition.ty)?;
-    let kind = StmtKind::If {
-        condition: condition.tree,
-        then: Box::new(alloc, inner)?,
-    };
-    Ok(Stmt { line, kind })
+    let then = boxed(alloc, inner)?;
+    Ok(if_of(line, condition.tree, then))
+}
+
+fn if_of(line: usize, condition: TypedExpr, then: Box<Stmt>) -> Stmt
+    ensures { stmt_of result ≡ If line (expr_of condition) (stmt_of then.value) }
+{
+    Stmt {
+        line,
+        kind: StmtKind::If { condition, then },
+    }
 }
 
 /// `if (condition) inner else other`
@@ -40,12 +47,22 @@ pub(crate) fn if_else_made(
     ensures { Gives stmt_of result (definition.if_else_typed line (Ok (typed_of condition)) (Ok (stmt_of inner)) (Ok (stmt_of other))) }
 {
     truth(condition.at, condition.ty)?;
-    let kind = StmtKind::IfElse {
-        condition: condition.tree,
-        then: Box::new(alloc, inner)?,
-        otherwise: Box::new(alloc, other)?,
-    };
-    Ok(Stmt { line, kind })
+    let inner = boxed(alloc, inner)?;
+    let other = boxed(alloc, other)?;
+    Ok(if_else_of(line, condition.tree, inner, other))
+}
+
+fn if_else_of(line: usize, condition: TypedExpr, then: Box<Stmt>, otherwise: Box<Stmt>) -> Stmt
+    ensures { stmt_of result ≡ IfElse line (expr_of condition) (stmt_of then.value) (stmt_of otherwise.value) }
+{
+    Stmt {
+        line,
+        kind: StmtKind::IfElse {
+            condition,
+            then,
+            otherwise,
+        },
+    }
 }
 
 /// `while (condition) inner`
@@ -59,11 +76,17 @@ pub(crate) fn while_made(
     ensures { Gives stmt_of result (definition.while_typed line (Ok (typed_of condition)) (Ok (stmt_of inner))) }
 {
     truth(condition.at, condition.ty)?;
-    let kind = StmtKind::While {
-        condition: condition.tree,
-        body: Box::new(alloc, inner)?,
-    };
-    Ok(Stmt { line, kind })
+    let body = boxed(alloc, inner)?;
+    Ok(while_of(line, condition.tree, body))
+}
+
+fn while_of(line: usize, condition: TypedExpr, body: Box<Stmt>) -> Stmt
+    ensures { stmt_of result ≡ While line (expr_of condition) (stmt_of body.value) }
+{
+    Stmt {
+        line,
+        kind: StmtKind::While { condition, body },
+    }
 }
 
 /// `do inner while (condition);`
@@ -77,11 +100,17 @@ pub(crate) fn do_while_made(
     ensures { Gives stmt_of result (definition.do_while_typed line (Ok (stmt_of inner)) (Ok (typed_of condition))) }
 {
     truth(condition.at, condition.ty)?;
-    let kind = StmtKind::DoWhile {
-        body: Box::new(alloc, inner)?,
-        condition: condition.tree,
-    };
-    Ok(Stmt { line, kind })
+    let body = boxed(alloc, inner)?;
+    Ok(do_while_of(line, body, condition.tree))
+}
+
+fn do_while_of(line: usize, body: Box<Stmt>, condition: TypedExpr) -> Stmt
+    ensures { stmt_of result ≡ DoWhile line (stmt_of body.value) (expr_of condition) }
+{
+    Stmt {
+        line,
+        kind: StmtKind::DoWhile { body, condition },
+    }
 }
 
 /// `for (first; condition; steps) inner`
@@ -97,13 +126,36 @@ pub(crate) fn for_made(
     ensures { Gives stmt_of result (definition.for_typed line (Ok (stmt_of first)) (Ok (maybe_typed_of condition)) (Ok (all_typed_of steps)) (Ok (stmt_of inner))) }
 {
     maybe_truth(&condition)?;
-    let kind = StmtKind::For {
-        first: Box::new(alloc, first)?,
-        condition: tree_of(condition),
-        steps: trees_of(alloc, steps)?,
-        body: Box::new(alloc, inner)?,
-    };
-    Ok(Stmt { line, kind })
+    let first = boxed(alloc, first)?;
+    let steps = trees_of(alloc, steps)?;
+    let body = boxed(alloc, inner)?;
+    Ok(for_of(line, first, tree_of(condition), steps, body))
+}
+
+fn for_of(
+    line: usize,
+    first: Box<Stmt>,
+    condition: Option<TypedExpr>,
+    steps: Vec<TypedExpr>,
+    body: Box<Stmt>,
+) -> Stmt
+    ensures { stmt_of result ≡ For line (stmt_of first.value) (maybe_expr condition) (map expr_of steps.items) (stmt_of body.value) }
+{
+    Stmt {
+        line,
+        kind: StmtKind::For {
+            first,
+            condition,
+            steps,
+            body,
+        },
+    }
+}
+
+fn boxed(alloc: Global, inner: Stmt) -> Result<Box<Stmt>, AllocError>
+    ensures { IfOk result (λ b. b.value ≡ inner) }
+{
+    Ok(Box::new(alloc, inner)?)
 }
 
 /// A condition, where one stands.

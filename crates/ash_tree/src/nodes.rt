@@ -102,8 +102,10 @@ pub fn convert(alloc: Global, place: Place, to: Primitive, value: Expr) -> Resul
     ensures { IfOk result (λ e. expr_of e ≡ Convert place to (expr_of value)) }
 {
     let value = Box::new(alloc, value)?;
-    let kind = ExprKind::Convert { to, value };
-    Ok(Expr { place, kind })
+    Ok(Expr {
+        place,
+        kind: ExprKind::Convert { to, value },
+    })
 }
 
 pub fn unary(
@@ -115,8 +117,10 @@ pub fn unary(
     ensures { IfOk result (λ e. expr_of e ≡ Unary place operator (expr_of operand)) }
 {
     let operand = Box::new(alloc, operand)?;
-    let kind = ExprKind::Unary { operator, operand };
-    Ok(Expr { place, kind })
+    Ok(Expr {
+        place,
+        kind: ExprKind::Unary { operator, operand },
+    })
 }
 
 /// `condition ? then : otherwise`
@@ -133,12 +137,14 @@ pub fn conditional(
     let condition = Box::new(alloc, condition)?;
     let then = Box::new(alloc, then)?;
     let otherwise = Box::new(alloc, otherwise)?;
-    let kind = ExprKind::Conditional {
-        condition,
-        then,
-        otherwise,
-    };
-    Ok(Expr { place, kind })
+    Ok(Expr {
+        place,
+        kind: ExprKind::Conditional {
+            condition,
+            then,
+            otherwise,
+        },
+    })
 }
 
 /// `target operator value`
@@ -154,12 +160,14 @@ pub fn assign(
     let place = target.place;
     let target = Box::new(alloc, target)?;
     let value = Box::new(alloc, value)?;
-    let kind = ExprKind::Assign {
-        target,
-        operator,
-        value,
-    };
-    Ok(Expr { place, kind })
+    Ok(Expr {
+        place,
+        kind: ExprKind::Assign {
+            target,
+            operator,
+            value,
+        },
+    })
 }
 
 /// The statement that only evaluates an expression.
@@ -189,8 +197,10 @@ pub fn if_only(alloc: Global, place: Place, condition: Expr, then: Stmt) -> Resu
     ensures { IfOk result (λ s. stmt_of s ≡ If place (expr_of condition) (stmt_of then)) }
 {
     let then = Box::new(alloc, then)?;
-    let kind = StmtKind::If { condition, then };
-    Ok(Stmt { place, kind })
+    Ok(Stmt {
+        place,
+        kind: StmtKind::If { condition, then },
+    })
 }
 
 /// `if (condition) then else otherwise`
@@ -203,14 +213,15 @@ pub fn if_else(
 ) -> Result<Stmt, AllocError>
     ensures { IfOk result (λ s. stmt_of s ≡ IfElse place (expr_of condition) (stmt_of then) (stmt_of otherwise)) }
 {
-    let then = Box::new(alloc, then)?;
-    let otherwise = Box::new(alloc, otherwise)?;
-    let kind = StmtKind::IfElse {
-        condition,
-        then,
-        otherwise,
-    };
-    Ok(Stmt { place, kind })
+    let (then, otherwise) = both_boxed(alloc, then, otherwise)?;
+    Ok(Stmt {
+        place,
+        kind: StmtKind::IfElse {
+            condition,
+            then,
+            otherwise,
+        },
+    })
 }
 
 /// `while (condition) body`
@@ -223,8 +234,10 @@ pub fn while_loop(
     ensures { IfOk result (λ s. stmt_of s ≡ While place (expr_of condition) (stmt_of body)) }
 {
     let body = Box::new(alloc, body)?;
-    let kind = StmtKind::While { condition, body };
-    Ok(Stmt { place, kind })
+    Ok(Stmt {
+        place,
+        kind: StmtKind::While { condition, body },
+    })
 }
 
 /// `do body while (condition);`
@@ -232,8 +245,25 @@ pub fn do_loop(alloc: Global, place: Place, body: Stmt, condition: Expr) -> Resu
     ensures { IfOk result (λ s. stmt_of s ≡ DoWhile place (stmt_of body) (expr_of condition)) }
 {
     let body = Box::new(alloc, body)?;
-    let kind = StmtKind::DoWhile { body, condition };
-    Ok(Stmt { place, kind })
+    Ok(Stmt {
+        place,
+        kind: StmtKind::DoWhile { body, condition },
+    })
+}
+
+/// Two statements, each in a box.
+fn both_boxed(alloc: Global, one: Stmt, other: Stmt) -> Result<(Box<Stmt>, Box<Stmt>), AllocError>
+    ensures { IfOk result (λ both. (both.0.value ≡ one) × (both.1.value ≡ other)) }
+{
+    let one = boxed(alloc, one);
+    let other = boxed(alloc, other);
+    Ok((one?, other?))
+}
+
+fn boxed(alloc: Global, inner: Stmt) -> Result<Box<Stmt>, AllocError>
+    ensures { IfOk result (λ b. b.value ≡ inner) }
+{
+    Ok(Box::new(alloc, inner)?)
 }
 
 /// `for (first; condition; steps) body`
@@ -247,13 +277,14 @@ pub fn for_loop(
 ) -> Result<Stmt, AllocError>
     ensures { IfOk result (λ s. stmt_of s ≡ For place (stmt_of first) (option_map expr_of condition) (map expr_of steps.items) (stmt_of body)) }
 {
-    let first = Box::new(alloc, first)?;
-    let body = Box::new(alloc, body)?;
-    let kind = StmtKind::For {
-        first,
-        condition,
-        steps,
-        body,
-    };
-    Ok(Stmt { place, kind })
+    let (first, body) = both_boxed(alloc, first, body)?;
+    Ok(Stmt {
+        place,
+        kind: StmtKind::For {
+            first,
+            condition,
+            steps,
+            body,
+        },
+    })
 }
