@@ -18,12 +18,11 @@ use std::alloc::{AllocError, Global};
 
 /// `if (condition) inner`
 #[tactic(auto, unfolding(ash_typed::specs::Statements::if_typed))]
-pub(crate) fn if_made(alloc: Global, line: usize, condition: Typed, inner: Stmt) -> Checking<Stmt>
-    ensures { Gives stmt_of result (definition.if_typed line (Ok (typed_of condition)) (Ok (stmt_of inner))) }
+pub(crate) fn if_made(line: usize, condition: Typed, inner: Box<Stmt>) -> Checking<Stmt>
+    ensures { Gives stmt_of result (definition.if_typed line (Ok (typed_of condition)) (Ok (stmt_of inner.value))) }
 {
     truth(condition.at, condition.ty)?;
-    let then = boxed(alloc, inner)?;
-    Ok(if_of(line, condition.tree, then))
+    Ok(if_of(line, condition.tree, inner))
 }
 
 fn if_of(line: usize, condition: TypedExpr, then: Box<Stmt>) -> Stmt
@@ -38,17 +37,14 @@ fn if_of(line: usize, condition: TypedExpr, then: Box<Stmt>) -> Stmt
 /// `if (condition) inner else other`
 #[tactic(auto, unfolding(ash_typed::specs::Statements::if_else_typed))]
 pub(crate) fn if_else_made(
-    alloc: Global,
     line: usize,
     condition: Typed,
-    inner: Stmt,
-    other: Stmt,
+    inner: Box<Stmt>,
+    other: Box<Stmt>,
 ) -> Checking<Stmt>
-    ensures { Gives stmt_of result (definition.if_else_typed line (Ok (typed_of condition)) (Ok (stmt_of inner)) (Ok (stmt_of other))) }
+    ensures { Gives stmt_of result (definition.if_else_typed line (Ok (typed_of condition)) (Ok (stmt_of inner.value)) (Ok (stmt_of other.value))) }
 {
     truth(condition.at, condition.ty)?;
-    let inner = boxed(alloc, inner)?;
-    let other = boxed(alloc, other)?;
     Ok(if_else_of(line, condition.tree, inner, other))
 }
 
@@ -67,17 +63,11 @@ fn if_else_of(line: usize, condition: TypedExpr, then: Box<Stmt>, otherwise: Box
 
 /// `while (condition) inner`
 #[tactic(auto, unfolding(ash_typed::specs::Statements::while_typed))]
-pub(crate) fn while_made(
-    alloc: Global,
-    line: usize,
-    condition: Typed,
-    inner: Stmt,
-) -> Checking<Stmt>
-    ensures { Gives stmt_of result (definition.while_typed line (Ok (typed_of condition)) (Ok (stmt_of inner))) }
+pub(crate) fn while_made(line: usize, condition: Typed, inner: Box<Stmt>) -> Checking<Stmt>
+    ensures { Gives stmt_of result (definition.while_typed line (Ok (typed_of condition)) (Ok (stmt_of inner.value))) }
 {
     truth(condition.at, condition.ty)?;
-    let body = boxed(alloc, inner)?;
-    Ok(while_of(line, condition.tree, body))
+    Ok(while_of(line, condition.tree, inner))
 }
 
 fn while_of(line: usize, condition: TypedExpr, body: Box<Stmt>) -> Stmt
@@ -91,17 +81,11 @@ fn while_of(line: usize, condition: TypedExpr, body: Box<Stmt>) -> Stmt
 
 /// `do inner while (condition);`
 #[tactic(auto, unfolding(ash_typed::specs::Statements::do_while_typed))]
-pub(crate) fn do_while_made(
-    alloc: Global,
-    line: usize,
-    inner: Stmt,
-    condition: Typed,
-) -> Checking<Stmt>
-    ensures { Gives stmt_of result (definition.do_while_typed line (Ok (stmt_of inner)) (Ok (typed_of condition))) }
+pub(crate) fn do_while_made(line: usize, inner: Box<Stmt>, condition: Typed) -> Checking<Stmt>
+    ensures { Gives stmt_of result (definition.do_while_typed line (Ok (stmt_of inner.value)) (Ok (typed_of condition))) }
 {
     truth(condition.at, condition.ty)?;
-    let body = boxed(alloc, inner)?;
-    Ok(do_while_of(line, body, condition.tree))
+    Ok(do_while_of(line, inner, condition.tree))
 }
 
 fn do_while_of(line: usize, body: Box<Stmt>, condition: TypedExpr) -> Stmt
@@ -118,18 +102,18 @@ fn do_while_of(line: usize, body: Box<Stmt>, condition: TypedExpr) -> Stmt
 pub(crate) fn for_made(
     alloc: Global,
     line: usize,
-    first: Stmt,
+    first: Box<Stmt>,
     condition: Option<Typed>,
     steps: Vec<Typed>,
-    inner: Stmt,
+    inner: Box<Stmt>,
 ) -> Checking<Stmt>
-    ensures { Gives stmt_of result (definition.for_typed line (Ok (stmt_of first)) (Ok (maybe_typed_of condition)) (Ok (all_typed_of steps)) (Ok (stmt_of inner))) }
+    ensures { Gives stmt_of result (definition.for_typed line (Ok (stmt_of first.value)) (Ok (maybe_typed_of condition)) (Ok (all_typed_of steps)) (Ok (stmt_of inner.value))) }
 {
-    maybe_truth(&condition)?;
-    let first = boxed(alloc, first)?;
+    if let Err(stop) = maybe_truth(&condition) {
+        return Err(stop);
+    }
     let steps = trees_of(alloc, steps)?;
-    let body = boxed(alloc, inner)?;
-    Ok(for_of(line, first, tree_of(condition), steps, body))
+    Ok(for_of(line, first, tree_of(condition), steps, inner))
 }
 
 fn for_of(
@@ -152,7 +136,8 @@ fn for_of(
     }
 }
 
-fn boxed(alloc: Global, inner: Stmt) -> Result<Box<Stmt>, AllocError>
+/// A statement in a box, where there is memory for it.
+pub(crate) fn boxed(alloc: Global, inner: Stmt) -> Result<Box<Stmt>, AllocError>
     ensures { IfOk result (λ b. b.value ≡ inner) }
 {
     Ok(Box::new(alloc, inner)?)

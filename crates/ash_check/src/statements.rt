@@ -9,7 +9,9 @@ ghost use Rattle.ash_expressions.specs.Gives.{Gives};
 ghost use Rattle.ash_check.specs.StatementViews.{locals_of, scope_of, stmts_in, cases_in};
 ghost use Rattle.ash_expressions.specs.Views.{declared_of};
 
-use crate::conditions::{do_while_made, for_made, if_else_made, if_made, maybe_typed, while_made};
+use crate::conditions::{
+    boxed, do_while_made, for_made, if_else_made, if_made, maybe_typed, while_made,
+};
 use crate::jumps::{break_typed, continue_typed, return_typed};
 use crate::locals::vars_typed;
 use crate::scopes::Scope;
@@ -110,14 +112,14 @@ fn branch<'n>(
     scope: &Scope<'_, 'n>,
     locals: &mut Vec<Declared<'n>>,
     source: &'n Stmt,
-) -> Checking<TypedStmt>
-    ensures typed { Gives stmt_of result (definition.stmt_typed (scope_of scope.now (locals_of locals.old)) (written.stmt_of source.now)) }
+) -> Checking<Box<TypedStmt>>
+    ensures typed { Gives (λ s. stmt_of s.value) result (definition.stmt_typed (scope_of scope.now (locals_of locals.old)) (written.stmt_of source.now)) }
     ensures kept { IfOk result (λ _. locals_of locals.new ≡ locals_of locals.old) }
 {
     let kept = locals.len();
     let typed = statement(alloc, scope, locals, source)?;
     locals.truncate(kept);
-    Ok(typed)
+    Ok(boxed(alloc, typed)?)
 }
 
 /// The statements of a block. None of its variables is left behind it.
@@ -177,7 +179,7 @@ fn if_typed<'n>(
 {
     let condition = expression(&(&*scope).environment(locals), alloc, false, condition)?;
     let inner = branch(alloc, scope, locals, inner)?;
-    if_made(alloc, place.line, condition, inner)
+    if_made(place.line, condition, inner)
 }
 
 /// `if (condition) inner else other`
@@ -198,7 +200,7 @@ fn if_else_typed<'n>(
     let condition = expression(&(&*scope).environment(locals), alloc, false, condition)?;
     let then = branch(alloc, scope, locals, then)?;
     let otherwise = branch(alloc, scope, locals, otherwise)?;
-    if_else_made(alloc, place.line, condition, then, otherwise)
+    if_else_made(place.line, condition, then, otherwise)
 }
 
 /// `while (condition) inner`
@@ -221,7 +223,7 @@ fn while_typed<'n>(
         ..*scope
     };
     let inner = branch(alloc, &repeated, locals, inner)?;
-    while_made(alloc, place.line, condition, inner)
+    while_made(place.line, condition, inner)
 }
 
 /// `do inner while (condition);`
@@ -244,7 +246,7 @@ fn do_while_typed<'n>(
     };
     let inner = branch(alloc, &repeated, locals, inner)?;
     let condition = expression(&(&*scope).environment(locals), alloc, false, condition)?;
-    do_while_made(alloc, place.line, inner, condition)
+    do_while_made(place.line, inner, condition)
 }
 
 /// `for (first; condition; steps) body`
@@ -269,6 +271,7 @@ fn for_typed<'n>(
         ..*scope
     };
     let first = statement(alloc, &head, locals, first)?;
+    let first = boxed(alloc, first)?;
     let env = head.environment(locals);
     let condition = maybe_typed(alloc, &env, condition)?;
     let steps = all_typed(&env, alloc, steps)?;
