@@ -183,6 +183,18 @@ unfoldable pub while_at : Tokens → Reading Place
 while_at [] = Err (Unexpected [])
 while_at ((m, p) ∷ ts) = if is_while (leading m) then Ok (p, ts) else Err (Unexpected ((m, p) ∷ ts))
 
+-- ";" behind the condition of a `do`
+unfoldable pub do_close_at : Place → Stmt → Expr → Tokens → Reading Stmt
+do_close_at p s c ts = expect_at signs.Semicolon ts >>= λ o. Ok (DoWhile p s c, o.1)
+
+-- "(" assign ")" ";" behind the `while` of a `do`
+unfoldable pub do_test_with : Below → Place → Stmt → Tokens → Reading Stmt
+do_test_with below p s ts = bracketed_with below ts >>= λ c. do_close_at p s c.0 c.1
+
+-- "while" "(" assign ")" ";" behind the body of a `do`
+unfoldable pub do_end_with : Below → Place → Stmt → Tokens → Reading Stmt
+do_end_with below p s ts = while_at ts >>= λ w. do_test_with below p s w.1
+
 unfoldable pub do_with : Below → Nested → Place → Tokens → Reading Stmt
 do_with below nested p ts = do
   s ← nested ts
@@ -232,6 +244,10 @@ case_with nested ts = do
 
 unfoldable pub cases_with : Nested → Tokens → Reading (List Case)
 cases_with nested ts = loop goes_on (case_with nested) ts
+
+-- behind the cases of a `switch`
+unfoldable pub switch_end_with : Place → Expr → List Case → Tokens → Reading Stmt
+switch_end_with p e cs ts = expect_at signs.CloseBrace ts >>= λ z. Ok (Switch p e (cases cs), z.1)
 
 unfoldable pub switch_with : Below → Nested → Place → Tokens → Reading Stmt
 switch_with below nested p ts = do

@@ -5,6 +5,7 @@
 
 ghost use Rattle.std.specs.Prelude.{◌≡◌, ◌<◌, ◌≤◌, map, string_bytes, option_map, true, false, Ok, Err};
 ghost use Rattle.ash_tree.specs.Tokens.{tokens_of, place_of_token};
+ghost use Rattle.ash_tree.specs.Tree.{Conditional, place_of};
 ghost use Rattle.ash_tree.specs.Views.{expr_of, suffix_of, operation_of};
 ghost use Rattle.ash_parse.specs.Reading.{Gives, Fails, put};
 ghost use Rattle.ash_parse.specs.ExpressionReader as reader;
@@ -78,15 +79,47 @@ pub fn assign(alloc: Global, room: u32, tokens: &[Token]) -> Reading<'_, Expr>
 
 /// `assign ":" assign`, behind the `?`
 #[cycle(expressions)]
-#[tactic(auto, unfolding(crate::specs::ExpressionReader::branches_with))]
+#[tactic(auto, unfolding(crate::specs::ExpressionReader::branches_with, crate::specs::ExpressionReader::other_branch_with))]
 fn branches<'a>(alloc: Global, room: u32, condition: Expr, tokens: &'a [Token]) -> Reading<'a, Expr>
     requires { room ≤ DEPTH }
     ensures { Gives (λ x. (expr_of x.0, tokens_of x.1.now)) result (reader.branches_with (reader.below_at room) (expr_of condition) (tokens_of tokens.now)) }
 {
     let (then, rest) = below(alloc, true, room, tokens)?;
-    let (_, rest) = expect(Sign::Colon, rest)?;
+    other_branch(alloc, room, condition, then, rest)
+}
+
+/// `":" assign`, behind the first branch
+#[cycle(expressions)]
+#[tactic(auto, unfolding(crate::specs::ExpressionReader::other_branch_with))]
+fn other_branch<'a>(
+    alloc: Global,
+    room: u32,
+    condition: Expr,
+    then: Expr,
+    tokens: &'a [Token],
+) -> Reading<'a, Expr>
+    requires { room ≤ DEPTH }
+    ensures { Gives (λ x. (expr_of x.0, tokens_of x.1.now)) result (reader.other_branch_with (reader.below_at room) (expr_of condition) (expr_of then) (tokens_of tokens.now)) }
+{
+    let (_, rest) = expect(Sign::Colon, tokens)?;
     let (otherwise, rest) = below(alloc, true, room, rest)?;
-    Ok((nodes::conditional(alloc, condition, then, otherwise)?, rest))
+    conditional(alloc, condition, then, otherwise, rest)
+}
+
+/// A condition with both its branches.
+fn conditional<'a>(
+    alloc: Global,
+    condition: Expr,
+    then: Expr,
+    otherwise: Expr,
+    tokens: &'a [Token],
+) -> Reading<'a, Expr>
+    ensures { Gives (λ x. (expr_of x.0, tokens_of x.1.now)) result (Ok (Conditional (place_of (expr_of condition)) (expr_of condition) (expr_of then) (expr_of otherwise), tokens_of tokens.now)) }
+{
+    Ok((
+        nodes::conditional(alloc, condition, then, otherwise)?,
+        tokens,
+    ))
 }
 
 /// What operators up to this level join, from the tightest level on; without a level a `unary`.

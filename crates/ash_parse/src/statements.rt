@@ -3,9 +3,10 @@
 //! Each function reads the phrase that stands above it. `room` is how many phrases that count for the depth may still
 //! begin, one in the other.
 
-ghost use Rattle.std.specs.Prelude.{◌≡◌, ◌<◌, ◌≤◌, map, string_bytes, option_map, true, false};
+ghost use Rattle.std.specs.Prelude.{◌≡◌, ◌<◌, ◌≤◌, map, string_bytes, option_map, true, false, Ok};
 ghost use Rattle.ash_lex.specs.Tokens.{meaning_of};
 ghost use Rattle.ash_tree.specs.Tokens.{tokens_of, place_of_token};
+ghost use Rattle.ash_tree.specs.Tree.{If, IfElse};
 ghost use Rattle.ash_tree.specs.Views.{expr_of, type_of, decl_of, initializer_of, vars_of, stmt_at, stmt_of, case_of};
 ghost use Rattle.ash_parse.specs.Reading.{Gives, Fails, put};
 ghost use Rattle.ash_parse.specs.ExpressionReader as exprs;
@@ -22,7 +23,7 @@ use ash_tree::{
 use std::alloc::Global;
 
 /// What a token is to a statement.
-#[derive(Clone, Copy, Debug)]
+#[derive(Clone, Copy)]
 pub enum Leading {
     /// `{`
     Block,
@@ -475,6 +476,36 @@ fn if_statement<'a>(
     else_branch(alloc, room, place, condition, then, rest)
 }
 
+/// An `if` that ends with its branch.
+fn if_only<'a>(
+    alloc: Global,
+    place: Place,
+    condition: Expr,
+    then: Stmt,
+    tokens: &'a [Token],
+) -> Reading<'a, Stmt>
+    ensures { Gives (λ x. (stmt_of x.0, tokens_of x.1.now)) result (Ok (If place (expr_of condition) (stmt_of then), tokens_of tokens.now)) }
+{
+    Ok((nodes::if_only(alloc, place, condition, then)?, tokens))
+}
+
+/// An `if` with both its branches.
+fn if_else<'a>(
+    alloc: Global,
+    place: Place,
+    condition: Expr,
+    then: Stmt,
+    otherwise: Stmt,
+    tokens: &'a [Token],
+) -> Reading<'a, Stmt>
+    ensures { Gives (λ x. (stmt_of x.0, tokens_of x.1.now)) result (Ok (IfElse place (expr_of condition) (stmt_of then) (stmt_of otherwise), tokens_of tokens.now)) }
+{
+    Ok((
+        nodes::if_else(alloc, place, condition, then, otherwise)?,
+        tokens,
+    ))
+}
+
 /// `[ "else" stmt ]`
 #[cycle(statements)]
 #[tactic(auto, unfolding(crate::specs::StatementReader::else_with))]
@@ -490,16 +521,13 @@ fn else_branch<'a>(
     ensures { Gives (λ x. (stmt_of x.0, tokens_of x.1.now)) result (reader.else_with (reader.nested_at room) place (expr_of condition) (stmt_of then) (tokens_of tokens.now)) }
 {
     let Some((next, rest)) = tokens.split_first() else {
-        return Ok((nodes::if_only(alloc, place, condition, then)?, tokens));
+        return if_only(alloc, place, condition, then, tokens);
     };
     if !matches!(leads_to(&next.kind), Leading::Else) {
-        return Ok((nodes::if_only(alloc, place, condition, then)?, tokens));
+        return if_only(alloc, place, condition, then, tokens);
     }
     let (otherwise, rest) = nested(alloc, room, rest)?;
-    Ok((
-        nodes::if_else(alloc, place, condition, then, otherwise)?,
-        rest,
-    ))
+    if_else(alloc, place, condition, then, otherwise, rest)
 }
 
 /// `"(" assign ")" stmt`, behind the `while`
@@ -521,7 +549,7 @@ fn while_statement<'a>(
 
 /// `stmt "while" "(" assign ")" ";"`, behind the `do`
 #[cycle(statements)]
-#[tactic(auto, unfolding(crate::specs::StatementReader::do_with))]
+#[tactic(auto, unfolding(crate::specs::StatementReader::do_with, crate::specs::StatementReader::do_end_with, crate::specs::StatementReader::do_test_with, crate::specs::StatementReader::do_close_at))]
 fn do_statement<'a>(
     alloc: Global,
     room: u32,
@@ -532,9 +560,53 @@ fn do_statement<'a>(
     ensures { Gives (λ x. (stmt_of x.0, tokens_of x.1.now)) result (reader.do_with (exprs.below_at room) (reader.nested_at room) place (tokens_of tokens.now)) }
 {
     let (body, rest) = nested(alloc, room, tokens)?;
-    let (_, rest) = expect_while(rest)?;
-    let (condition, rest) = bracketed(alloc, room, rest)?;
-    let (_, rest) = expect(Sign::Semicolon, rest)?;
+    do_end(alloc, room, place, body, rest)
+}
+
+/// `"while" "(" assign ")" ";"`, behind the body of a `do`
+#[tactic(auto, unfolding(crate::specs::StatementReader::do_end_with))]
+fn do_end<'a>(
+    alloc: Global,
+    room: u32,
+    place: Place,
+    body: Stmt,
+    tokens: &'a [Token],
+) -> Reading<'a, Stmt>
+    requires { room ≤ DEPTH }
+    ensures { Gives (λ x. (stmt_of x.0, tokens_of x.1.now)) result (reader.do_end_with (exprs.below_at room) place (stmt_of body) (tokens_of tokens.now)) }
+{
+    let (_, rest) = expect_while(tokens)?;
+    do_test(alloc, room, place, body, rest)
+}
+
+/// `"(" assign ")" ";"`, behind the `while` of a `do`
+#[tactic(auto, unfolding(crate::specs::StatementReader::do_test_with))]
+fn do_test<'a>(
+    alloc: Global,
+    room: u32,
+    place: Place,
+    body: Stmt,
+    tokens: &'a [Token],
+) -> Reading<'a, Stmt>
+    requires { room ≤ DEPTH }
+    ensures { Gives (λ x. (stmt_of x.0, tokens_of x.1.now)) result (reader.do_test_with (exprs.below_at room) place (stmt_of body) (tokens_of tokens.now)) }
+{
+    let (condition, rest) = bracketed(alloc, room, tokens)?;
+    do_close(alloc, place, body, condition, rest)
+}
+
+/// `";"`, behind the condition of a `do`
+#[tactic(auto, unfolding(crate::specs::StatementReader::do_close_at))]
+fn do_close<'a>(
+    alloc: Global,
+    place: Place,
+    body: Stmt,
+    condition: Expr,
+    tokens: &'a [Token],
+) -> Reading<'a, Stmt>
+    ensures { Gives (λ x. (stmt_of x.0, tokens_of x.1.now)) result (reader.do_close_at place (stmt_of body) (expr_of condition) (tokens_of tokens.now)) }
+{
+    let (_, rest) = expect(Sign::Semicolon, tokens)?;
     Ok((nodes::do_loop(alloc, place, body, condition)?, rest))
 }
 
@@ -564,7 +636,7 @@ fn for_statement<'a>(
 
 /// `"(" assign ")" "{" { label { stmt } } "}"`, behind the `switch`
 #[cycle(statements)]
-#[tactic(auto, unfolding(crate::specs::StatementReader::switch_with))]
+#[tactic(auto, unfolding(crate::specs::StatementReader::switch_with, crate::specs::StatementReader::switch_end_with))]
 fn switch_statement<'a>(
     alloc: Global,
     room: u32,
@@ -577,7 +649,15 @@ fn switch_statement<'a>(
     let (value, rest) = bracketed(alloc, room, tokens)?;
     let (_, rest) = expect(Sign::OpenBrace, rest)?;
     let (cases, rest) = cases(alloc, room, rest)?;
-    let (_, rest) = expect(Sign::CloseBrace, rest)?;
+    switch_end(place, value, cases, rest)
+}
+
+/// `"}"`, behind the cases of a `switch`
+#[tactic(auto, unfolding(crate::specs::StatementReader::switch_end_with))]
+fn switch_end(place: Place, value: Expr, cases: Vec<Case>, tokens: &[Token]) -> Reading<'_, Stmt>
+    ensures { Gives (λ x. (stmt_of x.0, tokens_of x.1.now)) result (reader.switch_end_with place (expr_of value) (map case_of cases.items) (tokens_of tokens.now)) }
+{
+    let (_, rest) = expect(Sign::CloseBrace, tokens)?;
     Ok((nodes::switch(place, value, cases), rest))
 }
 

@@ -7,7 +7,7 @@ use ash_lex::Token;
 use std::alloc::{AllocError, AllocFailed};
 
 /// Why reading stops. A fault holds the tokens from it on.
-#[derive(Clone, Copy, Debug)]
+#[derive(Clone, Copy)]
 pub enum Stop<'a> {
     /// No phrase goes on with the first of these tokens, or with the end where there is none.
     Unexpected(&'a [Token]),

@@ -15,7 +15,10 @@ abbrev pub decreases-assign : goal.decreases-assign
 decreases-assign l = l.room * 64 + 60
 
 abbrev pub decreases-branches : goal.decreases-branches
-decreases-branches l = l.room * 64 + 1
+decreases-branches l = l.room * 64 + 2
+
+abbrev pub decreases-other_branch : goal.decreases-other_branch
+decreases-other_branch l = l.room * 64 + 1
 
 abbrev pub decreases-binary : goal.decreases-binary
 decreases-binary l = l.room * 64 + (10 + l.level * 4)
