@@ -183,17 +183,13 @@ unfoldable pub while_at : Tokens → Reading Place
 while_at [] = Err (Unexpected [])
 while_at ((m, p) ∷ ts) = if is_while (leading m) then Ok (p, ts) else Err (Unexpected ((m, p) ∷ ts))
 
--- ";" behind the condition of a `do`
-unfoldable pub do_close_at : Place → Stmt → Expr → Tokens → Reading Stmt
-do_close_at p s c ts = expect_at signs.Semicolon ts >>= λ o. Ok (DoWhile p s c, o.1)
-
--- "(" assign ")" ";" behind the `while` of a `do`
-unfoldable pub do_test_with : Below → Place → Stmt → Tokens → Reading Stmt
-do_test_with below p s ts = bracketed_with below ts >>= λ c. do_close_at p s c.0 c.1
-
 -- "while" "(" assign ")" ";" behind the body of a `do`
 unfoldable pub do_end_with : Below → Place → Stmt → Tokens → Reading Stmt
-do_end_with below p s ts = while_at ts >>= λ w. do_test_with below p s w.1
+do_end_with below p s ts = do
+  w ← while_at ts
+  c ← bracketed_with below w.1
+  o ← expect_at signs.Semicolon c.1
+  Ok (DoWhile p s c.0, o.1)
 
 unfoldable pub do_with : Below → Nested → Place → Tokens → Reading Stmt
 do_with below nested p ts = do

@@ -3,10 +3,10 @@
 //! Each function reads the phrase that stands above it. `room` is how many phrases that count for the depth may still
 //! begin, one in the other.
 
-ghost use Rattle.std.specs.Prelude.{◌≡◌, ◌<◌, ◌≤◌, map, string_bytes, option_map, true, false, Ok};
+ghost use Rattle.std.specs.Prelude.{◌≡◌, ◌<◌, ◌≤◌, map, string_bytes, option_map, true, false, IfOk};
 ghost use Rattle.ash_lex.specs.Tokens.{meaning_of};
 ghost use Rattle.ash_tree.specs.Tokens.{tokens_of, place_of_token};
-ghost use Rattle.ash_tree.specs.Tree.{If, IfElse};
+ghost use Rattle.ash_tree.specs.Tree.{If};
 ghost use Rattle.ash_tree.specs.Views.{expr_of, type_of, decl_of, initializer_of, vars_of, stmt_at, stmt_of, case_of};
 ghost use Rattle.ash_parse.specs.Reading.{Gives, Fails, put};
 ghost use Rattle.ash_parse.specs.ExpressionReader as exprs;
@@ -20,7 +20,7 @@ use ash_lex::{ReservedWord, Sign, Token, TokenKind};
 use ash_tree::{
     Case, Decl, Expr, Initializer, Label, Place, Stmt, StmtKind, Type, TypeKind, Vars, nodes,
 };
-use std::alloc::Global;
+use std::alloc::{AllocError, Global};
 
 /// What a token is to a statement.
 #[derive(Clone, Copy)]
@@ -281,6 +281,14 @@ fn first(alloc: Global, room: u32, tokens: &[Token]) -> Reading<'_, Stmt>
     Ok((nodes::evaluate(value), rest))
 }
 
+fn boxed_first(alloc: Global, room: u32, tokens: &[Token]) -> Reading<'_, Box<Stmt>>
+    requires { room ≤ DEPTH }
+    ensures { Gives (λ x. (stmt_of (x.0).value, tokens_of x.1.now)) result (reader.first_with (exprs.below_at room) (tokens_of tokens.now)) }
+{
+    let (read, rest) = first(alloc, room, tokens)?;
+    Ok((boxed(alloc, read)?, rest))
+}
+
 /// `[assign] ";"`, in the head of a `for`
 #[tactic(auto, unfolding(crate::specs::StatementReader::test_with))]
 fn test(alloc: Global, room: u32, tokens: &[Token]) -> Reading<'_, Option<Expr>>
@@ -413,6 +421,22 @@ fn nested(alloc: Global, room: u32, tokens: &[Token]) -> Reading<'_, Stmt>
     statement(alloc, room - 1, tokens)
 }
 
+/// A statement that stands one deeper, in a box: what holds it while it reads on holds the box only.
+#[cycle(statements)]
+fn inner(alloc: Global, room: u32, tokens: &[Token]) -> Reading<'_, Box<Stmt>>
+    requires { room ≤ DEPTH }
+    ensures { Gives (λ x. (stmt_of (x.0).value, tokens_of x.1.now)) result (reader.nested_at room (tokens_of tokens.now)) }
+{
+    let (read, rest) = nested(alloc, room, tokens)?;
+    Ok((boxed(alloc, read)?, rest))
+}
+
+fn boxed(alloc: Global, statement: Stmt) -> Result<Box<Stmt>, AllocError>
+    ensures { IfOk result (λ b. b.value ≡ statement) }
+{
+    Ok(Box::new(alloc, statement)?)
+}
+
 #[cycle(statements)]
 #[tactic(auto, unfolding(crate::specs::StatementReader::stmt_with))]
 fn statement(alloc: Global, room: u32, tokens: &[Token]) -> Reading<'_, Stmt>
@@ -472,38 +496,18 @@ fn if_statement<'a>(
     ensures { Gives (λ x. (stmt_of x.0, tokens_of x.1.now)) result (reader.if_with (exprs.below_at room) (reader.nested_at room) place (tokens_of tokens.now)) }
 {
     let (condition, rest) = bracketed(alloc, room, tokens)?;
-    let (then, rest) = nested(alloc, room, rest)?;
+    let (then, rest) = inner(alloc, room, rest)?;
     else_branch(alloc, room, place, condition, then, rest)
 }
 
 /// An `if` that ends with its branch.
-fn if_only<'a>(
-    alloc: Global,
-    place: Place,
-    condition: Expr,
-    then: Stmt,
-    tokens: &'a [Token],
-) -> Reading<'a, Stmt>
-    ensures { Gives (λ x. (stmt_of x.0, tokens_of x.1.now)) result (Ok (If place (expr_of condition) (stmt_of then), tokens_of tokens.now)) }
+fn if_only(place: Place, condition: Expr, then: Box<Stmt>) -> Stmt
+    ensures { stmt_of result ≡ If place (expr_of condition) (stmt_of then.value) }
 {
-    Ok((nodes::if_only(alloc, place, condition, then)?, tokens))
-}
-
-/// An `if` with both its branches.
-fn if_else<'a>(
-    alloc: Global,
-    place: Place,
-    condition: Expr,
-    then: Stmt,
-    otherwise: Stmt,
-    tokens: &'a [Token],
-) -> Reading<'a, Stmt>
-    ensures { Gives (λ x. (stmt_of x.0, tokens_of x.1.now)) result (Ok (IfElse place (expr_of condition) (stmt_of then) (stmt_of otherwise), tokens_of tokens.now)) }
-{
-    Ok((
-        nodes::if_else(alloc, place, condition, then, otherwise)?,
-        tokens,
-    ))
+    Stmt {
+        place,
+        kind: StmtKind::If { condition, then },
+    }
 }
 
 /// `[ "else" stmt ]`
@@ -514,20 +518,28 @@ fn else_branch<'a>(
     room: u32,
     place: Place,
     condition: Expr,
-    then: Stmt,
+    then: Box<Stmt>,
     tokens: &'a [Token],
 ) -> Reading<'a, Stmt>
     requires { room ≤ DEPTH }
-    ensures { Gives (λ x. (stmt_of x.0, tokens_of x.1.now)) result (reader.else_with (reader.nested_at room) place (expr_of condition) (stmt_of then) (tokens_of tokens.now)) }
+    ensures { Gives (λ x. (stmt_of x.0, tokens_of x.1.now)) result (reader.else_with (reader.nested_at room) place (expr_of condition) (stmt_of then.value) (tokens_of tokens.now)) }
 {
     let Some((next, rest)) = tokens.split_first() else {
-        return if_only(alloc, place, condition, then, tokens);
+        return Ok((if_only(place, condition, then), tokens));
     };
     if !matches!(leads_to(&next.kind), Leading::Else) {
-        return if_only(alloc, place, condition, then, tokens);
+        return Ok((if_only(place, condition, then), tokens));
     }
-    let (otherwise, rest) = nested(alloc, room, rest)?;
-    if_else(alloc, place, condition, then, otherwise, rest)
+    let (otherwise, rest) = inner(alloc, room, rest)?;
+    let both = Stmt {
+        place,
+        kind: StmtKind::IfElse {
+            condition,
+            then,
+            otherwise,
+        },
+    };
+    Ok((both, rest))
 }
 
 /// `"(" assign ")" stmt`, behind the `while`
@@ -543,13 +555,17 @@ fn while_statement<'a>(
     ensures { Gives (λ x. (stmt_of x.0, tokens_of x.1.now)) result (reader.while_with (exprs.below_at room) (reader.nested_at room) place (tokens_of tokens.now)) }
 {
     let (condition, rest) = bracketed(alloc, room, tokens)?;
-    let (body, rest) = nested(alloc, room, rest)?;
-    Ok((nodes::while_loop(alloc, place, condition, body)?, rest))
+    let (body, rest) = inner(alloc, room, rest)?;
+    let repeated = Stmt {
+        place,
+        kind: StmtKind::While { condition, body },
+    };
+    Ok((repeated, rest))
 }
 
 /// `stmt "while" "(" assign ")" ";"`, behind the `do`
 #[cycle(statements)]
-#[tactic(auto, unfolding(crate::specs::StatementReader::do_with, crate::specs::StatementReader::do_end_with, crate::specs::StatementReader::do_test_with, crate::specs::StatementReader::do_close_at))]
+#[tactic(auto, unfolding(crate::specs::StatementReader::do_with, crate::specs::StatementReader::do_end_with))]
 fn do_statement<'a>(
     alloc: Global,
     room: u32,
@@ -559,7 +575,7 @@ fn do_statement<'a>(
     requires { room ≤ DEPTH }
     ensures { Gives (λ x. (stmt_of x.0, tokens_of x.1.now)) result (reader.do_with (exprs.below_at room) (reader.nested_at room) place (tokens_of tokens.now)) }
 {
-    let (body, rest) = nested(alloc, room, tokens)?;
+    let (body, rest) = inner(alloc, room, tokens)?;
     do_end(alloc, room, place, body, rest)
 }
 
@@ -569,45 +585,20 @@ fn do_end<'a>(
     alloc: Global,
     room: u32,
     place: Place,
-    body: Stmt,
+    body: Box<Stmt>,
     tokens: &'a [Token],
 ) -> Reading<'a, Stmt>
     requires { room ≤ DEPTH }
-    ensures { Gives (λ x. (stmt_of x.0, tokens_of x.1.now)) result (reader.do_end_with (exprs.below_at room) place (stmt_of body) (tokens_of tokens.now)) }
+    ensures { Gives (λ x. (stmt_of x.0, tokens_of x.1.now)) result (reader.do_end_with (exprs.below_at room) place (stmt_of body.value) (tokens_of tokens.now)) }
 {
     let (_, rest) = expect_while(tokens)?;
-    do_test(alloc, room, place, body, rest)
-}
-
-/// `"(" assign ")" ";"`, behind the `while` of a `do`
-#[tactic(auto, unfolding(crate::specs::StatementReader::do_test_with))]
-fn do_test<'a>(
-    alloc: Global,
-    room: u32,
-    place: Place,
-    body: Stmt,
-    tokens: &'a [Token],
-) -> Reading<'a, Stmt>
-    requires { room ≤ DEPTH }
-    ensures { Gives (λ x. (stmt_of x.0, tokens_of x.1.now)) result (reader.do_test_with (exprs.below_at room) place (stmt_of body) (tokens_of tokens.now)) }
-{
-    let (condition, rest) = bracketed(alloc, room, tokens)?;
-    do_close(alloc, place, body, condition, rest)
-}
-
-/// `";"`, behind the condition of a `do`
-#[tactic(auto, unfolding(crate::specs::StatementReader::do_close_at))]
-fn do_close<'a>(
-    alloc: Global,
-    place: Place,
-    body: Stmt,
-    condition: Expr,
-    tokens: &'a [Token],
-) -> Reading<'a, Stmt>
-    ensures { Gives (λ x. (stmt_of x.0, tokens_of x.1.now)) result (reader.do_close_at place (stmt_of body) (expr_of condition) (tokens_of tokens.now)) }
-{
-    let (_, rest) = expect(Sign::Semicolon, tokens)?;
-    Ok((nodes::do_loop(alloc, place, body, condition)?, rest))
+    let (condition, rest) = bracketed(alloc, room, rest)?;
+    let (_, rest) = expect(Sign::Semicolon, rest)?;
+    let repeated = Stmt {
+        place,
+        kind: StmtKind::DoWhile { body, condition },
+    };
+    Ok((repeated, rest))
 }
 
 /// `"(" [ vars | assign ] ";" [assign] ";" [ assign {"," assign} ] ")" stmt`, behind the `for`
@@ -623,15 +614,21 @@ fn for_statement<'a>(
     ensures { Gives (λ x. (stmt_of x.0, tokens_of x.1.now)) result (reader.for_with (exprs.below_at room) (reader.nested_at room) place (tokens_of tokens.now)) }
 {
     let (_, rest) = expect(Sign::OpenParenthesis, tokens)?;
-    let (first, rest) = first(alloc, room, rest)?;
+    let (first, rest) = boxed_first(alloc, room, rest)?;
     let (condition, rest) = test(alloc, room, rest)?;
     let (steps, rest) = expressions(alloc, room, rest)?;
     let (_, rest) = expect(Sign::CloseParenthesis, rest)?;
-    let (body, rest) = nested(alloc, room, rest)?;
-    Ok((
-        nodes::for_loop(alloc, place, first, condition, steps, body)?,
-        rest,
-    ))
+    let (body, rest) = inner(alloc, room, rest)?;
+    let repeated = Stmt {
+        place,
+        kind: StmtKind::For {
+            first,
+            condition,
+            steps,
+            body,
+        },
+    };
+    Ok((repeated, rest))
 }
 
 /// `"(" assign ")" "{" { label { stmt } } "}"`, behind the `switch`

@@ -10,23 +10,26 @@ use Rattle.ash_parse.proofs.statements.+statements.Given as goal
 abbrev pub decreases-nested : goal.decreases-nested
 decreases-nested l = l.room * 16
 
+abbrev pub decreases-inner : goal.decreases-inner
+decreases-inner l = l.room * 16 + 1
+
 abbrev pub decreases-statement : goal.decreases-statement
 decreases-statement l = l.room * 16 + 10
 
 abbrev pub decreases-if_statement : goal.decreases-if_statement
-decreases-if_statement l = l.room * 16 + 2
+decreases-if_statement l = l.room * 16 + 3
 
 abbrev pub decreases-else_branch : goal.decreases-else_branch
-decreases-else_branch l = l.room * 16 + 1
+decreases-else_branch l = l.room * 16 + 2
 
 abbrev pub decreases-while_statement : goal.decreases-while_statement
-decreases-while_statement l = l.room * 16 + 1
+decreases-while_statement l = l.room * 16 + 2
 
 abbrev pub decreases-do_statement : goal.decreases-do_statement
-decreases-do_statement l = l.room * 16 + 1
+decreases-do_statement l = l.room * 16 + 2
 
 abbrev pub decreases-for_statement : goal.decreases-for_statement
-decreases-for_statement l = l.room * 16 + 1
+decreases-for_statement l = l.room * 16 + 2
 
 abbrev pub decreases-switch_statement : goal.decreases-switch_statement
 decreases-switch_statement l = l.room * 16 + 4
