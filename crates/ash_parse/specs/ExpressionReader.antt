@@ -164,11 +164,11 @@ binary_with below zero ts = unary_with below ts
 binary_with below (suc n) ts = chain_by n (binary_with below n) ts
 
 -- ":" assign, behind the first branch
-unfoldable pub other_branch_with : Below → Expr → Expr → Tokens → Reading Expr
-other_branch_with below c a ts = do
+unfoldable pub other_branch_with : Below → Place → Expr → Expr → Tokens → Reading Expr
+other_branch_with below p c a ts = do
   colon ← expect_at signs.Colon ts
   b ← below true colon.1
-  Ok (Conditional (place_of c) c a b.0, b.1)
+  Ok (Conditional p c a b.0, b.1)
 
 -- "?" assign ":" assign, behind the "?"
 unfoldable pub branches_with : Below → Expr → Tokens → Reading Expr

@@ -3,9 +3,9 @@
 //! Each function reads the phrase that stands above it. `room` is how many phrases that count for the depth may still
 //! begin, one in the other.
 
-ghost use Rattle.std.specs.Prelude.{◌≡◌, ◌<◌, ◌≤◌, map, string_bytes, option_map, true, false, Ok, Err};
+ghost use Rattle.std.specs.Prelude.{◌≡◌, ◌<◌, ◌≤◌, map, string_bytes, option_map, true, false, IfOk, Err};
 ghost use Rattle.ash_tree.specs.Tokens.{tokens_of, place_of_token};
-ghost use Rattle.ash_tree.specs.Tree.{Conditional, place_of};
+ghost use Rattle.ash_tree.specs.Tree.{Conditional};
 ghost use Rattle.ash_tree.specs.Views.{expr_of, suffix_of, operation_of};
 ghost use Rattle.ash_parse.specs.Reading.{Gives, Fails, put};
 ghost use Rattle.ash_parse.specs.ExpressionReader as reader;
@@ -17,7 +17,7 @@ use crate::operators::{
 use crate::stop::{Reading, Stop};
 use ash_lex::{ReservedWord, Sign, Token, TokenKind};
 use ash_tree::{BinaryOp, Expr, ExprKind, Link, Place, Suffix, nodes};
-use std::alloc::Global;
+use std::alloc::{AllocError, Global};
 
 /// How deep a token stands at most.
 pub const DEPTH: u32 = 64;
@@ -79,13 +79,16 @@ pub fn assign(alloc: Global, room: u32, tokens: &[Token]) -> Reading<'_, Expr>
 
 /// `assign ":" assign`, behind the `?`
 #[cycle(expressions)]
-#[tactic(auto, unfolding(crate::specs::ExpressionReader::branches_with, crate::specs::ExpressionReader::other_branch_with))]
+#[tactic(auto, unfolding(crate::specs::ExpressionReader::branches_with, crate::specs::ExpressionReader::other_branch_with), using(ash_tree::proofs::Rows::place_is))]
 fn branches<'a>(alloc: Global, room: u32, condition: Expr, tokens: &'a [Token]) -> Reading<'a, Expr>
     requires { room ≤ DEPTH }
     ensures { Gives (λ x. (expr_of x.0, tokens_of x.1.now)) result (reader.branches_with (reader.below_at room) (expr_of condition) (tokens_of tokens.now)) }
 {
+    let place = condition.place;
+    let condition = boxed(alloc, condition)?;
     let (then, rest) = below(alloc, true, room, tokens)?;
-    other_branch(alloc, room, condition, then, rest)
+    let then = boxed(alloc, then)?;
+    other_branch(alloc, room, place, condition, then, rest)
 }
 
 /// `":" assign`, behind the first branch
@@ -94,32 +97,38 @@ fn branches<'a>(alloc: Global, room: u32, condition: Expr, tokens: &'a [Token]) 
 fn other_branch<'a>(
     alloc: Global,
     room: u32,
-    condition: Expr,
-    then: Expr,
+    place: Place,
+    condition: Box<Expr>,
+    then: Box<Expr>,
     tokens: &'a [Token],
 ) -> Reading<'a, Expr>
     requires { room ≤ DEPTH }
-    ensures { Gives (λ x. (expr_of x.0, tokens_of x.1.now)) result (reader.other_branch_with (reader.below_at room) (expr_of condition) (expr_of then) (tokens_of tokens.now)) }
+    ensures { Gives (λ x. (expr_of x.0, tokens_of x.1.now)) result (reader.other_branch_with (reader.below_at room) place (expr_of condition.value) (expr_of then.value) (tokens_of tokens.now)) }
 {
     let (_, rest) = expect(Sign::Colon, tokens)?;
     let (otherwise, rest) = below(alloc, true, room, rest)?;
-    conditional(alloc, condition, then, otherwise, rest)
+    let otherwise = boxed(alloc, otherwise)?;
+    Ok((conditional(place, condition, then, otherwise), rest))
 }
 
 /// A condition with both its branches.
-fn conditional<'a>(
-    alloc: Global,
-    condition: Expr,
-    then: Expr,
-    otherwise: Expr,
-    tokens: &'a [Token],
-) -> Reading<'a, Expr>
-    ensures { Gives (λ x. (expr_of x.0, tokens_of x.1.now)) result (Ok (Conditional (place_of (expr_of condition)) (expr_of condition) (expr_of then) (expr_of otherwise), tokens_of tokens.now)) }
+fn conditional(place: Place, condition: Box<Expr>, then: Box<Expr>, otherwise: Box<Expr>) -> Expr
+    ensures { expr_of result ≡ Conditional place (expr_of condition.value) (expr_of then.value) (expr_of otherwise.value) }
 {
-    Ok((
-        nodes::conditional(alloc, condition, then, otherwise)?,
-        tokens,
-    ))
+    Expr {
+        place,
+        kind: ExprKind::Conditional {
+            condition,
+            then,
+            otherwise,
+        },
+    }
+}
+
+fn boxed(alloc: Global, operand: Expr) -> Result<Box<Expr>, AllocError>
+    ensures { IfOk result (λ b. b.value ≡ operand) }
+{
+    Ok(Box::new(alloc, operand)?)
 }
 
 /// What operators up to this level join, from the tightest level on; without a level a `unary`.

@@ -6,7 +6,7 @@
 ghost use Rattle.std.specs.Prelude.{◌≡◌, ◌<◌, ◌≤◌, map, string_bytes, option_map, true, false, IfOk};
 ghost use Rattle.ash_lex.specs.Tokens.{meaning_of};
 ghost use Rattle.ash_tree.specs.Tokens.{tokens_of, place_of_token};
-ghost use Rattle.ash_tree.specs.Tree.{If};
+ghost use Rattle.ash_tree.specs.Tree.{If, IfElse};
 ghost use Rattle.ash_tree.specs.Views.{expr_of, type_of, decl_of, initializer_of, vars_of, stmt_at, stmt_of, case_of};
 ghost use Rattle.ash_parse.specs.Reading.{Gives, Fails, put};
 ghost use Rattle.ash_parse.specs.ExpressionReader as exprs;
@@ -281,14 +281,6 @@ fn first(alloc: Global, room: u32, tokens: &[Token]) -> Reading<'_, Stmt>
     Ok((nodes::evaluate(value), rest))
 }
 
-fn boxed_first(alloc: Global, room: u32, tokens: &[Token]) -> Reading<'_, Box<Stmt>>
-    requires { room ≤ DEPTH }
-    ensures { Gives (λ x. (stmt_of (x.0).value, tokens_of x.1.now)) result (reader.first_with (exprs.below_at room) (tokens_of tokens.now)) }
-{
-    let (read, rest) = first(alloc, room, tokens)?;
-    Ok((boxed(alloc, read)?, rest))
-}
-
 /// `[assign] ";"`, in the head of a `for`
 #[tactic(auto, unfolding(crate::specs::StatementReader::test_with))]
 fn test(alloc: Global, room: u32, tokens: &[Token]) -> Reading<'_, Option<Expr>>
@@ -510,6 +502,20 @@ fn if_only(place: Place, condition: Expr, then: Box<Stmt>) -> Stmt
     }
 }
 
+/// An `if` with both its branches.
+fn if_else(place: Place, condition: Expr, then: Box<Stmt>, otherwise: Box<Stmt>) -> Stmt
+    ensures { stmt_of result ≡ IfElse place (expr_of condition) (stmt_of then.value) (stmt_of otherwise.value) }
+{
+    Stmt {
+        place,
+        kind: StmtKind::IfElse {
+            condition,
+            then,
+            otherwise,
+        },
+    }
+}
+
 /// `[ "else" stmt ]`
 #[cycle(statements)]
 #[tactic(auto, unfolding(crate::specs::StatementReader::else_with))]
@@ -531,15 +537,7 @@ fn else_branch<'a>(
         return Ok((if_only(place, condition, then), tokens));
     }
     let (otherwise, rest) = inner(alloc, room, rest)?;
-    let both = Stmt {
-        place,
-        kind: StmtKind::IfElse {
-            condition,
-            then,
-            otherwise,
-        },
-    };
-    Ok((both, rest))
+    Ok((if_else(place, condition, then, otherwise), rest))
 }
 
 /// `"(" assign ")" stmt`, behind the `while`
@@ -614,21 +612,15 @@ fn for_statement<'a>(
     ensures { Gives (λ x. (stmt_of x.0, tokens_of x.1.now)) result (reader.for_with (exprs.below_at room) (reader.nested_at room) place (tokens_of tokens.now)) }
 {
     let (_, rest) = expect(Sign::OpenParenthesis, tokens)?;
-    let (first, rest) = boxed_first(alloc, room, rest)?;
+    let (first, rest) = first(alloc, room, rest)?;
     let (condition, rest) = test(alloc, room, rest)?;
     let (steps, rest) = expressions(alloc, room, rest)?;
     let (_, rest) = expect(Sign::CloseParenthesis, rest)?;
-    let (body, rest) = inner(alloc, room, rest)?;
-    let repeated = Stmt {
-        place,
-        kind: StmtKind::For {
-            first,
-            condition,
-            steps,
-            body,
-        },
-    };
-    Ok((repeated, rest))
+    let (body, rest) = nested(alloc, room, rest)?;
+    Ok((
+        nodes::for_loop(alloc, place, first, condition, steps, body)?,
+        rest,
+    ))
 }
 
 /// `"(" assign ")" "{" { label { stmt } } "}"`, behind the `switch`
