@@ -1,10 +1,24 @@
 //! Sources, and what checking and reading them report: the same, but for scripts that can't be run so far.
 
-use crate::sources::{bracketed, check_checking, check_reading, parts_of, with_blanks};
+use crate::compare::check_text;
+use crate::sources::{
+    bracketed, check_both, check_checking, check_reading, parts_of, printed, with_blanks,
+};
 use ash_meaning::checking::check_source;
-use ash_meaning::refusal::Refusal;
 use ash_registry::Registry;
+use std::alloc::Global;
+use std::process::Abort;
 use std::test::Fail;
+
+/// Each row has how both checking and reading end, a bar, and the source.
+fn check_rows(rt: &impl Abort, alloc: Global, rows: &str) -> Result<(), Fail> {
+    for row in rows.trim().lines() {
+        let (wanted, source) = parts_of(row);
+        check_checking(rt, alloc, source.as_bytes(), wanted)?;
+        check_reading(rt, alloc, source.as_bytes(), wanted)?;
+    }
+    Ok(())
+}
 
 #[test]
 fn rules_of_typing(rt: HostRuntime) -> Result<(), Fail> {
@@ -21,28 +35,44 @@ fn rules_of_typing(rt: HostRuntime) -> Result<(), Fail> {
         CyclicType(ClassNames([\"A\", \"B\"])) | class A { B b; } class B { A@ a; }
         UnknownName { at: 35 } | class Node { Node@ next; } int n = m;
         ";
-    for row in rows.trim().lines() {
-        let (wanted, source) = parts_of(row);
-        check_checking(&rt, rt.alloc(), source.as_bytes(), wanted)?;
-        check_reading(&rt, rt.alloc(), source.as_bytes(), wanted)?;
-    }
-    Ok(())
+    check_rows(&rt, rt.alloc(), rows)
 }
 
 #[test]
 fn earlier_faults_first(rt: HostRuntime) -> Result<(), Fail> {
-    for (source, wanted) in [
-        (b"X y; \xff".as_slice(), "BadCharacter { at: 5 }"),
-        (b"X y; \"", "BadCharacter { at: 5 }"),
-        (b"X y; /*", "UnclosedComment { at: 5 }"),
-        (b"X y = 18446744073709551616;", "NumberTooLarge { at: 6 }"),
-        (b"X y; int f( {", "Unexpected { at: 12 }"),
-        (b"X y; float x;", "Unsupported { word: Word(Float), at: 5 }"),
-    ] {
-        check_checking(&rt, rt.alloc(), source, wanted)?;
-        check_reading(&rt, rt.alloc(), source, wanted)?;
-    }
-    Ok(())
+    let rows: &[(&[u8], &str, &str)] = &[
+        (
+            b"X y; \xff",
+            "BadCharacter { at: 5 }",
+            "BadCharacter { at: 5 }",
+        ),
+        (
+            b"X y; \"",
+            "BadCharacter { at: 5 }",
+            "BadCharacter { at: 5 }",
+        ),
+        (
+            b"X y; /*",
+            "UnclosedComment { at: 5 }",
+            "UnclosedComment { at: 5 }",
+        ),
+        (
+            b"X y = 18446744073709551616;",
+            "NumberTooLarge { at: 6 }",
+            "NumberTooLarge { at: 6 }",
+        ),
+        (
+            b"X y; int f( {",
+            "Unexpected { at: 12 }",
+            "Unexpected { at: 12 }",
+        ),
+        (
+            b"X y; float x;",
+            "Unsupported { word: Word(Float), at: 5 }",
+            "Unsupported { word: Word(Float), at: 5 }",
+        ),
+    ];
+    check_both(&rt, rt.alloc(), rows)
 }
 
 #[test]
@@ -60,33 +90,35 @@ fn depth_and_length_before_types(rt: HostRuntime) -> Result<(), Fail> {
 
 #[test]
 fn sound_scripts(rt: HostRuntime) -> Result<(), Fail> {
-    for (source, read) in [
-        (b"".as_slice(), "ok"),
-        (b"\xef\xbb\xbf", "ok"),
-        (b";;", "ok"),
-        (b"int n = 2; int f(int k) { n += k; return n; }", "ok"),
+    let rows: &[(&[u8], &str, &str)] = &[
+        (b"", "ok", "ok"),
+        (b"\xef\xbb\xbf", "ok", "ok"),
+        (b";;", "ok", "ok"),
+        (b"int n = 2; int f(int k) { n += k; return n; }", "ok", "ok"),
         // What can't be run so far is checked all the same.
-        (b"class A { }", "NotYet"),
-        (b"bool b = true;", "NotYet"),
-        (b"int n = -1;", "NotYet"),
-        (b"int a, b;", "NotYet"),
-        (b"class Box { A@ a; } class A { }", "NotYet"),
-    ] {
-        check_checking(&rt, rt.alloc(), source, "ok")?;
-        check_reading(&rt, rt.alloc(), source, read)?;
-    }
-    Ok(())
+        (b"class A { }", "ok", "NotYet"),
+        (b"bool b = true;", "ok", "NotYet"),
+        (b"int n = -1;", "ok", "NotYet"),
+        (b"int a, b;", "ok", "NotYet"),
+        (b"class Box { A@ a; } class A { }", "ok", "NotYet"),
+    ];
+    check_both(&rt, rt.alloc(), rows)
+}
+
+/// How checking a source ends where a type `Counter` is registered.
+fn outcome_beside(alloc: Global, source: &[u8]) -> Result<String, Fail> {
+    let mut registry = Registry::new(alloc);
+    registry.object_type("Counter", 1)?;
+    Ok(printed(alloc, check_source(alloc, &registry, source).err())?)
 }
 
 #[test]
 fn registered_names_are_taken(rt: HostRuntime) -> Result<(), Fail> {
-    let alloc = rt.alloc();
-    let mut registry = Registry::new(alloc);
-    registry.object_type("Counter", 1)?;
-    let source = b"int n; int Counter() { return 1; }";
-    let taken = Err(Refusal::NameTaken { at: 11 });
-    assert_eq!(rt; check_source(alloc, &registry, source), taken);
-    let source = b"class Box { Counter@ c; }";
-    assert_eq!(rt; check_source(alloc, &registry, source), Ok(()));
+    let source = "int n; int Counter() { return 1; }";
+    let found = outcome_beside(rt.alloc(), source.as_bytes())?;
+    check_text(&rt, found.as_str(), "NameTaken { at: 11 }", source);
+    let source = "class Box { Counter@ c; }";
+    let found = outcome_beside(rt.alloc(), source.as_bytes())?;
+    check_text(&rt, found.as_str(), "ok", source);
     Ok(())
 }

@@ -1,6 +1,7 @@
 //! How deep each phrase may nest. The depths and offsets are counted by hand.
 
-use crate::grammar::outcome_of;
+use crate::grammar::check_script;
+use crate::tokens::push_times;
 use std::alloc::Global;
 use std::process::Abort;
 use std::test::*;
@@ -20,36 +21,30 @@ struct Nest {
 }
 
 /// The script in which the phrase is in itself so many times.
-fn script(alloc: Global, nest: Nest, times: usize) -> Result<String, Fail> {
+fn script(alloc: Global, nest: &Nest, times: usize) -> Result<String, Fail> {
     let mut script = String::from_str(alloc, nest.prefix)?;
-    for _ in 0..times {
-        script.push_str(nest.open)?;
-    }
+    push_times(&mut script, nest.open, times)?;
     script.push_str(nest.core)?;
-    for _ in 0..times {
-        script.push_str(nest.close)?;
-    }
+    push_times(&mut script, nest.close, times)?;
     script.push_str(nest.suffix)?;
     Ok(script)
 }
 
-fn check(rt: &impl Abort, alloc: Global, script: &str, wanted: &str) -> Result<(), Fail> {
-    let found = outcome_of(alloc, script)?;
-    assert_eq!(rt; found.as_str(), wanted, "at {script}");
-    Ok(())
-}
-
-fn check_nest(rt: &impl Abort, alloc: Global, nest: Nest) -> Result<(), Fail> {
+fn check_nest(rt: &impl Abort, alloc: Global, nest: &Nest) -> Result<(), Fail> {
     let deepest = script(alloc, nest, nest.most)?;
-    check(rt, alloc, deepest.as_str(), "ok")?;
+    check_script(rt, alloc, deepest.as_str(), "ok")?;
     let deeper = script(alloc, nest, nest.most.wrapping_add(1))?;
     let wanted = format!(in alloc; "106 TooDeep {}", nest.deep)?;
-    check(rt, alloc, deeper.as_str(), wanted.as_str())
+    check_script(rt, alloc, deeper.as_str(), wanted.as_str())
 }
 
+/// How a statement opens, its core, how it closes, how often it may be in itself, and where the first token that is too
+/// deep is.
+type Statement = (&'static str, &'static str, &'static str, usize, usize);
+
 /// Statements in a function, which begin at offset 11.
-fn statements(open: &'static str, core: &'static str, close: &'static str, deep: usize) -> Nest {
-    let most = if open == "{" { 64 } else { 63 };
+fn statements(row: &Statement) -> Nest {
+    let (open, core, close, most, deep) = *row;
     Nest {
         prefix: "void f() { ",
         open,
@@ -74,58 +69,90 @@ fn values(open: &'static str, close: &'static str, deep: usize) -> Nest {
     }
 }
 
+fn check_statements(rt: &impl Abort, alloc: Global, rows: &[Statement]) -> Result<(), Fail> {
+    for row in rows {
+        check_nest(rt, alloc, &statements(row))?;
+    }
+    Ok(())
+}
+
 #[test]
 fn statements_nest(rt: HostRuntime) -> Result<(), Fail> {
-    for nest in [
+    let rows = &[
         // the 65th block
-        statements("{", "", "}", 11 + 64),
+        ("{", "", "}", 64, 11 + 64),
         // the condition of the 64th
-        statements("if (a) ", ";", "", 11 + 63 * 7 + 4),
-        statements("while (a) ", ";", "", 11 + 63 * 10 + 7),
-        statements("if (a) ; else ", ";", "", 11 + 63 * 14 + 4),
-        statements("for (; a;) ", ";", "", 11 + 63 * 11 + 7),
-        statements("switch (a) { default: ", "", "}", 11 + 63 * 22 + 8),
+        ("if (a) ", ";", "", 63, 11 + 63 * 7 + 4),
+        ("while (a) ", ";", "", 63, 11 + 63 * 10 + 7),
+        ("if (a) ; else ", ";", "", 63, 11 + 63 * 14 + 4),
+        ("for (; a;) ", ";", "", 63, 11 + 63 * 11 + 7),
+        ("switch (a) { default: ", "", "}", 63, 11 + 63 * 22 + 8),
         // what is in the 64th
-        statements("for (;;) ", ";", "", 11 + 64 * 9),
-        statements("do ", ";", " while (a);", 11 + 64 * 3),
-        statements("switch (1) { case 1: ", ";", "}", 11 + 63 * 21 + 8),
+        ("for (;;) ", ";", "", 63, 11 + 64 * 9),
+        ("do ", ";", " while (a);", 63, 11 + 64 * 3),
+        ("switch (1) { case 1: ", ";", "}", 63, 11 + 63 * 21 + 8),
         // the first and the last part of the head of the 64th
-        statements("for (a;;) ", ";", "", 11 + 63 * 10 + 5),
-        statements("for (;; a) ", ";", "", 11 + 63 * 11 + 8),
-    ] {
-        check_nest(&rt, rt.alloc(), nest)?;
+        ("for (a;;) ", ";", "", 63, 11 + 63 * 10 + 5),
+        ("for (;; a) ", ";", "", 63, 11 + 63 * 11 + 8),
+    ];
+    check_statements(&rt, rt.alloc(), rows)
+}
+
+/// How a value opens and closes, and where the first token that is too deep is.
+type Value = (&'static str, &'static str, usize);
+
+fn check_values(rt: &impl Abort, alloc: Global, rows: &[Value]) -> Result<(), Fail> {
+    for (open, close, deep) in rows {
+        check_nest(rt, alloc, &values(open, close, *deep))?;
     }
     Ok(())
 }
 
 #[test]
 fn expressions_nest(rt: HostRuntime) -> Result<(), Fail> {
-    for nest in [
-        values("(", ")", 8 + 65),
-        values("!", "", 8 + 65),
-        values("~", "", 8 + 65),
-        values("@", "", 8 + 65),
-        values("++", "", 8 + 65 * 2),
-        values("- ", "", 8 + 65 * 2),
-        values("+ ", "", 8 + 65 * 2),
-        values("not ", "", 8 + 65 * 4),
+    let rows = &[
+        ("(", ")", 8 + 65),
+        ("!", "", 8 + 65),
+        ("~", "", 8 + 65),
+        ("@", "", 8 + 65),
+        ("++", "", 8 + 65 * 2),
+        ("- ", "", 8 + 65 * 2),
+        ("+ ", "", 8 + 65 * 2),
+        ("not ", "", 8 + 65 * 4),
         // right sides of assignments
-        values("a = ", "", 8 + 65 * 4),
-        values("a += ", "", 8 + 65 * 5),
-        values("a >>>= ", "", 8 + 65 * 7),
+        ("a = ", "", 8 + 65 * 4),
+        ("a += ", "", 8 + 65 * 5),
+        ("a >>>= ", "", 8 + 65 * 7),
         // the first branch, and the second, in the 65th the first branch as well
-        values("a ? ", " : a", 8 + 65 * 4),
-        values("a ? a : ", "", 8 + 64 * 8 + 4),
+        ("a ? ", " : a", 8 + 65 * 4),
+        ("a ? a : ", "", 8 + 64 * 8 + 4),
         // arguments
-        values("f(", ")", 8 + 65 * 2),
-        values("f(a, ", ")", 8 + 64 * 5 + 2),
-        values("f.g(", ")", 8 + 65 * 4),
-        values("int(", ")", 8 + 65 * 4),
+        ("f(", ")", 8 + 65 * 2),
+        ("f(a, ", ")", 8 + 64 * 5 + 2),
+        ("f.g(", ")", 8 + 65 * 4),
+        ("int(", ")", 8 + 65 * 4),
         // the operands of operators between two are no deeper
-        values("(a + ", ")", 8 + 64 * 5 + 1),
-        values("(a++ || ", ")", 8 + 64 * 8 + 1),
-    ] {
-        check_nest(&rt, rt.alloc(), nest)?;
+        ("(a + ", ")", 8 + 64 * 5 + 1),
+        ("(a++ || ", ")", 8 + 64 * 8 + 1),
+    ];
+    check_values(&rt, rt.alloc(), rows)
+}
+
+/// What is before brackets and after them, how many there may be, and where the first token that is too deep is.
+type Brackets = (&'static str, &'static str, usize, usize);
+
+fn check_brackets(rt: &impl Abort, alloc: Global, rows: &[Brackets]) -> Result<(), Fail> {
+    for (prefix, suffix, most, deep) in rows {
+        let nest = Nest {
+            prefix,
+            open: "(",
+            core: "1",
+            close: ")",
+            suffix,
+            most: *most,
+            deep: *deep,
+        };
+        check_nest(rt, alloc, &nest)?;
     }
     Ok(())
 }
@@ -133,7 +160,7 @@ fn expressions_nest(rt: HostRuntime) -> Result<(), Fail> {
 /// The value of a variable in a class, in a function, and in brackets of its own.
 #[test]
 fn declarations_do_not_count(rt: HostRuntime) -> Result<(), Fail> {
-    for (prefix, suffix, most, deep) in [
+    let rows = &[
         ("class A { int x = ", "; }", 64, 18 + 65),
         ("void f() { int x = ", "; }", 64, 19 + 65),
         ("void f() { for (int x = ", ";;) ; }", 63, 24 + 64),
@@ -142,17 +169,21 @@ fn declarations_do_not_count(rt: HostRuntime) -> Result<(), Fail> {
         ("Foo x(", ");", 63, 6 + 64),
         ("void f() { Foo x(", "); }", 63, 17 + 64),
         ("void f() { f(", "); }", 62, 13 + 63),
-    ] {
-        let nest = Nest {
-            prefix,
-            open: "(",
-            core: "1",
-            close: ")",
-            suffix,
-            most,
-            deep,
-        };
-        check_nest(&rt, rt.alloc(), nest)?;
+    ];
+    check_brackets(&rt, rt.alloc(), rows)
+}
+
+/// Each row has what is in so many blocks, one in the other, and how the script is parsed.
+fn check_in_blocks(
+    rt: &impl Abort,
+    alloc: Global,
+    times: usize,
+    rows: &[(&'static str, &str)],
+) -> Result<(), Fail> {
+    for (core, wanted) in rows {
+        let nest = statements(&("{", core, "}", times, 0));
+        let script = script(alloc, &nest, times)?;
+        check_script(rt, alloc, script.as_str(), wanted)?;
     }
     Ok(())
 }
@@ -161,7 +192,7 @@ fn declarations_do_not_count(rt: HostRuntime) -> Result<(), Fail> {
 /// declaration nor an expression goes on counts as an expression.
 #[test]
 fn in_the_deepest_block(rt: HostRuntime) -> Result<(), Fail> {
-    for (core, wanted) in [
+    let rows = &[
         ("", "ok"),
         ("int x;", "ok"),
         ("Foo x;", "ok"),
@@ -182,26 +213,14 @@ fn in_the_deepest_block(rt: HostRuntime) -> Result<(), Fail> {
         ("else", "104 Unexpected 75"),
         ("*", "104 Unexpected 75"),
         ("float", "105 Unsupported float 75"),
-    ] {
-        let nest = Nest {
-            prefix: "void f() { ",
-            open: "{",
-            core,
-            close: "}",
-            suffix: " }",
-            most: 64,
-            deep: 0,
-        };
-        let script = script(rt.alloc(), nest, 64)?;
-        check(&rt, rt.alloc(), script.as_str(), wanted)?;
-    }
-    Ok(())
+    ];
+    check_in_blocks(&rt, rt.alloc(), 64, rows)
 }
 
 /// What may be in the head of a `for` at depth 64: declarations, but no expression, and no statement after it.
 #[test]
 fn in_the_deepest_head(rt: HostRuntime) -> Result<(), Fail> {
-    for (core, wanted) in [
+    let rows = &[
         // the statement after the head
         ("for (int x;;) ;", "106 TooDeep 88"),
         ("for (;;) ;", "106 TooDeep 83"),
@@ -217,18 +236,6 @@ fn in_the_deepest_head(rt: HostRuntime) -> Result<(), Fail> {
         ("for (Foo x 1;;) ;", "104 Unexpected 85"),
         ("for (Foo@ 1;;) ;", "104 Unexpected 84"),
         ("for () ;", "104 Unexpected 79"),
-    ] {
-        let nest = Nest {
-            prefix: "void f() { ",
-            open: "{",
-            core,
-            close: "}",
-            suffix: " }",
-            most: 63,
-            deep: 0,
-        };
-        let script = script(rt.alloc(), nest, 63)?;
-        check(&rt, rt.alloc(), script.as_str(), wanted)?;
-    }
-    Ok(())
+    ];
+    check_in_blocks(&rt, rt.alloc(), 63, rows)
 }

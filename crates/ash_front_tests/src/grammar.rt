@@ -1,44 +1,92 @@
 //! Scripts and registered declarations: `ok`, or the first fault by the grammar.
 
-use ash_lex::lex;
+use crate::compare::check_text;
+use crate::tokens::printed_fault;
+use ash_lex::{Token, lex};
 use ash_parse::{
-    has_one_declaration, has_one_declaration_fault, has_one_fault, has_one_module,
+    ParseFault, has_one_declaration, has_one_declaration_fault, has_one_fault, has_one_module,
     parse_declaration, parse_module,
 };
-use std::alloc::Global;
+use ash_tree::Module;
+use std::alloc::{AllocError, Global};
+use std::process::Abort;
 use std::test::*;
 
+/// `ok`, or a fault as it is printed.
+pub(crate) fn printed(alloc: Global, fault: Option<&ParseFault>) -> Result<String, AllocError> {
+    match fault {
+        None => String::from_str(alloc, "ok"),
+        Some(fault) => format!(in alloc; "{fault}"),
+    }
+}
+
+/// The tree of a script's tokens.
+pub(crate) fn parsed(alloc: Global, tokens: &[Token]) -> Result<Module, ParseFault> {
+    parse_module(alloc, tokens)
+}
+
+/// The fault of a script's tokens.
+fn module_fault(alloc: Global, tokens: &[Token]) -> Option<ParseFault> {
+    has_one_module(tokens);
+    has_one_fault(tokens);
+    parsed(alloc, tokens).err()
+}
+
+/// The fault of a registered declaration's tokens.
+fn declaration_fault(alloc: Global, tokens: &[Token]) -> Option<ParseFault> {
+    has_one_declaration(tokens);
+    has_one_declaration_fault(tokens);
+    parse_declaration(alloc, tokens).err()
+}
+
 /// How a script is parsed: `ok`, or its fault.
-pub(crate) fn outcome_of(alloc: Global, source: &str) -> Result<String, Fail> {
-    let tokens = match lex(alloc, source) {
-        Ok(tokens) => tokens,
-        Err(fault) => return Ok(format!(in alloc; "{fault}")?),
-    };
-    has_one_module(tokens.as_slice());
-    has_one_fault(tokens.as_slice());
-    match parse_module(alloc, tokens.as_slice()) {
-        Ok(_) => Ok(String::from_str(alloc, "ok")?),
-        Err(fault) => Ok(format!(in alloc; "{fault}")?),
+fn outcome_of(alloc: Global, source: &str) -> Result<String, Fail> {
+    match lex(alloc, source) {
+        Ok(tokens) => Ok(printed(alloc, module_fault(alloc, tokens.as_slice()).as_ref())?),
+        Err(fault) => Ok(printed_fault(alloc, &fault)?),
     }
 }
 
 /// How a registered declaration is parsed: `ok`, or its fault.
 fn declaration_outcome_of(alloc: Global, source: &str) -> Result<String, Fail> {
-    let tokens = match lex(alloc, source) {
-        Ok(tokens) => tokens,
-        Err(fault) => return Ok(format!(in alloc; "{fault}")?),
-    };
-    has_one_declaration(tokens.as_slice());
-    has_one_declaration_fault(tokens.as_slice());
-    match parse_declaration(alloc, tokens.as_slice()) {
-        Ok(_) => Ok(String::from_str(alloc, "ok")?),
-        Err(fault) => Ok(format!(in alloc; "{fault}")?),
+    match lex(alloc, source) {
+        Ok(tokens) => Ok(printed(alloc, declaration_fault(alloc, tokens.as_slice()).as_ref())?),
+        Err(fault) => Ok(printed_fault(alloc, &fault)?),
     }
+}
+
+/// Compares how a script is parsed.
+pub(crate) fn check_script(
+    rt: &impl Abort,
+    alloc: Global,
+    source: &str,
+    wanted: &str,
+) -> Result<(), Fail> {
+    let found = outcome_of(alloc, source)?;
+    check_text(rt, found.as_str(), wanted, source);
+    Ok(())
+}
+
+/// Each row has a script, and how it is parsed.
+fn check_scripts(rt: &impl Abort, alloc: Global, rows: &[(&str, &str)]) -> Result<(), Fail> {
+    for (source, wanted) in rows {
+        check_script(rt, alloc, source, wanted)?;
+    }
+    Ok(())
+}
+
+/// Each row has a registered declaration, and how it is parsed.
+fn check_declarations(rt: &impl Abort, alloc: Global, rows: &[(&str, &str)]) -> Result<(), Fail> {
+    for (source, wanted) in rows {
+        let found = declaration_outcome_of(alloc, source)?;
+        check_text(rt, found.as_str(), wanted, source);
+    }
+    Ok(())
 }
 
 #[test]
 fn reports_the_first_fault(rt: HostRuntime) -> Result<(), Fail> {
-    for (source, wanted) in [
+    let rows = &[
         ("int f( {", "104 Unexpected 7"),
         ("float x;", "105 Unsupported float 0"),
         ("class A : I { }", "105 Unsupported interface 8"),
@@ -62,16 +110,13 @@ fn reports_the_first_fault(rt: HostRuntime) -> Result<(), Fail> {
         ("void f() { do ; while (a) }", "104 Unexpected 26"),
         ("interface I { }", "105 Unsupported interface 0"),
         ("void f() { x = cast<A>(b); }", "105 Unsupported cast 15"),
-    ] {
-        let found = outcome_of(rt.alloc(), source)?;
-        assert_eq!(rt; found.as_str(), wanted, "{source}");
-    }
-    Ok(())
+    ];
+    check_scripts(&rt, rt.alloc(), rows)
 }
 
 #[test]
 fn chooses_between_declaration_and_expression(rt: HostRuntime) -> Result<(), Fail> {
-    for (source, wanted) in [
+    let rows = &[
         ("Foo x;", "ok"),
         ("Foo@ x;", "ok"),
         ("Foo x(1);", "ok"),
@@ -105,16 +150,13 @@ fn chooses_between_declaration_and_expression(rt: HostRuntime) -> Result<(), Fai
             "int a = (b + c) * int64(d) >>> 1 ^^ e is null and not f;",
             "ok",
         ),
-    ] {
-        let found = outcome_of(rt.alloc(), source)?;
-        assert_eq!(rt; found.as_str(), wanted, "{source}");
-    }
-    Ok(())
+    ];
+    check_scripts(&rt, rt.alloc(), rows)
 }
 
 #[test]
 fn reads_declarations(rt: HostRuntime) -> Result<(), Fail> {
-    for (source, wanted) in [
+    let rows = &[
         ("int add(int)", "ok"),
         ("int add(int a, Foo@ b, bool)", "ok"),
         ("void fail()", "ok"),
@@ -125,9 +167,6 @@ fn reads_declarations(rt: HostRuntime) -> Result<(), Fail> {
         ("void x", "104 Unexpected 6"),
         ("int if(int)", "104 Unexpected 4"),
         ("double d", "105 Unsupported double 0"),
-    ] {
-        let found = declaration_outcome_of(rt.alloc(), source)?;
-        assert_eq!(rt; found.as_str(), wanted, "{source}");
-    }
-    Ok(())
+    ];
+    check_declarations(&rt, rt.alloc(), rows)
 }

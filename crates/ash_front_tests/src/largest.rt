@@ -1,7 +1,9 @@
 //! Sources of 65,536 bytes: their trees are shallow, so that comparing and dropping one takes little stack.
 
-use ash_lex::{MAX_SOURCE, lex};
-use ash_parse::parse_module;
+use crate::compare::{check_number, check_text, check_true};
+use crate::grammar::{parsed, printed};
+use crate::tokens::push_times;
+use ash_lex::{MAX_SOURCE, Token, lex};
 use std::alloc::Global;
 use std::process::Abort;
 use std::test::*;
@@ -13,32 +15,44 @@ fn largest(alloc: Global, prefix: &str, phrase: &str, suffix: &str) -> Result<St
         .wrapping_sub(prefix.len())
         .wrapping_sub(suffix.len());
     let times = free.checked_div(phrase.len()).unwrap_or(0);
-    for _ in 0..times {
-        source.push_str(phrase)?;
-    }
+    push_times(&mut source, phrase, times)?;
     source.push_str(suffix)?;
-    for _ in source.len()..MAX_SOURCE {
-        source.push_str(" ")?;
-    }
+    let blanks = MAX_SOURCE.saturating_sub(source.len());
+    push_times(&mut source, " ", blanks)?;
     Ok(source)
 }
 
-/// Compares two trees of a source with this phrase.
-fn check(rt: &impl Abort, alloc: Global, source: &str, phrase: &str) -> Result<(), Fail> {
-    assert_eq!(rt; source.len(), 65_536, "{phrase}");
-    let Ok(tokens) = lex(alloc, source) else {
-        return Ok(assert!(rt; false, "{phrase}: no tokens"));
-    };
-    let first = parse_module(alloc, tokens.as_slice());
-    let second = parse_module(alloc, tokens.as_slice());
-    assert_eq!(rt; first.as_ref().err(), None, "{phrase}");
-    assert!(rt; first == second, "{phrase}: two trees");
+/// Compares two trees of these tokens.
+fn check_trees(rt: &impl Abort, alloc: Global, tokens: &[Token], row: &str) -> Result<(), Fail> {
+    let first = parsed(alloc, tokens);
+    let second = parsed(alloc, tokens);
+    let fault = printed(alloc, first.as_ref().err())?;
+    check_text(rt, fault.as_str(), "ok", row);
+    check_true(rt, first == second, row);
+    Ok(())
+}
+
+/// Compares two trees of a source.
+fn check(rt: &impl Abort, alloc: Global, source: &str, row: &str) -> Result<(), Fail> {
+    check_number(rt, source.len(), 65_536, row);
+    let tokens = lex(alloc, source);
+    check_true(rt, tokens.is_ok(), row);
+    check_trees(rt, alloc, tokens?.as_slice(), row)
+}
+
+/// Each row has what a source begins with, a phrase, and what it ends with.
+fn check_rows(rt: &impl Abort, alloc: Global, rows: &[(&str, &str, &str)]) -> Result<(), Fail> {
+    for (prefix, phrase, suffix) in rows {
+        let source = largest(alloc, prefix, phrase, suffix)?;
+        let row = format!(in alloc; "{prefix} {phrase} {suffix}")?;
+        check(rt, alloc, source.as_str(), row.as_str())?;
+    }
     Ok(())
 }
 
 #[test]
 fn largest_sources(rt: HostRuntime) -> Result<(), Fail> {
-    for (prefix, phrase, suffix) in [
+    let rows = &[
         ("", " ", ""),
         ("", ";", ""),
         ("", "int a;", ""),
@@ -53,10 +67,6 @@ fn largest_sources(rt: HostRuntime) -> Result<(), Fail> {
         ("void f() { switch (a) {", " case 1: ;", "} }"),
         ("class A {", "A() {}", "}"),
         ("void f(int a", ", int a", ") {}"),
-    ] {
-        let source = largest(rt.alloc(), prefix, phrase, suffix)?;
-        let row = format!(in rt.alloc(); "{prefix} {phrase} {suffix}")?;
-        check(&rt, rt.alloc(), source.as_str(), row.as_str())?;
-    }
-    Ok(())
+    ];
+    check_rows(&rt, rt.alloc(), rows)
 }

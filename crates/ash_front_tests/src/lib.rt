@@ -9,6 +9,8 @@
 #[cfg(test)]
 mod checking;
 #[cfg(test)]
+mod compare;
+#[cfg(test)]
 mod depth;
 #[cfg(test)]
 mod grammar;

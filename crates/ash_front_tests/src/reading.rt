@@ -1,6 +1,7 @@
 //! Sources, and what reading refuses them for.
 
-use crate::sources::{bracketed, check_reading, parts_of, with_blanks};
+use crate::compare::check_true;
+use crate::sources::{bracketed, check_reading, check_readings, parts_of, with_blanks};
 use ash_meaning::reading::module_read;
 use ash_registry::Registry;
 use std::alloc::Global;
@@ -37,18 +38,16 @@ fn refused_for_length(rt: HostRuntime) -> Result<(), Fail> {
 #[test]
 fn refused_for_bytes(rt: HostRuntime) -> Result<(), Fail> {
     // A lexical fault comes before bytes after it that are no text.
-    for (source, wanted) in [
-        (b"int \"".as_slice(), "BadCharacter { at: 4 }"),
+    let rows: &[(&[u8], &str)] = &[
+        (b"int \"", "BadCharacter { at: 4 }"),
         (b"int a\xff;", "BadCharacter { at: 5 }"),
         (b"\" \xff", "BadCharacter { at: 2 }"),
         (b"// \xe2\x82", "BadCharacter { at: 3 }"),
         (b"int \xc3\xa4;", "BadCharacter { at: 4 }"),
         (b" \xef\xbb\xbf", "BadCharacter { at: 1 }"),
         (b"int f( { \"", "BadCharacter { at: 9 }"),
-    ] {
-        check_reading(&rt, rt.alloc(), source, wanted)?;
-    }
-    Ok(())
+    ];
+    check_readings(&rt, rt.alloc(), rows)
 }
 
 #[test]
@@ -100,37 +99,49 @@ fn refused_for_what_the_profile_does_not_have(rt: HostRuntime) -> Result<(), Fai
     )
 }
 
-#[test]
-fn refused_for_depth(rt: HostRuntime) -> Result<(), Fail> {
-    for (count, wanted) in [
-        (16, "ok"),
-        (17, "NotYet"),
-        (63, "NotYet"),
-        (64, "TooDeep { at: 81 }"),
-    ] {
-        let source = bracketed(rt.alloc(), b"int f() { return ", count, b"; }")?;
-        check_reading(&rt, rt.alloc(), &source, wanted)?;
+/// Each row has how many brackets a source has, and how reading it ends.
+fn check_brackets(rt: &impl Abort, alloc: Global, rows: &[(usize, &str)]) -> Result<(), Fail> {
+    for (count, wanted) in rows {
+        let source = bracketed(alloc, b"int f() { return ", *count, b"; }")?;
+        check_reading(rt, alloc, &source, wanted)?;
     }
     Ok(())
 }
 
 #[test]
+fn refused_for_depth(rt: HostRuntime) -> Result<(), Fail> {
+    let rows = &[
+        (16, "ok"),
+        (17, "NotYet"),
+        (63, "NotYet"),
+        (64, "TooDeep { at: 81 }"),
+    ];
+    check_brackets(&rt, rt.alloc(), rows)
+}
+
+#[test]
 fn read_what_can_be_run(rt: HostRuntime) -> Result<(), Fail> {
-    for source in [
-        b"".as_slice(),
-        b"\xef\xbb\xbf",
-        b" \t\r\n",
-        b";;",
-        b"int n = 2; int f(int k) { n += k; return n; }",
-        b"int n = 2147483647;",
-        b"int n = 00000000000002147483647;",
-        b"int n = 0x7fffffff; // the greatest\n",
-        b"/* none */ int n; /* more */",
-        b"int integer; int returns; int _; int in_; int f(int a, int b) { a=1; a+=0+1; return b; }",
-    ] {
-        check_reading(&rt, rt.alloc(), source, "ok")?;
-    }
-    Ok(())
+    let rows: &[(&[u8], &str)] = &[
+        (b"", "ok"),
+        (b"\xef\xbb\xbf", "ok"),
+        (b" \t\r\n", "ok"),
+        (b";;", "ok"),
+        (b"int n = 2; int f(int k) { n += k; return n; }", "ok"),
+        (b"int n = 2147483647;", "ok"),
+        (b"int n = 00000000000002147483647;", "ok"),
+        (b"int n = 0x7fffffff; // the greatest\n", "ok"),
+        (b"/* none */ int n; /* more */", "ok"),
+        (
+            b"int integer; int returns; int _; int in_; int f(int a, int b) { a=1; a+=0+1; return b; }",
+            "ok",
+        ),
+    ];
+    check_readings(&rt, rt.alloc(), rows)
+}
+
+/// Whether a source is a module that can be run.
+fn is_module(alloc: Global, source: &[u8]) -> Result<bool, Fail> {
+    Ok(module_read(alloc, &Registry::new(alloc), source)?.is_some())
 }
 
 #[test]
@@ -149,8 +160,7 @@ fn not_yet_what_cannot_be_run(rt: HostRuntime) -> Result<(), Fail> {
         NotYet | int n = -1;
         ",
     )?;
-    let registry = Registry::new(alloc);
-    assert!(rt; module_read(alloc, &registry, b"class A { }")?.is_none());
-    assert!(rt; module_read(alloc, &registry, b"int n;")?.is_some());
+    check_true(&rt, !is_module(alloc, b"class A { }")?, "class A { }");
+    check_true(&rt, is_module(alloc, b"int n;")?, "int n;");
     Ok(())
 }

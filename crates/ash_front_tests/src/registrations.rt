@@ -1,7 +1,9 @@
 //! The registrations of the program, and those that are refused, each of which changes nothing.
 
+use crate::compare::{check_text, check_true};
 use ash_registry::{Registry, RegistryFault};
 use std::alloc::{AllocError, Global};
+use std::process::Abort;
 use std::test::Fail;
 
 /// `Counter` and `Tally`, as the program registers them.
@@ -22,47 +24,150 @@ pub(crate) fn program(alloc: Global) -> Result<Registry, RegistryFault> {
 const PROGRAM: &str =
     "type Counter 1\nfactory Counter (int)\nmethod Counter 1 int add(int)\nmethod Counter 2 void fail(int)\nproperty Counter 1 int value\nservice 2\nfunction 0 1 int tally(int)\nfunction 0 2 int total()\n";
 
+/// How many of these names are registered.
+fn count_named(registry: &Registry, names: &[&str]) -> usize {
+    let mut count = 0usize;
+    for name in names {
+        if registry.named(name).is_some() {
+            count = count.wrapping_add(1);
+        }
+    }
+    count
+}
+
+/// How many of these names are members of `Counter`.
+fn count_members(registry: &Registry, names: &[&str]) -> usize {
+    let mut count = 0usize;
+    for name in names {
+        if registry.member("Counter", name).is_some() {
+            count = count.wrapping_add(1);
+        }
+    }
+    count
+}
+
+/// Whether the kinds of services are these.
+fn has_kinds(registry: &Registry, kinds: &[u16]) -> Result<bool, AllocError> {
+    Ok(registry.service_kinds()?.as_slice() == kinds)
+}
+
+fn has_factory(registry: &Registry, of: &str) -> bool {
+    registry.factory_of(of).is_some()
+}
+
 /// Whether the text and the look-ups are those of the program's registrations.
 fn is_unchanged(registry: &Registry) -> Result<bool, AllocError> {
-    let kinds = registry.service_kinds()?;
-    let found = ["Counter", "tally", "total"]
-        .iter()
-        .all(|name| registry.named(name).is_some());
-    let none = ["X", "g", "int", "add", "value", "Other"]
-        .iter()
-        .any(|name| registry.named(name).is_some());
-    let members = ["add", "fail", "value"]
-        .iter()
-        .all(|name| registry.member("Counter", name).is_some());
-    let others = ["g", "if", "other", "tally", "f", "c"]
-        .iter()
-        .any(|name| registry.member("Counter", name).is_some());
-    Ok(
-        registry.text() == PROGRAM
-            && found
-            && !none
-            && members
-            && !others
-            && registry.factory_of("Counter").is_some()
-            && registry.factory_of("X").is_none()
-            && kinds.as_slice() == [2u16].as_slice(),
-    )
+    let is_text = registry.text() == PROGRAM;
+    let found = count_named(registry, &["Counter", "tally", "total"]);
+    let others = count_named(registry, &["X", "g", "int", "add", "value", "Other"]);
+    let members = count_members(registry, &["add", "fail", "value"]);
+    let no_members = count_members(registry, &["g", "if", "other", "tally", "f", "c"]);
+    let is_made = has_factory(registry, "Counter") && !has_factory(registry, "X");
+    let has_names = found == 3 && others == 0 && members == 3 && no_members == 0;
+    Ok(is_text && has_names && is_made && has_kinds(registry, &[2])?)
+}
+
+/// A registration with this fault, which changed nothing.
+fn check_refused(
+    rt: &impl Abort,
+    registry: &Registry,
+    fault: Option<RegistryFault>,
+    wanted: &RegistryFault,
+    row: &str,
+) -> Result<(), Fail> {
+    assert_eq!(rt; fault.as_ref(), Some(wanted), "{row}");
+    assert!(rt; is_unchanged(registry)?, "changed by {row}");
+    Ok(())
 }
 
 #[test]
 fn the_program_registers(rt: HostRuntime) -> Result<(), Fail> {
     let registry = program(rt.alloc())?;
-    assert_eq!(rt; registry.text(), PROGRAM);
-    assert!(rt; is_unchanged(&registry)?);
-    assert!(rt; registry.of_kind(2).is_some());
-    assert!(rt; registry.of_kind(77).is_none());
+    check_text(&rt, registry.text(), PROGRAM, "the program");
+    check_true(&rt, is_unchanged(&registry)?, "the look-ups");
+    check_true(&rt, registry.of_kind(2).is_some(), "kind 2");
+    check_true(&rt, registry.of_kind(77).is_none(), "no kind 77");
+    Ok(())
+}
+
+/// The fault of a type's registration.
+fn type_fault(registry: &mut Registry, name: &str, kind: u16) -> Option<RegistryFault> {
+    registry.object_type(name, kind).err()
+}
+
+/// The fault of a service's registration.
+pub(crate) fn service_fault(registry: &mut Registry, kind: u16) -> Option<RegistryFault> {
+    registry.service(kind).err()
+}
+
+/// The fault of a method's registration.
+pub(crate) fn method_fault(
+    registry: &mut Registry,
+    of: &str,
+    decl: &str,
+    id: u16,
+) -> Option<RegistryFault> {
+    registry.method(of, decl, id).err()
+}
+
+/// The fault of a property's registration.
+pub(crate) fn property_fault(
+    registry: &mut Registry,
+    of: &str,
+    decl: &str,
+    id: u16,
+) -> Option<RegistryFault> {
+    registry.property(of, decl, id).err()
+}
+
+/// The fault of a factory's registration.
+fn factory_fault(registry: &mut Registry, of: &str, decl: &str) -> Option<RegistryFault> {
+    registry.factory(of, decl).err()
+}
+
+/// The fault of a function's registration.
+fn function_fault(
+    registry: &mut Registry,
+    service: u16,
+    decl: &str,
+    id: u16,
+) -> Option<RegistryFault> {
+    registry.function(service, decl, id).err()
+}
+
+/// Each row has a type's name, its kind and its fault.
+fn check_types(
+    rt: &impl Abort,
+    alloc: Global,
+    rows: &[(&str, u16, RegistryFault)],
+) -> Result<(), Fail> {
+    let mut registry = program(alloc)?;
+    for (name, kind, wanted) in rows {
+        let fault = type_fault(&mut registry, name, *kind);
+        let row = format!(in alloc; "{name} {kind}")?;
+        check_refused(rt, &registry, fault, wanted, row.as_str())?;
+    }
+    Ok(())
+}
+
+/// Each row has a service's kind and its fault.
+fn check_services(
+    rt: &impl Abort,
+    alloc: Global,
+    rows: &[(u16, RegistryFault)],
+) -> Result<(), Fail> {
+    let mut registry = program(alloc)?;
+    for (kind, wanted) in rows {
+        let fault = service_fault(&mut registry, *kind);
+        let row = format!(in alloc; "service {kind}")?;
+        check_refused(rt, &registry, fault, wanted, row.as_str())?;
+    }
     Ok(())
 }
 
 #[test]
 fn refused_types_and_services_change_nothing(rt: HostRuntime) -> Result<(), Fail> {
-    let mut registry = program(rt.alloc())?;
-    for (name, kind, fault) in [
+    let types = &[
         ("Counter", 3, RegistryFault::NameTaken),
         ("tally", 3, RegistryFault::NameTaken),
         ("X", 1, RegistryFault::NameTaken),
@@ -78,26 +183,66 @@ fn refused_types_and_services_change_nothing(rt: HostRuntime) -> Result<(), Fail
         ("X/**/", 3, RegistryFault::BadDeclaration),
         ("X@", 3, RegistryFault::BadDeclaration),
         ("\"", 3, RegistryFault::BadDeclaration),
-    ] {
-        assert_eq!(rt;
-            registry.object_type(name, kind),
-            Err(fault),
-            "{name} {kind}"
-        );
-        assert!(rt; is_unchanged(&registry)?, "changed by {name} {kind}");
+    ];
+    check_types(&rt, rt.alloc(), types)?;
+    let services = &[(1, RegistryFault::NameTaken), (2, RegistryFault::NameTaken)];
+    check_services(&rt, rt.alloc(), services)
+}
+
+/// A type or the place of a service, a declaration, a number and a fault.
+type Row<'a, T> = (T, &'a str, u16, RegistryFault);
+
+/// Each row has a method's type, its declaration, its number and its fault.
+fn check_methods(rt: &impl Abort, alloc: Global, rows: &[Row<&str>]) -> Result<(), Fail> {
+    let mut registry = program(alloc)?;
+    for (of, decl, id, wanted) in rows {
+        let fault = method_fault(&mut registry, of, decl, *id);
+        let row = format!(in alloc; "{of} {decl} {id}")?;
+        check_refused(rt, &registry, fault, wanted, row.as_str())?;
     }
-    for kind in [1, 2] {
-        let refused = registry.service(kind);
-        assert_eq!(rt; refused, Err(RegistryFault::NameTaken), "service {kind}");
-        assert!(rt; is_unchanged(&registry)?, "changed by service {kind}");
+    Ok(())
+}
+
+/// Each row has a property's type, its declaration, its number and its fault.
+fn check_properties(rt: &impl Abort, alloc: Global, rows: &[Row<&str>]) -> Result<(), Fail> {
+    let mut registry = program(alloc)?;
+    for (of, decl, id, wanted) in rows {
+        let fault = property_fault(&mut registry, of, decl, *id);
+        let row = format!(in alloc; "{of} {decl} {id}")?;
+        check_refused(rt, &registry, fault, wanted, row.as_str())?;
+    }
+    Ok(())
+}
+
+/// Each row has a factory's type, its declaration and its fault.
+fn check_factories(
+    rt: &impl Abort,
+    alloc: Global,
+    rows: &[(&str, &str, RegistryFault)],
+) -> Result<(), Fail> {
+    let mut registry = program(alloc)?;
+    for (of, decl, wanted) in rows {
+        let fault = factory_fault(&mut registry, of, decl);
+        let row = format!(in alloc; "{of} {decl}")?;
+        check_refused(rt, &registry, fault, wanted, row.as_str())?;
+    }
+    Ok(())
+}
+
+/// Each row has the place of a function's service, its declaration, its number and its fault.
+fn check_functions(rt: &impl Abort, alloc: Global, rows: &[Row<u16>]) -> Result<(), Fail> {
+    let mut registry = program(alloc)?;
+    for (service, decl, id, wanted) in rows {
+        let fault = function_fault(&mut registry, *service, decl, *id);
+        let row = format!(in alloc; "{service} {decl} {id}")?;
+        check_refused(rt, &registry, fault, wanted, row.as_str())?;
     }
     Ok(())
 }
 
 #[test]
 fn refused_methods_change_nothing(rt: HostRuntime) -> Result<(), Fail> {
-    let mut registry = program(rt.alloc())?;
-    for (of, decl, id, fault) in [
+    let rows = &[
         ("Nope", "int g(int)", 3, RegistryFault::UnknownType),
         ("Nope", "int g(", 3, RegistryFault::UnknownType),
         ("tally", "int g(int)", 3, RegistryFault::UnknownType),
@@ -139,21 +284,13 @@ fn refused_methods_change_nothing(rt: HostRuntime) -> Result<(), Fail> {
         ("Counter", "int add(int)", 3, RegistryFault::NameTaken),
         ("Counter", "bool value()", 3, RegistryFault::NameTaken),
         ("Counter", "int g(int)", 1, RegistryFault::NameTaken),
-    ] {
-        assert_eq!(rt;
-            registry.method(of, decl, id),
-            Err(fault),
-            "{of} {decl} {id}"
-        );
-        assert!(rt; is_unchanged(&registry)?, "changed by {of} {decl} {id}");
-    }
-    Ok(())
+    ];
+    check_methods(&rt, rt.alloc(), rows)
 }
 
 #[test]
 fn refused_properties_and_factories_change_nothing(rt: HostRuntime) -> Result<(), Fail> {
-    let mut registry = program(rt.alloc())?;
-    for (of, decl, id, fault) in [
+    let rows = &[
         ("Nope", "int other", 3, RegistryFault::UnknownType),
         ("Counter", "int g()", 3, RegistryFault::BadDeclaration),
         ("Counter", "void other", 3, RegistryFault::BadDeclaration),
@@ -165,15 +302,9 @@ fn refused_properties_and_factories_change_nothing(rt: HostRuntime) -> Result<()
         ("Counter", "Counter value", 1, RegistryFault::NotPrimitive),
         ("Counter", "int fail", 3, RegistryFault::NameTaken),
         ("Counter", "int other", 1, RegistryFault::NameTaken),
-    ] {
-        assert_eq!(rt;
-            registry.property(of, decl, id),
-            Err(fault),
-            "{of} {decl} {id}"
-        );
-        assert!(rt; is_unchanged(&registry)?, "changed by {of} {decl} {id}");
-    }
-    for (of, decl, fault) in [
+    ];
+    check_properties(&rt, rt.alloc(), rows)?;
+    let factories = &[
         ("Nope", "Nope@ c(int)", RegistryFault::UnknownType),
         ("Counter", "Counter@ c(", RegistryFault::BadDeclaration),
         ("Counter", "Counter c(int)", RegistryFault::BadDeclaration),
@@ -188,17 +319,13 @@ fn refused_properties_and_factories_change_nothing(rt: HostRuntime) -> Result<()
             RegistryFault::NotPrimitive,
         ),
         ("Counter", "Counter@ c(int)", RegistryFault::FactoryTaken),
-    ] {
-        assert_eq!(rt; registry.factory(of, decl), Err(fault), "{of} {decl}");
-        assert!(rt; is_unchanged(&registry)?, "changed by {of} {decl}");
-    }
-    Ok(())
+    ];
+    check_factories(&rt, rt.alloc(), factories)
 }
 
 #[test]
 fn refused_functions_change_nothing(rt: HostRuntime) -> Result<(), Fail> {
-    let mut registry = program(rt.alloc())?;
-    for (service, decl, id, fault) in [
+    let rows = &[
         (1, "int g()", 1, RegistryFault::NoService),
         (1, "int g(", 1, RegistryFault::NoService),
         (0, "int g(", 3, RegistryFault::BadDeclaration),
@@ -208,27 +335,27 @@ fn refused_functions_change_nothing(rt: HostRuntime) -> Result<(), Fail> {
         (0, "int tally(int)", 3, RegistryFault::NameTaken),
         (0, "int Counter(int)", 3, RegistryFault::NameTaken),
         (0, "int g()", 1, RegistryFault::NameTaken),
-    ] {
-        let refused = registry.function(service, decl, id);
-        assert_eq!(rt; refused, Err(fault), "{service} {decl} {id}");
-        assert!(rt;
-            is_unchanged(&registry)?,
-            "changed by {service} {decl} {id}"
-        );
-    }
-    Ok(())
+    ];
+    check_functions(&rt, rt.alloc(), rows)
+}
+
+/// The program's registrations, a method and a property.
+fn with_names_of_parameters(alloc: Global) -> Result<Registry, RegistryFault> {
+    let mut registry = program(alloc)?;
+    registry.method("Counter", "uint32 sum(int32 a, bool b, uint64)", 3)?;
+    registry.property("Counter", " int64 /* the */ total ", 3)?;
+    Ok(registry)
 }
 
 #[test]
 fn names_of_parameters_are_left_out(rt: HostRuntime) -> Result<(), Fail> {
-    let mut registry = program(rt.alloc())?;
-    registry.method("Counter", "uint32 sum(int32 a, bool b, uint64)", 3)?;
-    registry.property("Counter", " int64 /* the */ total ", 3)?;
-    let text = registry.text();
-    let added = &text.strip_prefix(PROGRAM).ok_or("changed")?;
-    assert_eq!(rt;
-        *added,
-        "method Counter 3 uint sum(int,bool,uint64)\nproperty Counter 3 int64 total\n"
+    let registry = with_names_of_parameters(rt.alloc())?;
+    let added = registry.text().strip_prefix(PROGRAM).unwrap_or("changed");
+    check_text(
+        &rt,
+        added,
+        "method Counter 3 uint sum(int,bool,uint64)\nproperty Counter 3 int64 total\n",
+        "what was added",
     );
     Ok(())
 }

@@ -1,76 +1,114 @@
 //! The limits of a registry: how many services, types, members and functions, and the length of its text.
 
-use crate::registrations::program;
+use crate::compare::{check_number, check_text, check_true};
+use crate::registrations::{method_fault, program, property_fault, service_fault};
+use crate::tokens::push_times;
 use ash_registry::{Registry, RegistryFault};
-use std::alloc::Global;
+use std::alloc::{AllocError, Global};
+use std::process::Abort;
 use std::test::Fail;
+
+/// Compares how a registration ended, and the text after it.
+fn check_limit(
+    rt: &impl Abort,
+    registry: &Registry,
+    fault: Option<RegistryFault>,
+    before: &str,
+    row: &str,
+) {
+    check_fault(rt, fault, RegistryFault::TooMany, row);
+    check_text(rt, registry.text(), before, row);
+}
+
+/// Compares a registration's fault.
+fn check_fault(rt: &impl Abort, fault: Option<RegistryFault>, wanted: RegistryFault, row: &str) {
+    assert_eq!(rt; fault, Some(wanted), "{row}");
+}
+
+/// Registers a service of each of these kinds, from the place 1 on.
+fn add_services(rt: &impl Abort, registry: &mut Registry) {
+    for kind in 3u16..18 {
+        let place = registry.service(kind).unwrap_or(0);
+        check_number(rt, place, (kind as usize).wrapping_sub(2), "a service");
+    }
+}
 
 #[test]
 fn one_service_too_many(rt: HostRuntime) -> Result<(), Fail> {
     let mut registry = program(rt.alloc())?;
-    for kind in 3..18 {
-        assert_eq!(rt;
-            registry.service(kind),
-            Ok(kind as usize - 2),
-            "service {kind}"
-        );
-    }
+    add_services(&rt, &mut registry);
     let before = registry.text().to_string(rt.alloc())?;
-    assert_eq!(rt; registry.service(18), Err(RegistryFault::TooMany));
-    assert_eq!(rt; registry.text(), before.as_str());
-    assert_eq!(rt; registry.service_kinds()?.len(), 16);
+    let fault = service_fault(&mut registry, 18);
+    check_limit(&rt, &registry, fault, before.as_str(), "service 18");
+    check_number(&rt, registry.service_kinds()?.len(), 16, "services");
     Ok(())
+}
+
+/// Registers the type of a kind.
+fn add_type(alloc: Global, registry: &mut Registry, kind: u16) -> Result<(), RegistryFault> {
+    let name = format!(in alloc; "T{kind}")?;
+    registry.object_type(name.as_str(), kind)
+}
+
+/// Looks for one name that is registered, and one that is not.
+fn check_names(rt: &impl Abort, registry: &Registry, last: &str, none: &str) {
+    check_true(rt, registry.named(last).is_some(), last);
+    check_true(rt, registry.named(none).is_none(), none);
 }
 
 #[test]
 fn one_type_too_many(rt: HostRuntime) -> Result<(), Fail> {
-    let alloc = rt.alloc();
-    let mut registry = program(alloc)?;
+    let mut registry = program(rt.alloc())?;
     for kind in 3u16..258 {
-        registry.object_type(format!(in alloc; "T{kind}")?.as_str(), kind)?;
+        add_type(rt.alloc(), &mut registry, kind)?;
     }
-    let before = registry.text().to_string(alloc)?;
-    let refused = registry.object_type("T258", 258);
-    assert_eq!(rt; refused, Err(RegistryFault::TooMany));
-    assert_eq!(rt; registry.text(), before.as_str());
-    assert!(rt; registry.named("T257").is_some());
-    assert!(rt; registry.named("T258").is_none());
+    let before = registry.text().to_string(rt.alloc())?;
+    let fault = add_type(rt.alloc(), &mut registry, 258).err();
+    check_limit(&rt, &registry, fault, before.as_str(), "type T258");
+    check_names(&rt, &registry, "T257", "T258");
     Ok(())
+}
+
+/// Registers the method of a number.
+fn add_method(alloc: Global, registry: &mut Registry, id: u16) -> Result<(), RegistryFault> {
+    let decl = format!(in alloc; "void m{id}()")?;
+    registry.method("Counter", decl.as_str(), id)
 }
 
 #[test]
 fn one_member_too_many(rt: HostRuntime) -> Result<(), Fail> {
-    let alloc = rt.alloc();
-    let mut registry = program(alloc)?;
+    let mut registry = program(rt.alloc())?;
     for id in 3u16..32 {
-        let decl = format!(in alloc; "void m{id}()")?;
-        registry.method("Counter", decl.as_str(), id)?;
+        add_method(rt.alloc(), &mut registry, id)?;
     }
-    let before = registry.text().to_string(alloc)?;
-    let refused = registry.method("Counter", "void m32()", 32);
-    assert_eq!(rt; refused, Err(RegistryFault::TooMany));
-    let refused = registry.property("Counter", "int p", 2);
-    assert_eq!(rt; refused, Err(RegistryFault::TooMany));
-    assert_eq!(rt; registry.text(), before.as_str());
-    assert!(rt; registry.member("Counter", "m31").is_some());
-    assert!(rt; registry.member("Counter", "m32").is_none());
+    let before = registry.text().to_string(rt.alloc())?;
+    let fault = add_method(rt.alloc(), &mut registry, 32).err();
+    check_limit(&rt, &registry, fault, before.as_str(), "method m32");
+    let fault = property_fault(&mut registry, "Counter", "int p", 2);
+    check_limit(&rt, &registry, fault, before.as_str(), "property p");
+    let is_last = registry.member("Counter", "m31").is_some();
+    check_true(&rt, is_last, "member m31");
+    let is_none = registry.member("Counter", "m32").is_none();
+    check_true(&rt, is_none, "no member m32");
     Ok(())
+}
+
+/// Registers the function of a number.
+fn add_function(alloc: Global, registry: &mut Registry, id: u16) -> Result<(), RegistryFault> {
+    let decl = format!(in alloc; "void f{id}()")?;
+    registry.function(0, decl.as_str(), id)
 }
 
 #[test]
 fn one_function_too_many(rt: HostRuntime) -> Result<(), Fail> {
-    let alloc = rt.alloc();
-    let mut registry = program(alloc)?;
+    let mut registry = program(rt.alloc())?;
     for id in 3u16..257 {
-        let decl = format!(in alloc; "void f{id}()")?;
-        registry.function(0, decl.as_str(), id)?;
+        add_function(rt.alloc(), &mut registry, id)?;
     }
-    let before = registry.text().to_string(alloc)?;
-    let refused = registry.function(0, "void f257()", 257);
-    assert_eq!(rt; refused, Err(RegistryFault::TooMany));
-    assert_eq!(rt; registry.text(), before.as_str());
-    assert!(rt; registry.named("f256").is_some());
-    assert!(rt; registry.named("f257").is_none());
+    let before = registry.text().to_string(rt.alloc())?;
+    let fault = add_function(rt.alloc(), &mut registry, 257).err();
+    check_limit(&rt, &registry, fault, before.as_str(), "function f257");
+    check_names(&rt, &registry, "f256", "f257");
     Ok(())
 }
 
@@ -82,10 +120,16 @@ fn long_type(
     len: usize,
 ) -> Result<(), RegistryFault> {
     let mut name = format!(in alloc; "T{kind}_")?;
-    for _ in name.len()..len.min(60_000) {
-        name.push_str("x")?;
-    }
+    let free = len.min(60_000).saturating_sub(name.len());
+    push_times(&mut name, "x", free)?;
     registry.object_type(name.as_str(), kind)
+}
+
+/// How long a name may be.
+fn free_bytes(registry: &Registry) -> usize {
+    1_048_576usize
+        .saturating_sub(registry.text().len())
+        .saturating_sub("type  117\n".len())
 }
 
 #[test]
@@ -95,29 +139,32 @@ fn a_text_of_1_048_576_bytes_is_the_longest(rt: HostRuntime) -> Result<(), Fail>
     for kind in 100u16..117 {
         long_type(alloc, &mut registry, kind, 60_000)?;
     }
-    let left = 1_048_576usize.saturating_sub(registry.text().len());
-    let name = left.saturating_sub("type  117\n".len());
-    let refused = long_type(alloc, &mut registry, 117, name + 1);
-    assert_eq!(rt; refused, Err(RegistryFault::TooMany));
+    let name = free_bytes(&registry);
+    let fault = long_type(alloc, &mut registry, 117, name.wrapping_add(1)).err();
+    check_fault(&rt, fault, RegistryFault::TooMany, "a byte too many");
     long_type(alloc, &mut registry, 117, name)?;
-    assert_eq!(rt; registry.text().len(), 1_048_576);
-    assert_eq!(rt; registry.service(9), Err(RegistryFault::TooMany));
-    assert_eq!(rt; registry.text().len(), 1_048_576);
-    assert!(rt; registry.service_kinds()?.is_empty());
+    check_number(&rt, registry.text().len(), 1_048_576, "the longest text");
+    let fault = service_fault(&mut registry, 9);
+    check_fault(&rt, fault, RegistryFault::TooMany, "service 9");
+    check_number(&rt, registry.text().len(), 1_048_576, "the longest text");
+    check_number(&rt, registry.service_kinds()?.len(), 0, "services");
     Ok(())
+}
+
+/// A declaration, and blanks after it up to this length.
+fn padded(alloc: Global, decl: &str, len: usize) -> Result<String, AllocError> {
+    let mut text = decl.to_string(alloc)?;
+    push_times(&mut text, " ", len.saturating_sub(decl.len()))?;
+    Ok(text)
 }
 
 #[test]
 fn a_text_that_is_too_long_to_cut_is_no_declaration(rt: HostRuntime) -> Result<(), Fail> {
-    let alloc = rt.alloc();
-    let mut registry = program(alloc)?;
-    let mut decl = "void g()".to_string(alloc)?;
-    for _ in decl.len()..65_536 {
-        decl.push_str(" ")?;
-    }
-    registry.method("Counter", decl.as_str(), 3)?;
-    decl.push_str(" ")?;
-    let refused = registry.method("Counter", decl.as_str(), 4);
-    assert_eq!(rt; refused, Err(RegistryFault::BadDeclaration));
+    let mut registry = program(rt.alloc())?;
+    let longest = padded(rt.alloc(), "void g()", 65_536)?;
+    registry.method("Counter", longest.as_str(), 3)?;
+    let longer = padded(rt.alloc(), "void g()", 65_537)?;
+    let fault = method_fault(&mut registry, "Counter", longer.as_str(), 4);
+    check_fault(&rt, fault, RegistryFault::BadDeclaration, "65,537 bytes");
     Ok(())
 }

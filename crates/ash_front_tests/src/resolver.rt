@@ -1,13 +1,21 @@
 //! Trees of scripts that were not checked, with the trees that the part which can be run so far gives them.
 
+use crate::compare::check_text;
+use crate::grammar::parsed;
 use crate::sources::{bracketed, parts_of};
 use ash_lex::lex;
 use ash_meaning::subset::resolver::resolve;
-use ash_parse::parse_module;
-use std::alloc::Global;
+use ash_meaning::tree::Module as Resolved;
+use ash_tree::Module;
+use std::alloc::{AllocError, Global};
 use std::fmt::Write;
 use std::process::Abort;
 use std::test::Fail;
+
+/// The tree that can be run of a script, if it has one.
+fn resolved(alloc: Global, script: &Module) -> Result<Option<Resolved>, AllocError> {
+    resolve(alloc, script)
+}
 
 /// Whether a source is resolved: `ok` or `refused`; or why it has no tree.
 fn outcome_of(alloc: Global, source: &str) -> Result<String, Fail> {
@@ -15,9 +23,9 @@ fn outcome_of(alloc: Global, source: &str) -> Result<String, Fail> {
         Ok(tokens) => tokens,
         Err(fault) => return Ok(format!(in alloc; "{fault}")?),
     };
-    match parse_module(alloc, tokens.as_slice()) {
+    match parsed(alloc, tokens.as_slice()) {
         Ok(script) => {
-            let is_resolved = resolve(alloc, &script)?.is_some();
+            let is_resolved = resolved(alloc, &script)?.is_some();
             let outcome = if is_resolved { "ok" } else { "refused" };
             Ok(String::from_str(alloc, outcome)?)
         }
@@ -25,28 +33,38 @@ fn outcome_of(alloc: Global, source: &str) -> Result<String, Fail> {
     }
 }
 
+/// Compares how a source is resolved.
+fn check_outcome(rt: &impl Abort, alloc: Global, source: &str, wanted: &str) -> Result<(), Fail> {
+    let found = outcome_of(alloc, source)?;
+    check_text(rt, found.as_str(), wanted, source);
+    Ok(())
+}
+
 /// Each row has an outcome, a bar, and the source.
 fn check_rows(rt: &impl Abort, alloc: Global, rows: &str) -> Result<(), Fail> {
     for row in rows.trim().lines() {
         let (wanted, source) = parts_of(row);
-        assert_eq!(rt; outcome_of(alloc, source)?.as_str(), wanted, "{source}");
+        check_outcome(rt, alloc, source, wanted)?;
     }
     Ok(())
 }
 
+/// The tree that can be run of a source, as `Debug` prints it.
+fn printed(alloc: Global, source: &str) -> Result<String, Fail> {
+    let tokens = lex(alloc, source)?;
+    let script = parsed(alloc, tokens.as_slice())?;
+    let found = resolved(alloc, &script)?;
+    Ok(format!(in alloc; "{found:?}")?)
+}
+
 #[test]
 fn names_are_places(rt: HostRuntime) -> Result<(), Fail> {
-    let alloc = rt.alloc();
     let source =
         "int\nlast = first;\nint\nf(int first, int g) {\n last += g * first - (last);\n first = 7;\n return g; }\nint\nfirst = 5;\nint\ng() {\n return first; }";
-    let tokens = lex(alloc, source)?;
-    let script = parse_module(alloc, tokens.as_slice())?;
-    let found = resolve(alloc, &script)?;
-    assert_eq!(rt;
-        format!(in alloc; "{found:?}")?.as_str(),
-        "Some(Module { globals: [Global { name: \"last\", line: 1, initializer: Some(Read(Global(1))) }, Global { name: \"first\", line: 8, initializer: Some(Literal(Int(5))) }], functions: [Function { name: \"f\", line: 4, parameters: 2, body: [Stmt { line: 5, action: Update { place: Global(0), operator: Add, value: Chain { first: Chain { first: Read(Local(1)), rest: [Link { operator: Multiply, operand: Read(Local(0)) }] }, rest: [Link { operator: Subtract, operand: Read(Global(0)) }] } } }, Stmt { line: 6, action: Assign { place: Local(0), value: Literal(Int(7)) } }, Stmt { line: 7, action: Return { value: Read(Local(1)) } }] }, Function { name: \"g\", line: 11, parameters: 0, body: [Stmt { line: 12, action: Return { value: Read(Global(1)) } }] }] })",
-        "{source}"
-    );
+    let found = printed(rt.alloc(), source)?;
+    let wanted =
+        "Some(Module { globals: [Global { name: \"last\", line: 1, initializer: Some(Read(Global(1))) }, Global { name: \"first\", line: 8, initializer: Some(Literal(Int(5))) }], functions: [Function { name: \"f\", line: 4, parameters: 2, body: [Stmt { line: 5, action: Update { place: Global(0), operator: Add, value: Chain { first: Chain { first: Read(Local(1)), rest: [Link { operator: Multiply, operand: Read(Local(0)) }] }, rest: [Link { operator: Subtract, operand: Read(Global(0)) }] } } }, Stmt { line: 6, action: Assign { place: Local(0), value: Literal(Int(7)) } }, Stmt { line: 7, action: Return { value: Read(Local(1)) } }] }, Function { name: \"g\", line: 11, parameters: 0, body: [Stmt { line: 12, action: Return { value: Read(Global(1)) } }] }] })";
+    check_text(&rt, found.as_str(), wanted, source);
     Ok(())
 }
 
@@ -97,6 +115,16 @@ fn refused_for_statements(rt: HostRuntime) -> Result<(), Fail> {
     )
 }
 
+/// Each row has how many brackets a source has, and its outcome.
+fn check_brackets(rt: &impl Abort, alloc: Global, rows: &[(usize, &str)]) -> Result<(), Fail> {
+    for (count, wanted) in rows {
+        let source = bracketed(alloc, b"int f() { return ", *count, b"; }")?;
+        let source = String::from_utf8(source)?;
+        check_outcome(rt, alloc, source.as_str(), wanted)?;
+    }
+    Ok(())
+}
+
 #[test]
 fn values_at_their_limits(rt: HostRuntime) -> Result<(), Fail> {
     check_rows(
@@ -107,34 +135,22 @@ fn values_at_their_limits(rt: HostRuntime) -> Result<(), Fail> {
         refused | int f() { return 2147483648; }
         ",
     )?;
-    for (count, wanted) in [(16, "ok"), (17, "refused")] {
-        let source = bracketed(rt.alloc(), b"int f() { return ", count, b"; }")?;
-        let source = String::from_utf8(source)?;
-        assert_eq!(rt;
-            outcome_of(rt.alloc(), source.as_str())?.as_str(),
-            wanted,
-            "{source}"
-        );
+    check_brackets(&rt, rt.alloc(), &[(16, "ok"), (17, "refused")])
+}
+
+/// A source with so many globals.
+fn globals(alloc: Global, count: u32) -> Result<String, AllocError> {
+    let mut source = String::new(alloc);
+    for i in 0..count {
+        write!(source, "int v{i};")?;
     }
-    Ok(())
+    Ok(source)
 }
 
 #[test]
 fn globals_at_their_limit(rt: HostRuntime) -> Result<(), Fail> {
-    let mut source = String::new(rt.alloc());
-    for i in 0..256 {
-        write!(source, "int v{i};")?;
-    }
-    assert_eq!(rt;
-        outcome_of(rt.alloc(), source.as_str())?.as_str(),
-        "ok",
-        "256 globals"
-    );
-    source.push_str("int v256;")?;
-    assert_eq!(rt;
-        outcome_of(rt.alloc(), source.as_str())?.as_str(),
-        "refused",
-        "257 globals"
-    );
-    Ok(())
+    let most = globals(rt.alloc(), 256)?;
+    check_outcome(&rt, rt.alloc(), most.as_str(), "ok")?;
+    let more = globals(rt.alloc(), 257)?;
+    check_outcome(&rt, rt.alloc(), more.as_str(), "refused")
 }

@@ -1,6 +1,6 @@
 //! Signs, alone and two side by side.
 
-use crate::tokens::shown;
+use crate::tokens::check_shown;
 use ash_lex::{Sign, Token, TokenKind, lex};
 use std::alloc::{AllocError, Global};
 use std::fmt::Write;
@@ -62,32 +62,42 @@ const SIGNS: [(&str, Sign); 51] = [
     ("::", Sign::Scope),
 ];
 
+fn signs() -> &'static [(&'static str, Sign)] {
+    &SIGNS
+}
+
 /// The longest sign that the text begins with, found by trying each.
 fn longest_sign(text: &str) -> Option<&'static str> {
     let mut longest = None;
-    for (sign, _) in SIGNS {
+    for (sign, _) in signs() {
         let is_longer = match longest {
             None => true,
             Some(found) => str::len(found) < sign.len(),
         };
-        if is_longer && text.starts_with(sign) {
-            longest = Some(sign);
+        if is_longer && text.starts_with(*sign) {
+            longest = Some(*sign);
         }
     }
     longest
 }
 
+/// Looks at a sign alone.
+fn check_alone(rt: &impl Abort, alloc: Global, text: &str, sign: Sign) -> Result<(), Fail> {
+    let token = Token {
+        kind: TokenKind::Sign(sign),
+        line: 1,
+        from: 0,
+        to: text.len(),
+    };
+    let wanted = vec![in alloc; token]?;
+    assert_eq!(rt; lex(alloc, text), Ok(wanted), "at {text:?}");
+    Ok(())
+}
+
 #[test]
 fn signs_alone(rt: HostRuntime) -> Result<(), Fail> {
-    for (text, sign) in SIGNS {
-        let token = Token {
-            kind: TokenKind::Sign(sign),
-            line: 1,
-            from: 0,
-            to: text.len(),
-        };
-        let want = vec![in rt.alloc(); token]?;
-        assert_eq!(rt; lex(rt.alloc(), text), Ok(want), "at {text:?}");
+    for (text, sign) in signs() {
+        check_alone(&rt, rt.alloc(), text, *sign)?;
     }
     Ok(())
 }
@@ -117,19 +127,18 @@ fn signs_by_hand(alloc: Global, text: &str) -> Result<String, AllocError> {
 }
 
 /// Looks at this sign with each sign after it.
-fn check_beside_each(rt: &impl Abort, alloc: Global, first: &str) -> Result<(), AllocError> {
-    for (second, _) in SIGNS {
+fn check_beside_each(rt: &impl Abort, alloc: Global, first: &str) -> Result<(), Fail> {
+    for (second, _) in signs() {
         let text = format!(in alloc; "{first}{second}")?;
-        let want = signs_by_hand(alloc, text.as_str())?;
-        let found = shown(alloc, text.as_str())?;
-        assert_eq!(rt; found.as_str(), want.as_str(), "at {text:?}");
+        let wanted = signs_by_hand(alloc, text.as_str())?;
+        check_shown(rt, alloc, text.as_str(), wanted.as_str())?;
     }
     Ok(())
 }
 
 #[test]
 fn signs_side_by_side(rt: HostRuntime) -> Result<(), Fail> {
-    for (first, _) in SIGNS {
+    for (first, _) in signs() {
         check_beside_each(&rt, rt.alloc(), first)?;
     }
     Ok(())

@@ -1,6 +1,7 @@
 //! Sources as bytes, and how reading and checking them end where nothing is registered: `ok`, or the refusal as `Debug`
 //! prints it, with offsets counted by hand.
 
+use crate::compare::check_text;
 use ash_meaning::checking::check_source;
 use ash_meaning::reading::read_source;
 use ash_meaning::refusal::Refusal;
@@ -9,11 +10,21 @@ use std::alloc::{AllocError, Global};
 use std::process::Abort;
 use std::test::Fail;
 
-fn printed(alloc: Global, refusal: Option<Refusal>) -> Result<String, Fail> {
+pub(crate) fn printed(alloc: Global, refusal: Option<Refusal>) -> Result<String, AllocError> {
     match refusal {
-        None => Ok(String::from_str(alloc, "ok")?),
-        Some(refusal) => Ok(format!(in alloc; "{refusal:?}")?),
+        None => String::from_str(alloc, "ok"),
+        Some(refusal) => format!(in alloc; "{refusal:?}"),
     }
+}
+
+/// Why a source is not read.
+fn reading_refusal(alloc: Global, source: &[u8]) -> Option<Refusal> {
+    read_source(alloc, &Registry::new(alloc), source).err()
+}
+
+/// Why a source is not checked.
+fn checking_refusal(alloc: Global, source: &[u8]) -> Option<Refusal> {
+    check_source(alloc, &Registry::new(alloc), source).err()
 }
 
 /// Compares how reading a source ends.
@@ -23,12 +34,9 @@ pub(crate) fn check_reading(
     source: &[u8],
     wanted: &str,
 ) -> Result<(), Fail> {
-    let found = printed(
-        alloc,
-        read_source(alloc, &Registry::new(alloc), source).err(),
-    )?;
+    let found = printed(alloc, reading_refusal(alloc, source))?;
     let text = String::from_utf8_lossy(alloc, source)?;
-    assert_eq!(rt; found.as_str(), wanted, "reading {text:?}");
+    check_text(rt, found.as_str(), wanted, text.as_str());
     Ok(())
 }
 
@@ -39,12 +47,9 @@ pub(crate) fn check_checking(
     source: &[u8],
     wanted: &str,
 ) -> Result<(), Fail> {
-    let found = printed(
-        alloc,
-        check_source(alloc, &Registry::new(alloc), source).err(),
-    )?;
+    let found = printed(alloc, checking_refusal(alloc, source))?;
     let text = String::from_utf8_lossy(alloc, source)?;
-    assert_eq!(rt; found.as_str(), wanted, "checking {text:?}");
+    check_text(rt, found.as_str(), wanted, text.as_str());
     Ok(())
 }
 
@@ -53,6 +58,31 @@ pub(crate) fn parts_of(row: &str) -> (&str, &str) {
     row.trim()
         .split_once(" | ")
         .unwrap_or((row, "no bar in this row"))
+}
+
+/// Each row has a source, and how reading it ends.
+pub(crate) fn check_readings(
+    rt: &impl Abort,
+    alloc: Global,
+    rows: &[(&[u8], &str)],
+) -> Result<(), Fail> {
+    for (source, wanted) in rows {
+        check_reading(rt, alloc, source, wanted)?;
+    }
+    Ok(())
+}
+
+/// Each row has a source, how checking it ends, and how reading it ends.
+pub(crate) fn check_both(
+    rt: &impl Abort,
+    alloc: Global,
+    rows: &[(&[u8], &str, &str)],
+) -> Result<(), Fail> {
+    for (source, checked, read) in rows {
+        check_checking(rt, alloc, source, checked)?;
+        check_reading(rt, alloc, source, read)?;
+    }
+    Ok(())
 }
 
 /// `text`, and so many blanks after it.

@@ -1,24 +1,37 @@
 //! Tokens of texts, and the first faults of texts that have none. Lines and bytes are counted by hand.
 
+use crate::compare::check_text;
 use ash_lex::{LexFault, MAX_SOURCE, Token, TokenKind, lex};
 use std::alloc::{AllocError, Global};
-use std::fmt::Write;
+use std::fmt::{Display, Write};
+use std::process::Abort;
 use std::test::Fail;
+
+/// What a token is, and its text.
+fn show_text<T: Display>(out: &mut String, kind: &str, text: &T) -> Result<(), AllocError> {
+    write!(out, "{kind} {text}; ")
+}
+
+/// A token's kind and its text.
+fn show_kind(out: &mut String, kind: &TokenKind) -> Result<(), AllocError> {
+    match kind {
+        TokenKind::Name(name) => show_text(out, "name", name),
+        TokenKind::Number(number) => show_text(out, "number", number),
+        TokenKind::Sign(sign) => show_text(out, "sign", sign),
+        TokenKind::Reserved(word) => show_text(out, "reserved", word),
+        TokenKind::Unsupported(word) => show_text(out, "unsupported", word),
+    }
+}
 
 /// A token as `line:from-to`, its kind and its text.
 fn show_token(out: &mut String, token: &Token) -> Result<(), AllocError> {
-    let line = token.line;
-    let from = token.from;
-    let to = token.to;
-    write!(out, "{line}:{from}-{to} ")?;
-    match &token.kind {
-        TokenKind::Name(name) => write!(out, "name {name}; ")?,
-        TokenKind::Number(number) => write!(out, "number {number}; ")?,
-        TokenKind::Sign(sign) => write!(out, "sign {sign}; ")?,
-        TokenKind::Reserved(word) => write!(out, "reserved {word}; ")?,
-        TokenKind::Unsupported(word) => write!(out, "unsupported {word}; ")?,
-    }
-    Ok(())
+    write!(out, "{}:{}-{} ", token.line, token.from, token.to)?;
+    show_kind(out, &token.kind)
+}
+
+/// A fault as it is printed.
+pub(crate) fn printed_fault(alloc: Global, fault: &LexFault) -> Result<String, AllocError> {
+    format!(in alloc; "{fault}")
 }
 
 /// The tokens of a text, or its fault as it is printed.
@@ -31,13 +44,33 @@ pub(crate) fn shown(alloc: Global, text: &str) -> Result<String, AllocError> {
             }
             Ok(out)
         }
-        Err(fault) => format!(in alloc; "{fault}"),
+        Err(fault) => printed_fault(alloc, &fault),
     }
+}
+
+/// Compares the tokens of a text, or its fault, with those that are wanted.
+pub(crate) fn check_shown(
+    rt: &impl Abort,
+    alloc: Global,
+    text: &str,
+    wanted: &str,
+) -> Result<(), Fail> {
+    let found = shown(alloc, text)?;
+    check_text(rt, found.as_str(), wanted, text);
+    Ok(())
+}
+
+/// Each row has a text, and its tokens or its fault.
+fn check_rows(rt: &impl Abort, alloc: Global, rows: &[(&str, &str)]) -> Result<(), Fail> {
+    for (text, wanted) in rows {
+        check_shown(rt, alloc, text, wanted)?;
+    }
+    Ok(())
 }
 
 #[test]
 fn tokens_of_texts(rt: HostRuntime) -> Result<(), Fail> {
-    for (text, want) in [
+    let rows = &[
         ("", ""),
         ("a+b", "1:0-1 name a; 1:1-2 sign +; 1:2-3 name b; "),
         ("_a9 A\t", "1:0-3 name _a9; 1:4-5 name A; "),
@@ -69,15 +102,13 @@ fn tokens_of_texts(rt: HostRuntime) -> Result<(), Fail> {
         ),
         ("!is", "1:0-3 sign !is; "),
         ("a>>>=b", "1:0-1 name a; 1:1-5 sign >>>=; 1:5-6 name b; "),
-    ] {
-        assert_eq!(rt; shown(rt.alloc(), text)?.as_str(), want, "at {text:?}");
-    }
-    Ok(())
+    ];
+    check_rows(&rt, rt.alloc(), rows)
 }
 
 #[test]
 fn lines_and_comments(rt: HostRuntime) -> Result<(), Fail> {
-    for (text, want) in [
+    let rows = &[
         (
             "a\r\nb\nc\rd",
             "1:0-1 name a; 2:3-4 name b; 3:5-6 name c; 3:7-8 name d; ",
@@ -93,15 +124,13 @@ fn lines_and_comments(rt: HostRuntime) -> Result<(), Fail> {
         ("/* \u{e9} */ // \u{20ac}", ""),
         ("//", ""),
         ("a/b", "1:0-1 name a; 1:1-2 sign /; 1:2-3 name b; "),
-    ] {
-        assert_eq!(rt; shown(rt.alloc(), text)?.as_str(), want, "at {text:?}");
-    }
-    Ok(())
+    ];
+    check_rows(&rt, rt.alloc(), rows)
 }
 
 #[test]
 fn first_faults(rt: HostRuntime) -> Result<(), Fail> {
-    for (text, want) in [
+    let rows = &[
         ("int \"", "101 BadCharacter 4"),
         ("'", "101 BadCharacter 0"),
         ("a $ /*", "101 BadCharacter 2"),
@@ -115,52 +144,54 @@ fn first_faults(rt: HostRuntime) -> Result<(), Fail> {
         ("uint64 x = 18446744073709551616;", "103 NumberTooLarge 11"),
         ("0x10000000000000000 $", "103 NumberTooLarge 0"),
         ("99999999999999999999999999999999", "103 NumberTooLarge 0"),
-    ] {
-        assert_eq!(rt; shown(rt.alloc(), text)?.as_str(), want, "at {text:?}");
-    }
-    Ok(())
+    ];
+    check_rows(&rt, rt.alloc(), rows)
 }
 
 #[test]
 fn byte_order_marks(rt: HostRuntime) -> Result<(), Fail> {
-    for (text, want) in [
+    let rows = &[
         ("\u{feff}", ""),
         ("\u{feff}a", "1:3-4 name a; "),
         (" \u{feff}", "101 BadCharacter 1"),
         ("\u{feff}\u{feff}", "101 BadCharacter 3"),
-    ] {
-        assert_eq!(rt; shown(rt.alloc(), text)?.as_str(), want, "at {text:?}");
+    ];
+    check_rows(&rt, rt.alloc(), rows)
+}
+
+/// So many times this part.
+pub(crate) fn push_times(text: &mut String, part: &str, times: usize) -> Result<(), AllocError> {
+    for _ in 0..times {
+        text.push_str(part)?;
     }
     Ok(())
 }
 
-/// So many of a character.
-fn repeated(alloc: Global, c: char, count: usize) -> Result<String, AllocError> {
-    let mut text = String::new(alloc);
-    for _ in 0..count {
-        text.push(c)?;
+/// Each row has a part, how many of it a text has, and its fault.
+fn check_repeated(
+    rt: &impl Abort,
+    alloc: Global,
+    rows: &[(&str, usize, &str)],
+) -> Result<(), Fail> {
+    for (part, count, wanted) in rows {
+        let mut text = String::new(alloc);
+        push_times(&mut text, part, *count)?;
+        let row = format!(in alloc; "{count} of {part:?}")?;
+        let found = shown(alloc, text.as_str())?;
+        check_text(rt, found.as_str(), wanted, row.as_str());
     }
-    Ok(text)
+    Ok(())
 }
 
 #[test]
 fn longest_source(rt: HostRuntime) -> Result<(), Fail> {
-    for (c, count, want) in [
-        (' ', MAX_SOURCE, ""),
-        (' ', 65_537, "107 SourceTooLong"),
-        ('"', 65_537, "107 SourceTooLong"),
-    ] {
-        let text = repeated(rt.alloc(), c, count)?;
-        assert_eq!(rt;
-            shown(rt.alloc(), text.as_str())?.as_str(),
-            want,
-            "{count} of {c:?}"
-        );
-    }
-    let no_memory = LexFault::NoMemory;
-    assert_eq!(rt;
-        format!(in rt.alloc(); "{no_memory}")?.as_str(),
-        "509 NoMemory"
-    );
+    let rows = &[
+        (" ", MAX_SOURCE, ""),
+        (" ", 65_537, "107 SourceTooLong"),
+        ("\"", 65_537, "107 SourceTooLong"),
+    ];
+    check_repeated(&rt, rt.alloc(), rows)?;
+    let found = printed_fault(rt.alloc(), &LexFault::NoMemory)?;
+    check_text(&rt, found.as_str(), "509 NoMemory", "no memory");
     Ok(())
 }

@@ -1,28 +1,42 @@
 //! Trees, written out by hand. `@8` is the place of offset 8 in the first line, `@8/2` of offset 8 in the second.
 
-use ash_lex::lex;
-use ash_parse::parse_module;
-use std::alloc::Global;
+use crate::compare::check_text;
+use crate::grammar::parsed;
+use crate::tokens::printed_fault;
+use ash_lex::{Token, lex};
+use std::alloc::{AllocError, Global};
 use std::process::Abort;
 use std::test::*;
 
-/// What `{:?}` prints of a script's tree, or its fault.
-fn printed(alloc: Global, source: &str) -> Result<String, Fail> {
-    let tokens = match lex(alloc, source) {
-        Ok(tokens) => tokens,
-        Err(fault) => return Ok(format!(in alloc; "{fault}")?),
-    };
-    match parse_module(alloc, tokens.as_slice()) {
-        Ok(tree) => Ok(format!(in alloc; "{tree:?}")?),
-        Err(fault) => Ok(format!(in alloc; "{fault}")?),
+/// What `{:?}` prints of the tree of these tokens, or of their fault.
+fn printed_tree(alloc: Global, tokens: &[Token]) -> Result<String, AllocError> {
+    match parsed(alloc, tokens) {
+        Ok(tree) => format!(in alloc; "{tree:?}"),
+        Err(fault) => format!(in alloc; "{fault}"),
     }
+}
+
+/// What `{:?}` prints of a script's tree, or its fault.
+fn printed(alloc: Global, source: &str) -> Result<String, AllocError> {
+    match lex(alloc, source) {
+        Ok(tokens) => printed_tree(alloc, tokens.as_slice()),
+        Err(fault) => printed_fault(alloc, &fault),
+    }
+}
+
+/// A text with each of these parts by what is to be in its place.
+fn replaced(alloc: Global, text: String, parts: &[(&str, &str)]) -> Result<String, AllocError> {
+    let mut text = text;
+    for (long, short) in parts {
+        text = text.replace(alloc, long, short)?;
+    }
+    Ok(text)
 }
 
 /// What `{:?}` prints of a tree, with places as `@offset` or `@offset/line`, and without the names of the fields
 /// `place` and `kind`.
-fn short(alloc: Global, source: &str) -> Result<String, Fail> {
-    let mut text = printed(alloc, source)?;
-    for (long, short) in [
+fn short(alloc: Global, source: &str) -> Result<String, AllocError> {
+    let parts = &[
         ("Place { at: ", "@"),
         (", line: 1 }", ""),
         (", line: 2 }", "/2"),
@@ -30,16 +44,14 @@ fn short(alloc: Global, source: &str) -> Result<String, Fail> {
         (", line: 4 }", "/4"),
         ("place: ", ""),
         ("kind: ", ""),
-    ] {
-        text = text.replace(alloc, long, short)?;
-    }
-    Ok(text)
+    ];
+    replaced(alloc, printed(alloc, source)?, parts)
 }
 
 fn check(rt: &impl Abort, alloc: Global, source: &str, items: &str) -> Result<(), Fail> {
     let found = short(alloc, source)?;
     let wanted = format!(in alloc; "Module {{ items: [{items}] }}")?;
-    assert_eq!(rt; found.as_str(), wanted.as_str(), "{source}");
+    check_text(rt, found.as_str(), wanted.as_str(), source);
     Ok(())
 }
 
@@ -59,9 +71,33 @@ fn check_body(rt: &impl Abort, alloc: Global, source: &str, body: &str) -> Resul
     check(rt, alloc, source, items.as_str())
 }
 
+/// Each row has a source, and the value of its variable.
+fn check_values(rt: &impl Abort, alloc: Global, rows: &[(&str, &str)]) -> Result<(), Fail> {
+    for (source, value) in rows {
+        check_value(rt, alloc, source, value)?;
+    }
+    Ok(())
+}
+
+/// Each row has a source, and the body of its function.
+fn check_bodies(rt: &impl Abort, alloc: Global, rows: &[(&str, &str)]) -> Result<(), Fail> {
+    for (source, body) in rows {
+        check_body(rt, alloc, source, body)?;
+    }
+    Ok(())
+}
+
+/// Each row has a source, and its items.
+fn check_items(rt: &impl Abort, alloc: Global, rows: &[(&str, &str)]) -> Result<(), Fail> {
+    for (source, items) in rows {
+        check(rt, alloc, source, items)?;
+    }
+    Ok(())
+}
+
 #[test]
 fn operators(rt: HostRuntime) -> Result<(), Fail> {
-    for (source, value) in [
+    let rows = &[
         // one level groups to the left, and is a list
         (
             "int a = 1 - 2 - 3;",
@@ -87,15 +123,13 @@ fn operators(rt: HostRuntime) -> Result<(), Fail> {
             "int a = @b.c.d(1, e)++;",
             "Expr { @8, Unary { operator: Handle, operand: Expr { @9, Postfix { operand: Expr { @9, Name(\"b\") }, suffixes: [Field { @11, name: \"c\" }, Method { @13, name: \"d\", arguments: [Expr { @15, Number(1) }, Expr { @18, Name(\"e\") }] }, Increment] } } } }",
         ),
-    ] {
-        check_value(&rt, rt.alloc(), source, value)?;
-    }
-    Ok(())
+    ];
+    check_values(&rt, rt.alloc(), rows)
 }
 
 #[test]
 fn conditionals_and_assignments(rt: HostRuntime) -> Result<(), Fail> {
-    for (source, value) in [
+    let rows = &[
         // the last branch reaches as far as it can
         (
             "int a = b ? c : d = e;",
@@ -111,15 +145,13 @@ fn conditionals_and_assignments(rt: HostRuntime) -> Result<(), Fail> {
             "int a = b = c >>>= this;",
             "Expr { @8, Assign { target: Expr { @8, Name(\"b\") }, operator: Assign, value: Expr { @12, Assign { target: Expr { @12, Name(\"c\") }, operator: ShiftRightArithmetic, value: Expr { @19, This } } } } }",
         ),
-    ] {
-        check_value(&rt, rt.alloc(), source, value)?;
-    }
-    Ok(())
+    ];
+    check_values(&rt, rt.alloc(), rows)
 }
 
 #[test]
 fn statements(rt: HostRuntime) -> Result<(), Fail> {
-    for (source, body) in [
+    let rows = &[
         // an `else` belongs to the nearest `if`
         (
             "void f() { if (a) if (b) c; else ; }",
@@ -145,15 +177,13 @@ fn statements(rt: HostRuntime) -> Result<(), Fail> {
             "void f() {\n do continue;\n while (true); { return; }\n}",
             "Stmt { @12/2, DoWhile { body: Stmt { @15/2, Continue }, condition: Expr { @33/3, Bool(true) } } }, Stmt { @40/3, Block([Stmt { @42/3, Return(None) }]) }",
         ),
-    ] {
-        check_body(&rt, rt.alloc(), source, body)?;
-    }
-    Ok(())
+    ];
+    check_bodies(&rt, rt.alloc(), rows)
 }
 
 #[test]
 fn items(rt: HostRuntime) -> Result<(), Fail> {
-    for (source, items) in [
+    let rows = &[
         (
             "; class A { int a, b = 1; A(int x) { } A@ m() { return null; } };",
             "Class(Class { @8, name: \"A\", members: [Vars(Vars { of: Type { @12, Primitive(Int) }, decls: [Decl { @16, name: \"a\", initializer: Default }, Decl { @19, name: \"b\", initializer: Value(Expr { @23, Number(1) }) }] }), Constructor(Constructor { @26, name: \"A\", parameters: [Parameter { of: Type { @28, Primitive(Int) }, @32, name: \"x\" }], body: [] }), Function(Function { @42, result: Some(Type { @39, Handle(\"A\") }), name: \"m\", parameters: [], body: [Stmt { @48, Return(Some(Expr { @55, Null })) }] })] })",
@@ -163,8 +193,6 @@ fn items(rt: HostRuntime) -> Result<(), Fail> {
             "Foo f(Bar b) {} Foo f(b); Foo g();",
             "Function(Function { @4, result: Some(Type { @0, Object(\"Foo\") }), name: \"f\", parameters: [Parameter { of: Type { @6, Object(\"Bar\") }, @10, name: \"b\" }], body: [] }), Vars(Vars { of: Type { @16, Object(\"Foo\") }, decls: [Decl { @20, name: \"f\", initializer: Arguments([Expr { @22, Name(\"b\") }]) }] }), Vars(Vars { of: Type { @26, Object(\"Foo\") }, decls: [Decl { @30, name: \"g\", initializer: Arguments([]) }] })",
         ),
-    ] {
-        check(&rt, rt.alloc(), source, items)?;
-    }
-    Ok(())
+    ];
+    check_items(&rt, rt.alloc(), rows)
 }

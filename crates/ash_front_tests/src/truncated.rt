@@ -2,8 +2,9 @@
 //! module, so a cut one is a module itself or ends too early, and only its last token may be another than in the whole
 //! script.
 
+use crate::grammar::{check_script, parsed};
 use ash_lex::{Token, lex};
-use ash_parse::{ParseFault, parse_module};
+use ash_parse::ParseFault;
 use std::alloc::Global;
 use std::process::Abort;
 use std::test::*;
@@ -40,32 +41,36 @@ fn end_of(tokens: &[Token]) -> usize {
     }
 }
 
+/// Compares the fault of so many tokens of a script.
+fn check_cut(rt: &impl Abort, fault: &ParseFault, at: usize, count: usize, script: &str) {
+    let wanted = ParseFault::Unexpected { at };
+    assert_eq!(rt; *fault, wanted, "{count} tokens of {script}");
+}
+
 /// The tokens of a script, cut after each of them.
 fn check_tokens(rt: &impl Abort, alloc: Global, script: &str) -> Result<(), Fail> {
-    let whole = lex(alloc, script);
-    assert_eq!(rt; whole.as_ref().err(), None, "{script}");
-    let tokens = whole?;
+    check_script(rt, alloc, script, "ok")?;
+    let tokens = lex(alloc, script)?;
     for count in 0..tokens.len() {
         let Some(prefix) = tokens.as_slice().get(..count) else {
             break;
         };
-        let at = end_of(prefix);
-        if let Err(fault) = parse_module(alloc, prefix) {
-            let wanted = ParseFault::Unexpected { at };
-            assert_eq!(rt; fault, wanted, "{count} tokens of {script}");
+        if let Err(fault) = parsed(alloc, prefix) {
+            check_cut(rt, &fault, end_of(prefix), count, script);
         }
     }
-    let fault = parse_module(alloc, tokens.as_slice()).err();
-    assert_eq!(rt; fault, None, "{script}");
     Ok(())
 }
 
 /// Where the token begins in which, or after which, a script of so many bytes ends.
 fn last_start(tokens: &[Token], length: usize) -> usize {
-    match tokens.iter().filter(|token| token.from < length).last() {
-        Some(last) => last.from,
-        None => 0,
+    let mut start = 0;
+    for token in tokens {
+        if token.from < length {
+            start = token.from;
+        }
     }
+    start
 }
 
 /// Where a fault of the grammar is.
@@ -80,30 +85,41 @@ fn place_of(fault: &ParseFault) -> Option<usize> {
 /// The fault of a script's first bytes, or `None` of bytes that have no tokens, or that are a script.
 fn fault_of(alloc: Global, prefix: &str) -> Option<ParseFault> {
     let tokens = lex(alloc, prefix).ok()?;
-    parse_module(alloc, tokens.as_slice()).err()
+    parsed(alloc, tokens.as_slice()).err()
+}
+
+/// Looks at where the fault of a script's first bytes is: from here to their end.
+fn check_place(rt: &impl Abort, fault: &ParseFault, least: usize, prefix: &str) {
+    let is_late = match place_of(fault) {
+        Some(at) => at >= least && at <= prefix.len(),
+        None => false,
+    };
+    assert!(rt; is_late, "{fault} of {prefix}");
 }
 
 /// A script, cut after each of its bytes. Up to the cut token it is the whole script, so the fault is no earlier.
 fn check_bytes(rt: &impl Abort, alloc: Global, script: &str) -> Result<(), Fail> {
-    let whole = lex(alloc, script);
-    assert_eq!(rt; whole.as_ref().err(), None, "{script}");
-    let whole = whole?;
+    check_script(rt, alloc, script, "ok")?;
+    let whole = lex(alloc, script)?;
     for length in 0..script.len() {
         let Some(prefix) = script.get(..length) else {
             break;
         };
         if let Some(fault) = fault_of(alloc, prefix) {
             let least = last_start(whole.as_slice(), length);
-            let is_late = place_of(&fault).is_some_and(|at| at >= least && at <= length);
-            assert!(rt; is_late, "{fault} of {prefix}");
+            check_place(rt, &fault, least, prefix);
         }
     }
     Ok(())
 }
 
+fn scripts() -> &'static [&'static str] {
+    &[CLASSES, LOOPS, SWITCHES]
+}
+
 #[test]
 fn after_each_token(rt: HostRuntime) -> Result<(), Fail> {
-    for script in [CLASSES, LOOPS, SWITCHES] {
+    for script in scripts() {
         check_tokens(&rt, rt.alloc(), script)?;
     }
     Ok(())
@@ -111,7 +127,7 @@ fn after_each_token(rt: HostRuntime) -> Result<(), Fail> {
 
 #[test]
 fn after_each_byte(rt: HostRuntime) -> Result<(), Fail> {
-    for script in [CLASSES, LOOPS, SWITCHES] {
+    for script in scripts() {
         check_bytes(&rt, rt.alloc(), script)?;
     }
     Ok(())

@@ -1,6 +1,6 @@
 //! Words of the language, and words of parts of it that the profile does not have.
 
-use crate::tokens::shown;
+use crate::tokens::check_shown;
 use std::alloc::Global;
 use std::process::Abort;
 use std::test::Fail;
@@ -8,15 +8,15 @@ use std::test::Fail;
 /// Looks for each word as a token of this kind.
 fn check_words(rt: &impl Abort, alloc: Global, kind: &str, words: &[&str]) -> Result<(), Fail> {
     for word in words {
-        let want = format!(in alloc; "1:0-{} {kind} {word}; ", word.len())?;
-        assert_eq!(rt; shown(alloc, word)?.as_str(), want.as_str(), "at {word:?}");
+        let wanted = format!(in alloc; "1:0-{} {kind} {word}; ", word.len())?;
+        check_shown(rt, alloc, word, wanted.as_str())?;
     }
     Ok(())
 }
 
 #[test]
 fn reserved_words(rt: HostRuntime) -> Result<(), Fail> {
-    let words = [
+    let words = &[
         "and",
         "or",
         "xor",
@@ -50,12 +50,12 @@ fn reserved_words(rt: HostRuntime) -> Result<(), Fail> {
         "continue",
         "return",
     ];
-    check_words(&rt, rt.alloc(), "reserved", &words)
+    check_words(&rt, rt.alloc(), "reserved", words)
 }
 
 #[test]
 fn unsupported_words(rt: HostRuntime) -> Result<(), Fail> {
-    let words = [
+    let words = &[
         "auto",
         "catch",
         "const",
@@ -78,5 +78,5 @@ fn unsupported_words(rt: HostRuntime) -> Result<(), Fail> {
         "uint8",
         "uint16",
     ];
-    check_words(&rt, rt.alloc(), "unsupported", &words)
+    check_words(&rt, rt.alloc(), "unsupported", words)
 }
