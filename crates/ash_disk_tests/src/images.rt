@@ -1,9 +1,11 @@
 //! Images of states and the files around them, byte for byte.
 
+use crate::compare::{check_bytes, check_number, check_text, check_true};
 use ash_host::Word;
 use ash_image::image::{FileContent, Stored, read_file, read_image, write_file};
 use ash_meaning::kept::ModuleParts;
 use std::alloc::{AllocError, Global};
+use std::process::Abort;
 use std::test::Fail;
 
 /// The file of a host that has no module and has answered no request.
@@ -40,38 +42,97 @@ const EACH_WORD: [u8; 79] = [
     0x80, 0x05, 0x06, 0x09, 0x00, 0x00, 0x00, 0x00, 0x00, 0x00, 0x00, 0x00, 0x00, 0x00, 0x00,
 ];
 
-fn held(alloc: Global, file: &[u8]) -> Result<Option<Stored>, AllocError> {
-    match read_file(alloc, file)? {
-        FileContent::Holds(stored) => Ok(Some(stored)),
-        FileContent::Closed | FileContent::Damaged => Ok(None),
+fn empty() -> &'static [u8] {
+    &EMPTY
+}
+
+fn one_service() -> &'static [u8] {
+    &ONE_SERVICE
+}
+
+fn one_module() -> &'static [u8] {
+    &ONE_MODULE
+}
+
+fn each_word_image() -> &'static [u8] {
+    &EACH_WORD
+}
+
+/// What a file holds.
+fn content_of(alloc: Global, file: &[u8]) -> Result<FileContent, AllocError> {
+    read_file(alloc, file)
+}
+
+/// The state that a file holds.
+fn held(alloc: Global, file: &[u8]) -> Result<Stored, Fail> {
+    match content_of(alloc, file)? {
+        FileContent::Holds(stored) => Ok(stored),
+        FileContent::Closed => Err(Fail::from("the file's gate is open")),
+        FileContent::Damaged => Err(Fail::from("the file holds a state")),
     }
 }
 
 fn is_damaged(alloc: Global, file: &[u8]) -> Result<bool, AllocError> {
-    Ok(matches!(read_file(alloc, file)?, FileContent::Damaged))
+    Ok(matches!(content_of(alloc, file)?, FileContent::Damaged))
+}
+
+fn is_closed(alloc: Global, file: &[u8]) -> Result<bool, AllocError> {
+    Ok(matches!(content_of(alloc, file)?, FileContent::Closed))
+}
+
+/// The state that an image depicts.
+fn depicted(alloc: Global, image: &[u8]) -> Result<Option<Stored>, AllocError> {
+    read_image(alloc, image)
+}
+
+fn is_image(alloc: Global, image: &[u8]) -> Result<bool, AllocError> {
+    Ok(depicted(alloc, image)?.is_some())
+}
+
+/// A file with another byte at a place.
+fn changed(alloc: Global, file: &[u8], place: usize, byte: u8) -> Result<Vec<u8>, AllocError> {
+    let mut file = Vec::from_slice(alloc, file)?;
+    if let Some(found) = file.as_mut_slice().get_mut(place) {
+        *found = byte;
+    }
+    Ok(file)
+}
+
+/// The first bytes of a file.
+fn cut(file: &[u8], length: usize) -> &[u8] {
+    file.get(..length).unwrap_or(file)
+}
+
+fn empty_file(alloc: Global) -> Result<Vec<u8>, AllocError> {
+    write_file(alloc, "", None, 0)
 }
 
 #[test]
 fn an_empty_state(rt: HostRuntime) -> Result<(), Fail> {
-    let file = write_file(rt.alloc(), "", None, 0)?;
-    assert_eq!(rt; file.as_slice(), EMPTY.as_slice());
-    let stored = held(rt.alloc(), &EMPTY)?.ok_or("the file holds a state")?;
-    assert_eq!(rt; stored.registered.as_str(), "");
-    assert_eq!(rt; stored.seq, 0);
-    assert!(rt; stored.module.is_none());
+    let file = empty_file(rt.alloc())?;
+    check_bytes(&rt, file.as_slice(), empty(), "the file");
+    let stored = held(rt.alloc(), empty())?;
+    check_text(&rt, stored.registered.as_str(), "", "the text");
+    check_number(&rt, stored.seq, 0, "the sequence number");
+    check_true(&rt, stored.module.is_none(), "no module");
     Ok(())
+}
+
+fn service_file(alloc: Global) -> Result<Vec<u8>, AllocError> {
+    write_file(alloc, "service 2\n", None, 0)
 }
 
 #[test]
 fn a_registration(rt: HostRuntime) -> Result<(), Fail> {
-    let file = write_file(rt.alloc(), "service 2\n", None, 0)?;
-    assert_eq!(rt; file.as_slice(), ONE_SERVICE.as_slice());
-    let stored = held(rt.alloc(), &ONE_SERVICE)?.ok_or("the file holds a state")?;
-    assert_eq!(rt; stored.registered.as_str(), "service 2\n");
+    let file = service_file(rt.alloc())?;
+    check_bytes(&rt, file.as_slice(), one_service(), "the file");
+    let stored = held(rt.alloc(), one_service())?;
+    let text = stored.registered.as_str();
+    check_text(&rt, text, "service 2\n", "the text");
     // A byte that begins no character.
-    let mut file = ONE_SERVICE;
-    file[27] = 0xff;
-    assert!(rt; is_damaged(rt.alloc(), &file)?);
+    let file = changed(rt.alloc(), one_service(), 27, 0xff)?;
+    let is_refused = is_damaged(rt.alloc(), &file)?;
+    check_true(&rt, is_refused, "a byte that begins no character");
     Ok(())
 }
 
@@ -86,102 +147,132 @@ fn with_spaces(alloc: Global, length: u32, spaces: usize) -> Result<Vec<u8>, All
     Ok(image)
 }
 
-#[test]
-fn a_text_at_its_limit(rt: HostRuntime) -> Result<(), Fail> {
-    let image = with_spaces(rt.alloc(), 1_048_576, 1_048_576)?;
-    let stored = read_image(rt.alloc(), &image)?.ok_or("the bytes depict a state")?;
-    assert_eq!(rt; stored.registered.len(), 1_048_576);
-    let image = with_spaces(rt.alloc(), 1_048_577, 1_048_577)?;
-    assert!(rt; read_image(rt.alloc(), &image)?.is_none());
-    // A length that is one byte more, and one less, than there is.
-    assert!(rt; read_image(rt.alloc(), &with_spaces(rt.alloc(), 4, 3)?)?.is_none());
-    assert!(rt; read_image(rt.alloc(), &with_spaces(rt.alloc(), 3, 4)?)?.is_none());
-    assert!(rt; read_image(rt.alloc(), &with_spaces(rt.alloc(), 3, 3)?)?.is_some());
+/// Whether the image with so many spaces depicts a state, and then one with a text of so many bytes.
+fn depicts_spaces(alloc: Global, length: u32, spaces: usize) -> Result<bool, AllocError> {
+    let image = with_spaces(alloc, length, spaces)?;
+    match depicted(alloc, &image)? {
+        Some(stored) => Ok(stored.registered.len() == spaces),
+        None => Ok(false),
+    }
+}
+
+fn check_spaces(rt: &impl Abort, alloc: Global, rows: &[(u32, usize, bool)]) -> Result<(), Fail> {
+    for (length, spaces, wanted) in rows {
+        let found = depicts_spaces(alloc, *length, *spaces)?;
+        let what = format!(in alloc; "{spaces} spaces with the length {length}")?;
+        check_true(rt, found == *wanted, what.as_str());
+    }
     Ok(())
 }
 
 #[test]
-fn a_module(rt: HostRuntime) -> Result<(), Fail> {
+fn a_text_at_its_limit(rt: HostRuntime) -> Result<(), Fail> {
+    let rows = &[
+        (1_048_576, 1_048_576, true),
+        (1_048_577, 1_048_577, false),
+        // A length that is one byte more, and one less, than there is.
+        (4, 3, false),
+        (3, 4, false),
+        (3, 3, true),
+    ];
+    check_spaces(&rt, rt.alloc(), rows)
+}
+
+fn module_file(alloc: Global) -> Result<Vec<u8>, AllocError> {
     let globals = [Word::Int(-2)];
     let parts = ModuleParts {
         name: "m",
         source: b"x",
         globals: &globals,
     };
-    let file = write_file(rt.alloc(), "", Some(parts), 3)?;
-    assert_eq!(rt; file.as_slice(), ONE_MODULE.as_slice());
-    let stored = held(rt.alloc(), &ONE_MODULE)?.ok_or("the file holds a state")?;
-    assert_eq!(rt; stored.seq, 3);
+    write_file(alloc, "", Some(parts), 3)
+}
+
+#[test]
+fn a_module(rt: HostRuntime) -> Result<(), Fail> {
+    let file = module_file(rt.alloc())?;
+    check_bytes(&rt, file.as_slice(), one_module(), "the file");
+    let stored = held(rt.alloc(), one_module())?;
+    check_number(&rt, stored.seq, 3, "the sequence number");
     let module = stored.module.ok_or("the state has a module")?;
-    assert_eq!(rt; module.name.as_str(), "m");
-    assert_eq!(rt; module.source.as_slice(), b"x".as_slice());
-    assert!(rt; matches!(module.globals.as_slice(), [Word::Int(-2)]));
+    check_text(&rt, module.name.as_str(), "m", "the name");
+    check_bytes(&rt, module.source.as_slice(), b"x", "the source");
+    let is_global = matches!(module.globals.as_slice(), [Word::Int(-2)]);
+    check_true(&rt, is_global, "the global");
     Ok(())
+}
+
+/// Whether there is one word of each type, in their order.
+fn is_each_word(words: &[Word]) -> bool {
+    matches!(
+        words,
+        [
+            Word::Bool(true),
+            Word::Int(i32::MIN),
+            Word::Uint(u32::MAX),
+            Word::Int64(i64::MAX),
+            Word::Uint64(0x8000_0000_0000_0000),
+            Word::Null,
+            Word::Object(9)
+        ]
+    )
 }
 
 #[test]
 fn each_word(rt: HostRuntime) -> Result<(), Fail> {
-    let stored = read_image(rt.alloc(), &EACH_WORD)?.ok_or("the bytes depict a state")?;
-    assert_eq!(rt; stored.seq, 258);
+    let stored = depicted(rt.alloc(), each_word_image())?.ok_or("the bytes depict a state")?;
+    check_number(&rt, stored.seq, 258, "the sequence number");
     let module = stored.module.ok_or("the state has a module")?;
-    assert_eq!(rt; module.name.as_str(), "_a9");
-    assert!(rt; module.source.is_empty());
-    assert!(rt;
-        matches!(
-            module.globals.as_slice(),
-            [
-                Word::Bool(true),
-                Word::Int(i32::MIN),
-                Word::Uint(u32::MAX),
-                Word::Int64(i64::MAX),
-                Word::Uint64(0x8000_0000_0000_0000),
-                Word::Null,
-                Word::Object(9)
-            ]
-        )
-    );
+    check_text(&rt, module.name.as_str(), "_a9", "the name");
+    check_bytes(&rt, module.source.as_slice(), b"", "the source");
+    let is_found = is_each_word(module.globals.as_slice());
+    check_true(&rt, is_found, "the globals");
     Ok(())
 }
 
 #[test]
 fn no_image(rt: HostRuntime) -> Result<(), Fail> {
-    assert!(rt; read_image(rt.alloc(), &[])?.is_none());
-    assert!(rt; read_image(rt.alloc(), &EACH_WORD[..78])?.is_none());
+    let alloc = rt.alloc();
+    check_true(&rt, !is_image(alloc, &[])?, "no bytes");
+    let image = cut(each_word_image(), 78);
+    check_true(&rt, !is_image(alloc, image)?, "a byte less");
     // The truth value is neither 0 nor 1, and then its tag is no tag.
-    let mut image = EACH_WORD;
-    image[36] = 2;
-    assert!(rt; read_image(rt.alloc(), &image)?.is_none());
-    let mut image = EACH_WORD;
-    image[35] = 7;
-    assert!(rt; read_image(rt.alloc(), &image)?.is_none());
+    let image = changed(alloc, each_word_image(), 36, 2)?;
+    check_true(&rt, !is_image(alloc, &image)?, "the truth value 2");
+    let image = changed(alloc, each_word_image(), 35, 7)?;
+    check_true(&rt, !is_image(alloc, &image)?, "the tag 7");
     Ok(())
 }
 
 #[test]
 fn an_older_file_after_it(rt: HostRuntime) -> Result<(), Fail> {
-    let mut file = Vec::from_slice(rt.alloc(), &EMPTY)?;
-    file.extend_from_slice(&ONE_MODULE)?;
-    let stored = held(rt.alloc(), &file)?.ok_or("the file holds a state")?;
-    assert!(rt; stored.module.is_none());
-    // The next gate is open.
-    let mut file = EMPTY;
-    file[50] = 1;
-    assert!(rt; is_damaged(rt.alloc(), &file)?);
+    let alloc = rt.alloc();
+    let mut file = Vec::from_slice(alloc, empty())?;
+    file.extend_from_slice(one_module())?;
+    let stored = held(alloc, &file)?;
+    check_true(&rt, stored.module.is_none(), "no module");
+    let file = changed(alloc, empty(), 50, 1)?;
+    check_true(&rt, is_damaged(alloc, &file)?, "the next gate is open");
+    Ok(())
+}
+
+/// Cuts a file to each of its lengths.
+fn check_cuts(rt: &impl Abort, alloc: Global, file: &[u8]) -> Result<(), Fail> {
+    for length in 2..file.len() {
+        let what = format!(in alloc; "cut to {length} bytes")?;
+        let is_found = is_damaged(alloc, cut(file, length))?;
+        check_true(rt, is_found, what.as_str());
+    }
     Ok(())
 }
 
 #[test]
 fn a_short_file(rt: HostRuntime) -> Result<(), Fail> {
-    assert!(rt; matches!(read_file(rt.alloc(), &[])?, FileContent::Closed));
-    assert!(rt; matches!(read_file(rt.alloc(), &[1])?, FileContent::Closed));
-    assert!(rt; matches!(read_file(rt.alloc(), &[0; 51])?, FileContent::Closed));
-    for length in 2..ONE_MODULE.len() {
-        assert!(rt;
-            is_damaged(rt.alloc(), &ONE_MODULE[..length])?,
-            "cut to {length} bytes"
-        );
-    }
-    Ok(())
+    let alloc = rt.alloc();
+    check_true(&rt, is_closed(alloc, &[])?, "no bytes");
+    check_true(&rt, is_closed(alloc, &[1])?, "a gate alone");
+    check_true(&rt, is_closed(alloc, &[0; 51])?, "zeros");
+    check_cuts(&rt, alloc, one_module())
 }
 
 /// Where a changed byte gives another state: the sequence number, the one letter of the name, the source and the
@@ -190,18 +281,38 @@ fn is_free(place: usize) -> bool {
     matches!(place, 27..=34 | 47 | 52 | 56..=59)
 }
 
+/// Whether this is what a file with a changed byte holds.
+fn is_expected(content: &FileContent, place: usize) -> bool {
+    match content {
+        FileContent::Closed => place == 0,
+        FileContent::Holds(_) => is_free(place),
+        FileContent::Damaged => place != 0 && !is_free(place),
+    }
+}
+
+/// Changes one byte of a file.
+fn check_changed(
+    rt: &impl Abort,
+    alloc: Global,
+    file: &[u8],
+    place: usize,
+    byte: u8,
+) -> Result<(), Fail> {
+    let file = changed(alloc, file, place, byte ^ 0x18)?;
+    let content = content_of(alloc, &file)?;
+    assert!(rt;
+        is_expected(&content, place),
+        "byte {place} changed: {content:?}"
+    );
+    Ok(())
+}
+
 #[test]
 fn each_byte_changed(rt: HostRuntime) -> Result<(), Fail> {
-    for place in 0..ONE_MODULE.len() {
-        let mut file = ONE_MODULE;
-        file[place] ^= 0x18;
-        let content = read_file(rt.alloc(), &file)?;
-        let is_expected = match &content {
-            FileContent::Closed => place == 0,
-            FileContent::Holds(_) => is_free(place),
-            FileContent::Damaged => place != 0 && !is_free(place),
-        };
-        assert!(rt; is_expected, "byte {place} changed: {content:?}");
+    let mut place = 0_usize;
+    for byte in one_module() {
+        check_changed(&rt, rt.alloc(), one_module(), place, *byte)?;
+        place = place.wrapping_add(1);
     }
     Ok(())
 }

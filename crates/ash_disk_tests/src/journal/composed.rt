@@ -3,6 +3,8 @@ ghost use Rattle.std.specs.Prelude.{◌≡◌, ◌<◌, ◌^◌, ◌∷◌, [], 
 ghost use Rattle.ash_journal.specs.Reading.{bodies_of};
 ghost use Rattle.ash_journal.specs.Journal.{Holds, IsReady};
 
+use super::{check_journal, closed};
+use crate::compare::check_bytes;
 use ash_disk::{Disk, MemoryDisk};
 use ash_journal::{Journal, Opened};
 use std::alloc::Global;
@@ -115,16 +117,19 @@ fn composed<D: Disk + Drop>(
     }
 }
 
+// The same, in memory.
+fn composed_in_memory(alloc: Global) -> Result<Journal<MemoryDisk>, CallerError> {
+    let (first, second) = (MemoryDisk::new(alloc), MemoryDisk::new(alloc));
+    composed(alloc, first, second, b"image", b"body")
+}
+
 #[test]
 fn every_call_once(rt: HostRuntime) -> Result<(), Fail> {
-    let alloc = rt.alloc();
-    let (first, second) = (MemoryDisk::new(alloc), MemoryDisk::new(alloc));
-    let journal = composed(alloc, first, second, b"image", b"body")?;
-    assert_eq!(rt; journal.generation(), 2);
-    assert_eq!(rt; journal.record_bytes(), 18);
-    let (_, second) = journal.close();
+    let journal = composed_in_memory(rt.alloc())?;
+    check_journal(&rt, &journal, 2, 18);
+    let (_, second) = closed(journal);
     let file =
         b"\x01ASHOST01\x02\0\0\0\0\0\0\0\x05\0\0\0image\x01\x04\0\0\0body\x01\x04\0\0\0body\0";
-    assert_eq!(rt; second.bytes(), file.as_slice());
+    check_bytes(&rt, second.bytes(), file, "the second file");
     Ok(())
 }

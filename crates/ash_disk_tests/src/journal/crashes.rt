@@ -1,9 +1,11 @@
 //! Stops at every call of either disk, and what crashes leave of them.
 
 use super::{add, opened, put};
+use crate::compare::check_number;
 use ash_disk::{Disk, FuseDisk, MemoryDisk, Survives};
 use ash_journal::{AppendError, Journal, OpenFault, Opened};
 use std::alloc::{AllocError, Global};
+use std::process::Abort;
 use std::test::Fail;
 
 // What a journal holds after each step of the run: which image, and how many records.
@@ -181,42 +183,52 @@ fn loss(alloc: Global, stopped: &Stopped) -> Result<Option<Crash>, AllocError> {
     Ok(None)
 }
 
-#[test]
-fn the_first_disk_fails(rt: HostRuntime) -> Result<(), Fail> {
+// Stops a run, and looks at what crashes leave.
+fn check_stop(
+    rt: &impl Abort,
+    alloc: Global,
+    first_calls: u64,
+    second_calls: u64,
+) -> Result<usize, Fail> {
+    let stopped = run(alloc, first_calls, second_calls);
+    let loss = loss(alloc, &stopped)?;
+    assert_eq!(rt;
+        loss,
+        None,
+        "stopped after {first_calls} and {second_calls} calls"
+    );
+    Ok(stopped.done)
+}
+
+// After how many calls of one disk a run is stopped at most, where the other does not fail.
+fn count_stops(rt: &impl Abort, alloc: Global, is_first: bool) -> Result<u64, Fail> {
     let mut stops = 0_u64;
     for calls in 0..200 {
-        let stopped = run(rt.alloc(), calls, u64::MAX);
-        assert_eq!(rt;
-            loss(rt.alloc(), &stopped)?,
-            None,
-            "stopped after {calls} calls"
-        );
-        if stopped.done == 7 {
+        let (first, second) = if is_first {
+            (calls, u64::MAX)
+        } else {
+            (u64::MAX, calls)
+        };
+        if check_stop(rt, alloc, first, second)? == 7 {
             break;
         }
         stops = calls.wrapping_add(1);
     }
+    Ok(stops)
+}
+
+#[test]
+fn the_first_disk_fails(rt: HostRuntime) -> Result<(), Fail> {
+    let stops = count_stops(&rt, rt.alloc(), true)?;
     // A look is 2 calls, a gate 2, a commit 4, and opening 3 where the file is not current.
-    assert_eq!(rt; stops, 2 + 2 + 4 + 3 * 4 + 3);
+    check_number(&rt, stops, 2 + 2 + 4 + 3 * 4 + 3, "the stops");
     Ok(())
 }
 
 #[test]
 fn the_second_disk_fails(rt: HostRuntime) -> Result<(), Fail> {
-    let mut stops = 0_u64;
-    for calls in 0..200 {
-        let stopped = run(rt.alloc(), u64::MAX, calls);
-        assert_eq!(rt;
-            loss(rt.alloc(), &stopped)?,
-            None,
-            "stopped after {calls} calls"
-        );
-        if stopped.done == 7 {
-            break;
-        }
-        stops = calls.wrapping_add(1);
-    }
+    let stops = count_stops(&rt, rt.alloc(), false)?;
     // A look is 2 calls, a gate 2, a commit 4, opening 3, and the image and the record to read 2 each.
-    assert_eq!(rt; stops, 2 + 2 + 4 + 4 + 3 + 2 * 2 + 4);
+    check_number(&rt, stops, 2 + 2 + 4 + 4 + 3 + 2 * 2 + 4, "the stops");
     Ok(())
 }

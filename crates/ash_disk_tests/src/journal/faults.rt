@@ -1,8 +1,10 @@
 //! Every cut and every changed byte of a file with three records, against a reading of the layout by hand.
 
-use super::opened;
+use super::{has_fault, opened};
+use crate::compare::check_true;
 use ash_journal::OpenFault;
 use std::alloc::{AllocError, Global};
+use std::process::Abort;
 use std::test::Fail;
 
 // What an open file that is beside an empty one holds: its generation, and where the image and each record's body end.
@@ -75,40 +77,66 @@ fn found(alloc: Global, file: &[u8]) -> Result<Result<Shape, OpenFault>, AllocEr
 const FILE: &[u8] =
     b"\x01ASHOST01\x07\0\0\0\0\0\0\0\x05\0\0\0image\x01\x03\0\0\0one\x01\0\0\0\0\x01\x05\0\0\0three\0junk";
 
+// Compares what the journal finds in a file with a reading by hand.
+fn check_file(
+    rt: &impl Abort,
+    alloc: Global,
+    file: &[u8],
+    at: usize,
+    what: &str,
+) -> Result<(), Fail> {
+    let found = found(alloc, file)?;
+    let by_hand = read_by_hand(alloc, file)?;
+    assert_eq!(rt; found, by_hand, "{what} {at}: {file:?}");
+    Ok(())
+}
+
+// Whether this is what the whole file holds.
+fn is_whole(shape: &Shape) -> bool {
+    shape.0 == 7 && shape.1 == 26 && shape.2.as_slice() == [34, 39, 49].as_slice()
+}
+
 #[test]
 fn every_cut(rt: HostRuntime) -> Result<(), Fail> {
     let alloc = rt.alloc();
     for len in 0..=FILE.len() {
-        let file = &FILE[..len];
-        assert_eq!(rt;
-            found(alloc, file)?,
-            read_by_hand(alloc, file)?,
-            "cut to {len}"
-        );
+        let file = FILE.get(..len).unwrap_or(FILE);
+        check_file(&rt, alloc, file, len, "cut to")?;
     }
-    let whole = vec![in alloc; 34, 39, 49]?;
-    assert_eq!(rt; found(alloc, FILE)?, Ok((7, 26, whole)));
+    let whole = found(alloc, FILE)??;
+    check_true(&rt, is_whole(&whole), "the whole file");
+    Ok(())
+}
+
+// A file with another byte at a place.
+fn changed(alloc: Global, file: &[u8], at: usize, byte: u8) -> Result<Vec<u8>, AllocError> {
+    let mut file = file.to_vec(alloc)?;
+    if let Some(place) = file.as_mut_slice().get_mut(at) {
+        *place = byte;
+    }
+    Ok(file)
+}
+
+// Each byte in one place of a file.
+fn check_place(rt: &impl Abort, alloc: Global, file: &[u8], at: usize) -> Result<(), Fail> {
+    for byte in 0..=255 {
+        let file = changed(alloc, file, at, byte)?;
+        check_file(rt, alloc, file.as_slice(), at, "changed at")?;
+    }
     Ok(())
 }
 
 #[test]
 fn every_changed_byte(rt: HostRuntime) -> Result<(), Fail> {
-    let alloc = rt.alloc();
     for at in 0..FILE.len() {
-        for byte in 0..=255 {
-            let mut file = FILE.to_vec(alloc)?;
-            if let Some(place) = file.as_mut_slice().get_mut(at) {
-                *place = byte;
-            }
-            let file = file.as_slice();
-            assert_eq!(rt;
-                found(alloc, file)?,
-                read_by_hand(alloc, file)?,
-                "byte {at} is {byte}"
-            );
-        }
+        check_place(&rt, rt.alloc(), FILE, at)?;
     }
     Ok(())
+}
+
+// Whether two files hold a journal.
+fn is_open(alloc: Global, first: &[u8], second: &[u8]) -> Result<bool, AllocError> {
+    Ok(opened(alloc, first, second)?.is_ok())
 }
 
 #[test]
@@ -117,15 +145,13 @@ fn two_files(rt: HostRuntime) -> Result<(), Fail> {
     let older = b"\x01ASHOST01\x06\0\0\0\0\0\0\0";
     let same = b"\x01ASHOST01\x07\0\0\0\0\0\0\0";
     // Of the older file nothing is read but its gate, magic and number.
-    let both = opened(alloc, older, FILE)?;
-    assert!(rt; matches!(both, Ok(_)));
-    assert!(rt; matches!(opened(alloc, FILE, same)?, Err(OpenFault::Damaged(0))));
-    assert!(rt;
-        matches!(
-            opened(alloc, FILE, b"\x01ASHOST02\x06")?,
-            Err(OpenFault::Damaged(0))
-        )
-    );
-    assert!(rt; matches!(opened(alloc, b"\x02", b"")?, Err(OpenFault::NoGeneration)));
+    check_true(&rt, is_open(alloc, older, FILE)?, "an older file");
+    let is_damaged = has_fault(alloc, FILE, same, OpenFault::Damaged(0))?;
+    check_true(&rt, is_damaged, "the same generation twice");
+    let other = b"\x01ASHOST02\x06";
+    let is_damaged = has_fault(alloc, FILE, other, OpenFault::Damaged(0))?;
+    check_true(&rt, is_damaged, "another format");
+    let is_none = has_fault(alloc, b"\x02", b"", OpenFault::NoGeneration)?;
+    check_true(&rt, is_none, "no generation");
     Ok(())
 }
