@@ -1,21 +1,20 @@
 //! Cycles of classes: the places, among the classes alone, of those on the cycle that is reported, worked out by hand.
 
-use crate::sources::{parts_of, tree_of};
-use ash_classes::class_ranks;
-use std::alloc::Global;
+use crate::sources::{check_number, check_text, parts_of, tree_of};
+use ash_classes::{Cycle, class_ranks};
+use ash_tree::Module;
+use std::alloc::{AllocError, Global};
 use std::fmt::Write;
 use std::process::Abort;
 use std::test::Fail;
 
-/// The cycle that is reported of a source, or `none`; or why the source has no tree.
-fn cycle_of(alloc: Global, source: &str) -> Result<String, Fail> {
-    let script = match tree_of(alloc, source) {
-        Ok(script) => script,
-        Err(fault) => return Ok(format!(in alloc; "{fault}")?),
-    };
-    let Err(cycle) = class_ranks(alloc, &script)? else {
-        return Ok(String::from_str(alloc, "none")?);
-    };
+/// The ranks of a script's classes, or the cycle that is reported of it.
+fn ranks_of(alloc: Global, script: &Module) -> Result<Result<Vec<usize>, Cycle>, AllocError> {
+    class_ranks(alloc, script)
+}
+
+/// The places of a cycle's classes.
+fn places_of(alloc: Global, cycle: &Cycle) -> Result<String, AllocError> {
     let mut places = format!(in alloc; "{}", cycle.first)?;
     for place in &cycle.others {
         write!(places, " {place}")?;
@@ -23,11 +22,24 @@ fn cycle_of(alloc: Global, source: &str) -> Result<String, Fail> {
     Ok(places)
 }
 
+/// The cycle that is reported of a source, or `none`; or why the source has no tree.
+fn cycle_of(alloc: Global, source: &str) -> Result<String, Fail> {
+    let script = match tree_of(alloc, source) {
+        Ok(script) => script,
+        Err(fault) => return Ok(format!(in alloc; "{fault}")?),
+    };
+    match ranks_of(alloc, &script)? {
+        Ok(_) => Ok(String::from_str(alloc, "none")?),
+        Err(cycle) => Ok(places_of(alloc, &cycle)?),
+    }
+}
+
 /// Each row has a cycle, a bar, and the source that it is reported of.
 fn check_cycles(rt: &impl Abort, alloc: Global, rows: &str) -> Result<(), Fail> {
     for row in rows.trim().lines() {
         let (wanted, source) = parts_of(row);
-        assert_eq!(rt; cycle_of(alloc, source)?.as_str(), wanted, "{source}");
+        let found = cycle_of(alloc, source)?;
+        check_text(rt, found.as_str(), wanted, source);
     }
     Ok(())
 }
@@ -105,37 +117,65 @@ fn chain(alloc: Global, last: &str) -> Result<String, Fail> {
     Ok(source)
 }
 
+/// The ranks of the classes of a source that has no cycle.
+fn ranks_in(alloc: Global, source: &str) -> Result<Vec<usize>, Fail> {
+    let script = tree_of(alloc, source)?;
+    match ranks_of(alloc, &script)? {
+        Ok(ranks) => Ok(ranks),
+        Err(_) => Err(Fail::from("a cycle")),
+    }
+}
+
+/// Looks at ranks that fall from each class to the next, to 0.
+fn check_falling(rt: &impl Abort, ranks: &[usize]) {
+    let mut wanted = ranks.len();
+    for rank in ranks {
+        wanted = wanted.saturating_sub(1);
+        check_number(rt, *rank, wanted, "the rank of a class");
+    }
+}
+
 #[test]
 fn the_ranks_of_a_long_chain(rt: HostRuntime) -> Result<(), Fail> {
-    let alloc = rt.alloc();
-    let script = tree_of(alloc, chain(alloc, "Counter")?.as_str())?;
-    let ranks = class_ranks(alloc, &script)?.ok().ok_or("a cycle")?;
+    let source = chain(rt.alloc(), "Counter")?;
+    let ranks = ranks_in(rt.alloc(), source.as_str())?;
     // Below 256, and falling from each class to the next: there is one way only.
-    for (i, rank) in ranks.iter().enumerate() {
-        assert_eq!(rt; i.checked_add(*rank), Some(255), "class {i}");
-    }
-    assert_eq!(rt; ranks.len(), 256);
+    check_falling(&rt, ranks.as_slice());
+    check_number(&rt, ranks.len(), 256, "the classes");
     Ok(())
+}
+
+/// The cycle of a source that has one.
+fn cycle_in(alloc: Global, source: &str) -> Result<Cycle, Fail> {
+    let script = tree_of(alloc, source)?;
+    match ranks_of(alloc, &script)? {
+        Ok(_) => Err(Fail::from("no cycle")),
+        Err(cycle) => Ok(cycle),
+    }
+}
+
+/// Looks at the places from 1 on.
+fn check_rising(rt: &impl Abort, places: &[usize]) {
+    let mut wanted = 1_usize;
+    for place in places {
+        check_number(rt, *place, wanted, "the place of a class");
+        wanted = wanted.wrapping_add(1);
+    }
 }
 
 #[test]
 fn a_ring_of_256_classes(rt: HostRuntime) -> Result<(), Fail> {
-    let alloc = rt.alloc();
-    let script = tree_of(alloc, chain(alloc, "C0")?.as_str())?;
-    let cycle = class_ranks(alloc, &script)?.err().ok_or("no cycle")?;
-    assert_eq!(rt; cycle.first, 0);
-    for (i, place) in cycle.others.iter().enumerate() {
-        assert_eq!(rt; i.checked_add(1), Some(*place), "class {i}");
-    }
-    assert_eq!(rt; cycle.others.len(), 255);
+    let source = chain(rt.alloc(), "C0")?;
+    let cycle = cycle_in(rt.alloc(), source.as_str())?;
+    check_number(&rt, cycle.first, 0, "the first class");
+    check_rising(&rt, cycle.others.as_slice());
+    check_number(&rt, cycle.others.len(), 255, "the other classes");
     Ok(())
 }
 
 #[test]
 fn no_class_at_all(rt: HostRuntime) -> Result<(), Fail> {
-    let alloc = rt.alloc();
-    let script = tree_of(alloc, "")?;
-    let ranks = class_ranks(alloc, &script)?.ok().ok_or("a cycle")?;
-    assert!(rt; ranks.is_empty());
+    let ranks = ranks_in(rt.alloc(), "")?;
+    check_number(&rt, ranks.len(), 0, "the classes");
     Ok(())
 }

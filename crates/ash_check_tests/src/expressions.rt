@@ -1,7 +1,7 @@
 //! Expressions by themselves, each as the value of `int z`: their types, their faults, and what operators take their
 //! operands for.
 
-use crate::sources::{SourceFault, parts_of, tree_of};
+use crate::sources::{SourceFault, check_text, parts_of, tree_of};
 use ash_check::CheckFault;
 use ash_expressions::{Class, Declared, Environment, Function, Heads, Typed, expression};
 use ash_registry::Registry;
@@ -16,14 +16,21 @@ const INT: Ty = Ty::Integer(Kind::Int);
 
 const NODE: Ty = Ty::Handle(ObjectType::Class(0));
 
+/// Variables of these names and types.
+fn declared(
+    alloc: Global,
+    variables: &[(&'static str, Ty)],
+) -> Result<Vec<Declared<'static>>, AllocError> {
+    let mut found = Vec::new(alloc);
+    for (name, of) in variables {
+        found.push(Declared { name, of: *of })?;
+    }
+    Ok(found)
+}
+
 /// `class Node { int v; Node@ next; Node(int k) {} int get(int k) {..} }`
 fn node(alloc: Global) -> Result<Class<'static>, AllocError> {
-    let mut fields = Vec::new(alloc);
-    fields.push(Declared { name: "v", of: INT })?;
-    fields.push(Declared {
-        name: "next",
-        of: NODE,
-    })?;
+    let fields = declared(alloc, &[("v", INT), ("next", NODE)])?;
     let mut methods = Vec::new(alloc);
     methods.push(Function {
         name: "get",
@@ -48,17 +55,15 @@ fn heads(alloc: Global) -> Result<Heads<'static>, AllocError> {
         result: Ty::Void,
         parameters: vec![in alloc; INT, Ty::Bool]?,
     })?;
-    let mut globals = Vec::new(alloc);
-    for (name, of) in [
+    let globals = &[
         ("a", INT),
         ("u", Ty::Integer(Kind::Uint)),
         ("l", Ty::Integer(Kind::Int64)),
         ("b", Ty::Bool),
         ("h", NODE),
         ("o", Ty::Object(ObjectType::Class(0))),
-    ] {
-        globals.push(Declared { name, of })?;
-    }
+    ];
+    let globals = declared(alloc, globals)?;
     Heads::new(alloc, classes, functions, globals)
 }
 
@@ -128,7 +133,8 @@ fn operands_of(alloc: Global, source: &str) -> Result<String, Fail> {
 fn check_types(rt: &impl Abort, alloc: Global, rows: &str) -> Result<(), Fail> {
     for row in rows.trim().lines() {
         let (wanted, source) = parts_of(row);
-        assert_eq!(rt; type_of(alloc, source)?.as_str(), wanted, "{source}");
+        let found = type_of(alloc, source)?;
+        check_text(rt, found.as_str(), wanted, source);
     }
     Ok(())
 }
@@ -137,7 +143,8 @@ fn check_types(rt: &impl Abort, alloc: Global, rows: &str) -> Result<(), Fail> {
 fn check_operands(rt: &impl Abort, alloc: Global, rows: &str) -> Result<(), Fail> {
     for row in rows.trim().lines() {
         let (wanted, source) = parts_of(row);
-        assert_eq!(rt; operands_of(alloc, source)?.as_str(), wanted, "{source}");
+        let found = operands_of(alloc, source)?;
+        check_text(rt, found.as_str(), wanted, source);
     }
     Ok(())
 }
@@ -191,10 +198,7 @@ fn types_of_expressions(rt: HostRuntime) -> Result<(), Fail> {
 
 #[test]
 fn faults_of_expressions(rt: HostRuntime) -> Result<(), Fail> {
-    check_types(
-        &rt,
-        rt.alloc(),
-        "
+    let rows = "
         301 UnknownName 8 | int z = q;
         304 TypeMismatch 8 | int z = true + 1;
         304 TypeMismatch 12 | int z = 1 + true;
@@ -248,8 +252,8 @@ fn faults_of_expressions(rt: HostRuntime) -> Result<(), Fail> {
         304 TypeMismatch 12 | int z = int(b);
         304 TypeMismatch 13 | int z = bool(1);
         306 NotAssignable 8 | int z = int(a) = 1;
-        ",
-    )
+        ";
+    check_types(&rt, rt.alloc(), rows)
 }
 
 // A number alone takes the type of the other operand where that holds it; one in brackets is not alone.

@@ -1,6 +1,6 @@
 //! Limits: how many variables and classes a module has, and how many members a class.
 
-use crate::sources::{checked, outcome_of};
+use crate::sources::{check_number, check_outcome, checked};
 use std::alloc::Global;
 use std::process::Abort;
 use std::test::Fail;
@@ -24,112 +24,176 @@ fn around(alloc: Global, first: &str, repeated: &str, last: &str) -> Result<Stri
     Ok(source)
 }
 
-/// Compares how the check of a source ends, which is too long to be printed.
-fn check_outcome(
-    rt: &impl Abort,
-    alloc: Global,
-    name: &str,
-    source: &str,
-    wanted: &str,
-) -> Result<(), Fail> {
-    assert_eq!(rt; outcome_of(alloc, source)?.as_str(), wanted, "{name}");
+/// A source with so many repetitions, and how its check ends. It has a name, since it is too long to be printed.
+struct Row {
+    name: &'static str,
+    first: &'static str,
+    count: usize,
+    prefix: &'static str,
+    suffix: &'static str,
+    last: &'static str,
+    wanted: &'static str,
+}
+
+/// Checks each row's source.
+fn check_limits(rt: &impl Abort, alloc: Global, rows: &[Row]) -> Result<(), Fail> {
+    for row in rows {
+        let middle = repeated(alloc, row.count, row.prefix, row.suffix)?;
+        let source = around(alloc, row.first, middle.as_str(), row.last)?;
+        check_outcome(rt, alloc, source.as_str(), row.wanted, row.name)?;
+    }
     Ok(())
 }
 
 #[test]
 fn variables_of_a_module(rt: HostRuntime) -> Result<(), Fail> {
-    let alloc = rt.alloc();
-    // `int a000;` has 9 bytes, and its name is at its fourth, counted from 0.
-    let most = repeated(alloc, 256, "int a", ";")?;
-    check_outcome(&rt, alloc, "256 globals", most.as_str(), "ok")?;
-    let more = repeated(alloc, 257, "int a", ";")?;
-    check_outcome(&rt, alloc, "257 globals", more.as_str(), "311 TooMany 2308")?;
-    // `bool ` has 5 bytes, and so has each `a000,`.
-    let names = repeated(alloc, 256, "a", ",")?;
-    let more = around(alloc, "bool ", names.as_str(), "b;")?;
-    check_outcome(
-        &rt,
-        alloc,
-        "257 names of one declaration",
-        more.as_str(),
-        "311 TooMany 1285",
-    )?;
-    // Of the two faults of one name the first in the list of faults is reported.
-    let taken = around(alloc, "bool ", names.as_str(), "a000;")?;
-    check_outcome(
-        &rt,
-        alloc,
-        "256 names of one declaration, then the first again",
-        taken.as_str(),
-        "303 NameTaken 1285",
-    )?;
-    Ok(())
+    let rows = &[
+        // `int a000;` has 9 bytes, and its name is at its fourth, counted from 0.
+        Row {
+            name: "256 globals",
+            first: "",
+            count: 256,
+            prefix: "int a",
+            suffix: ";",
+            last: "",
+            wanted: "ok",
+        },
+        Row {
+            name: "257 globals",
+            first: "",
+            count: 257,
+            prefix: "int a",
+            suffix: ";",
+            last: "",
+            wanted: "311 TooMany 2308",
+        },
+        // `bool ` has 5 bytes, and so has each `a000,`.
+        Row {
+            name: "257 names of one declaration",
+            first: "bool ",
+            count: 256,
+            prefix: "a",
+            suffix: ",",
+            last: "b;",
+            wanted: "311 TooMany 1285",
+        },
+        // Of the two faults of one name the first in the list of faults is reported.
+        Row {
+            name: "256 names of one declaration, then the first again",
+            first: "bool ",
+            count: 256,
+            prefix: "a",
+            suffix: ",",
+            last: "a000;",
+            wanted: "303 NameTaken 1285",
+        },
+    ];
+    check_limits(&rt, rt.alloc(), rows)
 }
 
 #[test]
 fn classes_of_a_module(rt: HostRuntime) -> Result<(), Fail> {
-    let alloc = rt.alloc();
-    // `class a000{}` has 12 bytes, and its name is at its sixth.
-    let most = repeated(alloc, 256, "class a", "{}")?;
-    check_outcome(&rt, alloc, "256 classes", most.as_str(), "ok")?;
-    let more = repeated(alloc, 257, "class a", "{}")?;
-    check_outcome(&rt, alloc, "257 classes", more.as_str(), "311 TooMany 3078")?;
-    Ok(())
+    let rows = &[
+        // `class a000{}` has 12 bytes, and its name is at its sixth.
+        Row {
+            name: "256 classes",
+            first: "",
+            count: 256,
+            prefix: "class a",
+            suffix: "{}",
+            last: "",
+            wanted: "ok",
+        },
+        Row {
+            name: "257 classes",
+            first: "",
+            count: 257,
+            prefix: "class a",
+            suffix: "{}",
+            last: "",
+            wanted: "311 TooMany 3078",
+        },
+    ];
+    check_limits(&rt, rt.alloc(), rows)
 }
 
 #[test]
 fn functions_have_no_limit(rt: HostRuntime) -> Result<(), Fail> {
-    let alloc = rt.alloc();
-    let many = repeated(alloc, 300, "void a", "(){}")?;
-    check_outcome(&rt, alloc, "300 functions", many.as_str(), "ok")?;
-    let locals = repeated(alloc, 300, "int a", ";")?;
-    let body = around(alloc, "void f(){", locals.as_str(), "}")?;
-    check_outcome(&rt, alloc, "300 locals", body.as_str(), "ok")?;
-    Ok(())
+    let rows = &[
+        Row {
+            name: "300 functions",
+            first: "",
+            count: 300,
+            prefix: "void a",
+            suffix: "(){}",
+            last: "",
+            wanted: "ok",
+        },
+        Row {
+            name: "300 locals",
+            first: "void f(){",
+            count: 300,
+            prefix: "int a",
+            suffix: ";",
+            last: "}",
+            wanted: "ok",
+        },
+    ];
+    check_limits(&rt, rt.alloc(), rows)
 }
 
 #[test]
 fn members_of_a_class(rt: HostRuntime) -> Result<(), Fail> {
-    let alloc = rt.alloc();
-    // `class A{` has 8 bytes, and each `int m000;` 9. A constructor is no member.
-    let fields = repeated(alloc, 32, "int m", ";")?;
-    let most = around(alloc, "class A{", fields.as_str(), "A(){}}")?;
-    check_outcome(&rt, alloc, "32 fields", most.as_str(), "ok")?;
-    let field = around(alloc, "class A{", fields.as_str(), "int x;}")?;
-    check_outcome(
-        &rt,
-        alloc,
-        "32 fields and one more",
-        field.as_str(),
-        "311 TooMany 300",
-    )?;
-    let method = around(alloc, "class A{", fields.as_str(), "void x(){}}")?;
-    check_outcome(
-        &rt,
-        alloc,
-        "32 fields and a method",
-        method.as_str(),
-        "311 TooMany 301",
-    )?;
-    let taken = around(alloc, "class A{", fields.as_str(), "void m000(){}}")?;
-    check_outcome(
-        &rt,
-        alloc,
-        "32 fields and a method named as the first",
-        taken.as_str(),
-        "303 NameTaken 301",
-    )?;
-    // `class A{int ` has 12 bytes, and each `m000,` 5.
-    let names = repeated(alloc, 32, "m", ",")?;
-    let more = around(alloc, "class A{int ", names.as_str(), "x;}")?;
-    check_outcome(
-        &rt,
-        alloc,
-        "33 fields of one declaration",
-        more.as_str(),
-        "311 TooMany 172",
-    )?;
-    Ok(())
+    let rows = &[
+        // `class A{` has 8 bytes, and each `int m000;` 9. A constructor is no member.
+        Row {
+            name: "32 fields",
+            first: "class A{",
+            count: 32,
+            prefix: "int m",
+            suffix: ";",
+            last: "A(){}}",
+            wanted: "ok",
+        },
+        Row {
+            name: "32 fields and one more",
+            first: "class A{",
+            count: 32,
+            prefix: "int m",
+            suffix: ";",
+            last: "int x;}",
+            wanted: "311 TooMany 300",
+        },
+        Row {
+            name: "32 fields and a method",
+            first: "class A{",
+            count: 32,
+            prefix: "int m",
+            suffix: ";",
+            last: "void x(){}}",
+            wanted: "311 TooMany 301",
+        },
+        Row {
+            name: "32 fields and a method named as the first",
+            first: "class A{",
+            count: 32,
+            prefix: "int m",
+            suffix: ";",
+            last: "void m000(){}}",
+            wanted: "303 NameTaken 301",
+        },
+        // `class A{int ` has 12 bytes, and each `m000,` 5.
+        Row {
+            name: "33 fields of one declaration",
+            first: "class A{int ",
+            count: 32,
+            prefix: "m",
+            suffix: ",",
+            last: "x;}",
+            wanted: "311 TooMany 172",
+        },
+    ];
+    check_limits(&rt, rt.alloc(), rows)
 }
 
 /// So many classes, of which each but the first has a field with a handle of the one before.
@@ -143,15 +207,21 @@ fn chain(alloc: Global, count: usize) -> Result<String, Fail> {
     Ok(source)
 }
 
+/// Looks at ranks that rise from 0 with the places.
+fn check_ranks(rt: &impl Abort, ranks: &[usize]) {
+    let mut place = 0_usize;
+    for rank in ranks {
+        check_number(rt, *rank, place, "the rank of a class");
+        place = place.wrapping_add(1);
+    }
+}
+
 #[test]
 fn ranks_of_a_chain(rt: HostRuntime) -> Result<(), Fail> {
-    let alloc = rt.alloc();
-    let source = chain(alloc, 256)?;
-    let done = checked(alloc, source.as_str())?;
-    assert_eq!(rt; done.ranks.len(), 256);
-    for (place, rank) in done.ranks.iter().enumerate() {
-        assert_eq!(rt; *rank, place, "class {place}");
-    }
-    assert_eq!(rt; done.module.classes.len(), 256);
+    let source = chain(rt.alloc(), 256)?;
+    let done = checked(rt.alloc(), source.as_str())?;
+    check_number(&rt, done.ranks.len(), 256, "the ranks");
+    check_ranks(&rt, done.ranks.as_slice());
+    check_number(&rt, done.module.classes.len(), 256, "the classes");
     Ok(())
 }

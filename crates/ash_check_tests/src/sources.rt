@@ -53,7 +53,7 @@ pub(crate) fn checked(alloc: Global, source: &str) -> Result<Checked, SourceFaul
 }
 
 /// How the check of a source ends.
-pub(crate) fn outcome_of(alloc: Global, source: &str) -> Result<String, Fail> {
+fn outcome_of(alloc: Global, source: &str) -> Result<String, Fail> {
     match checked(alloc, source) {
         Ok(_) => Ok(String::from_str(alloc, "ok")?),
         Err(fault) => Ok(format!(in alloc; "{fault}").ok().ok_or("out of memory")?),
@@ -67,11 +67,40 @@ pub(crate) fn parts_of(row: &str) -> (&str, &str) {
         .unwrap_or((row, "no bar in this row"))
 }
 
+/// Compares a text with the one that is wanted of a source, or of what names it. That is done here alone, so that the
+/// tests are proved quickly.
+pub(crate) fn check_text(rt: &impl Abort, found: &str, wanted: &str, source: &str) {
+    assert_eq!(rt; found, wanted, "{source}");
+}
+
+/// Looks at what is to be true of a source.
+pub(crate) fn check_true(rt: &impl Abort, found: bool, source: &str) {
+    assert!(rt; found, "{source}");
+}
+
+/// Compares a number with the one that is wanted of a source.
+pub(crate) fn check_number(rt: &impl Abort, found: usize, wanted: usize, source: &str) {
+    assert_eq!(rt; found, wanted, "{source}");
+}
+
+/// Compares how the check of a source ends, which has this name.
+pub(crate) fn check_outcome(
+    rt: &impl Abort,
+    alloc: Global,
+    source: &str,
+    wanted: &str,
+    name: &str,
+) -> Result<(), Fail> {
+    let found = outcome_of(alloc, source)?;
+    check_text(rt, found.as_str(), wanted, name);
+    Ok(())
+}
+
 /// Checks each row's source.
 pub(crate) fn check_rows(rt: &impl Abort, alloc: Global, rows: &str) -> Result<(), Fail> {
     for row in rows.trim().lines() {
         let (wanted, source) = parts_of(row);
-        assert_eq!(rt; outcome_of(alloc, source)?.as_str(), wanted, "{source}");
+        check_outcome(rt, alloc, source, wanted, source)?;
     }
     Ok(())
 }
@@ -81,11 +110,7 @@ pub(crate) fn check_bodies(rt: &impl Abort, alloc: Global, rows: &str) -> Result
     for row in rows.trim().lines() {
         let (wanted, body) = parts_of(row);
         let source = format!(in alloc; "void f() {{{body}}}")?;
-        assert_eq!(rt;
-            outcome_of(alloc, source.as_str())?.as_str(),
-            wanted,
-            "{source}"
-        );
+        check_outcome(rt, alloc, source.as_str(), wanted, source.as_str())?;
     }
     Ok(())
 }
