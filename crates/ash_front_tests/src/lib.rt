@@ -1,9 +1,9 @@
 //! Tests of the front end: tokens, trees, registrations, and how sources are read. They are in a crate of their own, so
 //! that the crates with the code are proved once.
 //!
-//! In reading order: `tokens`, `signs` and `words`, of `ash_lex`; `grammar`, `trees`, `depth`, `truncated` and `largest`,
-//! of `ash_parse`; `registrations` and `registry_limits`, of `ash_registry`; `sources`, `reading`, `checking` and
-//! `resolver`, of `ash_meaning`.
+//! In reading order: `compare`, with the comparisons; `tokens`, `signs` and `words`, of `ash_lex`; `grammar`, `trees`,
+//! `depth`, `truncated` and `largest`, of `ash_parse`; `registrations` and `registry_limits`, of `ash_registry`;
+//! `sources`, `reading`, `checking` and `resolver`, of `ash_meaning`.
 #![tactic(auto)]
 
 #[cfg(test)]
