@@ -1,7 +1,7 @@
 //! Nodes that hold lists.
 
 ghost use Rattle.std.specs.Prelude.{◌≡◌, map, option_map, string_bytes, IfOk};
-ghost use Rattle.ash_tree.specs.Tree.{If, IfElse, While, DoWhile, For, Brackets, Convert, Unary, Conditional, Assign, Evaluate, Declare, place_of, place_of_type, Block, Switch, labelled, stmts, cases, Call, Method, exprs, chained, suffixed};
+ghost use Rattle.ash_tree.specs.Tree.{For, Brackets, Convert, Unary, Assign, Evaluate, Declare, place_of, place_of_type, Block, Switch, labelled, stmts, cases, Call, Method, exprs, chained, suffixed};
 ghost use Rattle.ash_tree.specs.Views.{expr_of, suffix_of, operation_of, stmt_of, case_of, type_of, vars_of};
 
 use crate::tree::expressions::{Expr, ExprKind, Link, Suffix};
@@ -123,30 +123,6 @@ pub fn unary(
     })
 }
 
-/// `condition ? then : otherwise`
-#[tactic(auto, using(crate::proofs::Rows::place_is))]
-pub fn conditional(
-    alloc: Global,
-    condition: Expr,
-    then: Expr,
-    otherwise: Expr,
-) -> Result<Expr, AllocError>
-    ensures { IfOk result (λ e. expr_of e ≡ Conditional (place_of (expr_of condition)) (expr_of condition) (expr_of then) (expr_of otherwise)) }
-{
-    let place = condition.place;
-    let condition = Box::new(alloc, condition)?;
-    let then = Box::new(alloc, then)?;
-    let otherwise = Box::new(alloc, otherwise)?;
-    Ok(Expr {
-        place,
-        kind: ExprKind::Conditional {
-            condition,
-            then,
-            otherwise,
-        },
-    })
-}
-
 /// `target operator value`
 #[tactic(auto, using(crate::proofs::Rows::place_is))]
 pub fn assign(
@@ -190,65 +166,6 @@ pub fn declare(vars: Vars) -> Stmt
         place: vars.of.place,
         kind: StmtKind::Vars(vars),
     }
-}
-
-/// `if (condition) then`
-pub fn if_only(alloc: Global, place: Place, condition: Expr, then: Stmt) -> Result<Stmt, AllocError>
-    ensures { IfOk result (λ s. stmt_of s ≡ If place (expr_of condition) (stmt_of then)) }
-{
-    let then = Box::new(alloc, then)?;
-    Ok(Stmt {
-        place,
-        kind: StmtKind::If { condition, then },
-    })
-}
-
-/// `if (condition) then else otherwise`
-pub fn if_else(
-    alloc: Global,
-    place: Place,
-    condition: Expr,
-    then: Stmt,
-    otherwise: Stmt,
-) -> Result<Stmt, AllocError>
-    ensures { IfOk result (λ s. stmt_of s ≡ IfElse place (expr_of condition) (stmt_of then) (stmt_of otherwise)) }
-{
-    let (then, otherwise) = both_boxed(alloc, then, otherwise)?;
-    Ok(Stmt {
-        place,
-        kind: StmtKind::IfElse {
-            condition,
-            then,
-            otherwise,
-        },
-    })
-}
-
-/// `while (condition) body`
-pub fn while_loop(
-    alloc: Global,
-    place: Place,
-    condition: Expr,
-    body: Stmt,
-) -> Result<Stmt, AllocError>
-    ensures { IfOk result (λ s. stmt_of s ≡ While place (expr_of condition) (stmt_of body)) }
-{
-    let body = Box::new(alloc, body)?;
-    Ok(Stmt {
-        place,
-        kind: StmtKind::While { condition, body },
-    })
-}
-
-/// `do body while (condition);`
-pub fn do_loop(alloc: Global, place: Place, body: Stmt, condition: Expr) -> Result<Stmt, AllocError>
-    ensures { IfOk result (λ s. stmt_of s ≡ DoWhile place (stmt_of body) (expr_of condition)) }
-{
-    let body = Box::new(alloc, body)?;
-    Ok(Stmt {
-        place,
-        kind: StmtKind::DoWhile { body, condition },
-    })
 }
 
 /// Two statements, each in a box.
