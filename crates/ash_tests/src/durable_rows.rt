@@ -1,26 +1,34 @@
 //! Requests and their replies, byte for byte, of a host that is opened again, and of one whose disk fails.
 
-use crate::hosts::{new_host, replies};
+use crate::hosts::{check_text, closed, created, new_host, opened, replies};
 use ash_disk::{FuseDisk, MemoryDisk};
 use ash_durable::{Host, StoreFault};
 use ash_registry::Registry;
 use std::alloc::Global;
+use std::process::Abort;
 use std::test::Fail;
 
 const FIRST: &[u8] =
     b"load m 45\nint n = 2; int f(int k) { n += k; return n; }\ncall m f 5\nget m n\nseq\n";
 
+/// What a host replies to these requests, whose store is then opened again.
+fn again(
+    alloc: Global,
+    mut host: Host<MemoryDisk>,
+    requests: &[u8],
+) -> Result<(String, Host<MemoryDisk>), Fail> {
+    let found = replies(alloc, &mut host, requests)?;
+    let (a, b) = closed(host);
+    Ok((found, opened(alloc, a, b, Registry::new(alloc))?))
+}
+
 #[test]
 fn a_run_after_opening(rt: HostRuntime) -> Result<(), Fail> {
-    let mut host = new_host(rt.alloc(), Registry::new(rt.alloc()))?;
-    let before = replies(rt.alloc(), &mut host, FIRST)?;
-    assert_eq!(rt; before.as_str(), "ok seq 1\nok 7 seq 2\nok 7\nok 2\n");
-    let (a, b) = host.close();
-    let mut host = Host::open(rt.alloc(), a, b, Registry::new(rt.alloc())).map_err(
-        |refused| refused.fault,
-    )?;
+    let host = new_host(rt.alloc(), Registry::new(rt.alloc()))?;
+    let (before, mut host) = again(rt.alloc(), host, FIRST)?;
+    check_text(&rt, &before, "ok seq 1\nok 7 seq 2\nok 7\nok 2\n", "before");
     let after = replies(rt.alloc(), &mut host, b"get m n\nseq\ncall m f 1\n")?;
-    assert_eq!(rt; after.as_str(), "ok 7\nok 2\nok 8 seq 3\n");
+    check_text(&rt, &after, "ok 7\nok 2\nok 8 seq 3\n", "after");
     Ok(())
 }
 
@@ -28,7 +36,7 @@ fn a_run_after_opening(rt: HostRuntime) -> Result<(), Fail> {
 fn fused(alloc: Global, calls: u64) -> Result<Host<FuseDisk<MemoryDisk>>, StoreFault> {
     let a = FuseDisk::new(MemoryDisk::new(alloc), calls);
     let b = FuseDisk::new(MemoryDisk::new(alloc), u64::MAX);
-    Host::create(alloc, a, b, Registry::new(alloc)).map_err(|refused| refused.fault)
+    created(alloc, a, b, Registry::new(alloc))
 }
 
 /// How many calls of the first disk the making of a store takes.
@@ -43,22 +51,47 @@ fn calls_of_create(alloc: Global) -> Result<u64, Fail> {
     Err(Fail::new("no fuse is long enough"))
 }
 
+/// What is replied where the first disk fails after so many calls beyond those that make the store.
+static ROWS: [(u64, &str); 5] = [
+    (
+        0,
+        "refused 507 DeviceFailed\nrefused 508 Reopen\nrefused 508 Reopen\nok 0\n",
+    ),
+    (
+        1,
+        "refused 507 DeviceFailed\nrefused 508 Reopen\nrefused 508 Reopen\nok 0\n",
+    ),
+    (
+        2,
+        "ok seq 1\nrefused 507 DeviceFailed\nrefused 508 Reopen\nok 1\n",
+    ),
+    (
+        3,
+        "ok seq 1\nrefused 507 DeviceFailed\nrefused 508 Reopen\nok 1\n",
+    ),
+    (4, "ok seq 1\nok 7 seq 2\nok 7\nok 2\n"),
+];
+
+/// Compares what is replied where the first disk fails after so many calls.
+fn check_fused(
+    rt: &impl Abort,
+    alloc: Global,
+    made: u64,
+    calls: u64,
+    wanted: &str,
+) -> Result<(), Fail> {
+    let mut host = fused(alloc, made.saturating_add(calls))?;
+    let found = replies(alloc, &mut host, FIRST)?;
+    let what = format!(in alloc; "after {calls} calls")?;
+    check_text(rt, &found, wanted, &what);
+    Ok(())
+}
+
 #[test]
 fn each_call_of_the_first_disk_fails_in_turn(rt: HostRuntime) -> Result<(), Fail> {
     let made = calls_of_create(rt.alloc())?;
-    let not_loaded = "refused 507 DeviceFailed\nrefused 508 Reopen\nrefused 508 Reopen\nok 0\n";
-    let not_called = "ok seq 1\nrefused 507 DeviceFailed\nrefused 508 Reopen\nok 1\n";
-    let rows = [
-        (0, not_loaded),
-        (1, not_loaded),
-        (2, not_called),
-        (3, not_called),
-        (4, "ok seq 1\nok 7 seq 2\nok 7\nok 2\n"),
-    ];
-    for (calls, expected) in rows {
-        let mut host = fused(rt.alloc(), made.saturating_add(calls))?;
-        let replies = replies(rt.alloc(), &mut host, FIRST)?;
-        assert_eq!(rt; replies.as_str(), expected, "after {calls} calls");
+    for (calls, wanted) in &ROWS {
+        check_fused(&rt, rt.alloc(), made, *calls, wanted)?;
     }
     Ok(())
 }

@@ -1,8 +1,9 @@
 //! Sources that are no script, and what is replied to them.
 
-use crate::hosts::loaded;
+use crate::hosts::{check_text, loaded};
 use ash_registry::Registry;
 use std::alloc::{AllocError, Global};
+use std::process::Abort;
 use std::test::Fail;
 
 /// `int f() { return 1; }` with so many brackets round the number.
@@ -15,47 +16,61 @@ fn bracketed(alloc: Global, count: usize) -> Result<Vec<u8>, AllocError> {
     Ok(source)
 }
 
+/// Compares what is replied to a load of this source where nothing is registered.
+fn check_loaded(
+    rt: &impl Abort,
+    alloc: Global,
+    source: &[u8],
+    wanted: &str,
+    what: &str,
+) -> Result<(), Fail> {
+    let reply = loaded(alloc, Registry::new(alloc), source)?;
+    check_text(rt, &reply, wanted, what);
+    Ok(())
+}
+
+static FAULTS: [(&str, &str); 8] = [
+    ("int f( {", "refused 104 Unexpected 7\n"),
+    ("float x;", "refused 105 Unsupported float 0\n"),
+    ("class A : I { }", "refused 105 Unsupported interface 8\n"),
+    ("int \"", "refused 101 BadCharacter 4\n"),
+    ("/* x", "refused 102 UnclosedComment 0\n"),
+    ("class A { }", "refused 199 NotYet\n"),
+    ("class A { } int f( {", "refused 104 Unexpected 19\n"),
+    ("int f() { return 0x10; } // sixteen", "ok seq 1\n"),
+];
+
 #[test]
 fn the_first_fault_is_reported(rt: HostRuntime) -> Result<(), Fail> {
-    for (source, expected) in [
-        ("int f( {", "refused 104 Unexpected 7\n"),
-        ("float x;", "refused 105 Unsupported float 0\n"),
-        ("class A : I { }", "refused 105 Unsupported interface 8\n"),
-        ("int \"", "refused 101 BadCharacter 4\n"),
-        ("/* x", "refused 102 UnclosedComment 0\n"),
-        ("class A { }", "refused 199 NotYet\n"),
-        ("class A { } int f( {", "refused 104 Unexpected 19\n"),
-        ("int f() { return 0x10; } // sixteen", "ok seq 1\n"),
-    ] {
-        let reply = loaded(rt.alloc(), Registry::new(rt.alloc()), source.as_bytes())?;
-        assert_eq!(rt; reply.as_str(), expected, "to {source}");
+    for (source, wanted) in &FAULTS {
+        check_loaded(&rt, rt.alloc(), source.as_bytes(), wanted, source)?;
     }
     Ok(())
 }
 
 #[test]
 fn the_first_token_too_deep_is_reported(rt: HostRuntime) -> Result<(), Fail> {
-    let alloc = rt.alloc();
-    for (count, expected) in [
-        (16, "ok seq 1\n"),
-        (63, "refused 199 NotYet\n"),
-        (64, "refused 106 TooDeep 81\n"),
-    ] {
-        let reply = loaded(alloc, Registry::new(alloc), &bracketed(alloc, count)?)?;
-        assert_eq!(rt; reply.as_str(), expected, "to {count} brackets");
-    }
-    Ok(())
+    check_brackets(&rt, rt.alloc(), 16, "ok seq 1\n")?;
+    check_brackets(&rt, rt.alloc(), 63, "refused 199 NotYet\n")?;
+    check_brackets(&rt, rt.alloc(), 64, "refused 106 TooDeep 81\n")
+}
+
+/// Compares what is replied to a number in so many brackets.
+fn check_brackets(rt: &impl Abort, alloc: Global, count: usize, wanted: &str) -> Result<(), Fail> {
+    let what = format!(in alloc; "to {count} brackets")?;
+    let source = bracketed(alloc, count)?;
+    check_loaded(rt, alloc, &source, wanted, &what)
 }
 
 #[test]
 fn the_longest_source_loads(rt: HostRuntime) -> Result<(), Fail> {
-    let alloc = rt.alloc();
-    for (length, expected) in [
-        (65_536usize, "ok seq 1\n"),
-        (65_537, "refused 107 SourceTooLong\n"),
-    ] {
-        let reply = loaded(alloc, Registry::new(alloc), &vec![in alloc; b' '; length]?)?;
-        assert_eq!(rt; reply.as_str(), expected, "to {length} blanks");
-    }
-    Ok(())
+    check_blanks(&rt, rt.alloc(), 65_536, "ok seq 1\n")?;
+    check_blanks(&rt, rt.alloc(), 65_537, "refused 107 SourceTooLong\n")
+}
+
+/// Compares what is replied to so many blanks.
+fn check_blanks(rt: &impl Abort, alloc: Global, length: usize, wanted: &str) -> Result<(), Fail> {
+    let what = format!(in alloc; "to {length} blanks")?;
+    let source = vec![in alloc; b' '; length]?;
+    check_loaded(rt, alloc, &source, wanted, &what)
 }

@@ -1,6 +1,5 @@
-//! Tests that cross crates: requests served from bytes to bytes, with the replies that were worked out by hand, the
-//! calls of a host, stores on two disks, and the kinds of host objects. It has tests alone, so that the crates with the
-//! code are proved once.
+//! Tests of serving: requests served from bytes to bytes, with the replies that were worked out by hand, and stores with
+//! what the program registers. It has tests alone, so that the crates with the code are proved once.
 //!
 //! `hosts` makes the hosts of the others and has them serve requests.
 #![tactic(auto)]
@@ -10,18 +9,12 @@ mod durable_rows;
 #[cfg(test)]
 mod grammar;
 #[cfg(test)]
-mod host;
-#[cfg(test)]
 mod hosts;
-#[cfg(test)]
-mod kinds;
 #[cfg(test)]
 mod registered;
 #[cfg(test)]
 mod rows;
 #[cfg(test)]
 mod serving;
-#[cfg(test)]
-mod store;
 #[cfg(test)]
 mod typing;

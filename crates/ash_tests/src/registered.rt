@@ -1,14 +1,23 @@
-//! Stores with what is registered: the text in their bytes, and opening them with another registry.
+//! Stores with what the program registers: the text in their bytes, and opening them with another registry.
 
-use crate::store::EMPTY;
+use crate::hosts::{check, closed, new_host, opened};
 use ash_disk::MemoryDisk;
-use ash_durable::{Host, OpenRefused, StoreFault};
+use ash_durable::{Host, StoreFault};
 use ash_host::Word;
 use ash_meaning::refusal::Refusal;
 use ash_registry::{Registry, RegistryFault};
 use ash_serve::program::registrations::registrations;
 use std::alloc::{AllocError, Global};
+use std::process::Abort;
 use std::test::Fail;
+
+/// The file of a host that has no module, nothing registered, and has answered no request.
+static EMPTY: [u8; 51] = [
+    0x01, 0x41, 0x53, 0x48, 0x4f, 0x53, 0x54, 0x30, 0x31, 0x01, 0x00, 0x00, 0x00, 0x00, 0x00, 0x00,
+    0x00, 0x1d, 0x00, 0x00, 0x00, 0x01, 0x00, 0x00, 0x00, 0x00, 0x00, 0x00, 0x00, 0x00, 0x00, 0x00,
+    0x00, 0x00, 0x00, 0x00, 0x00, 0x00, 0x00, 0x00, 0x00, 0x00, 0x00, 0x00, 0x00, 0x00, 0x00, 0x00,
+    0x00, 0x00, 0x00,
+];
 
 /// The text of the program's registrations.
 const TEXT: &[u8] =
@@ -21,33 +30,19 @@ fn one_more(alloc: Global) -> Result<Registry, RegistryFault> {
     Ok(registry)
 }
 
-/// One type, of this name.
-fn one_type(alloc: Global, name: &str) -> Result<Registry, RegistryFault> {
-    let mut registry = Registry::new(alloc);
-    registry.object_type(name, 1)?;
-    Ok(registry)
-}
-
 fn disk(alloc: Global, bytes: &[u8]) -> Result<MemoryDisk, AllocError> {
     MemoryDisk::with_bytes(alloc, bytes)
 }
 
-fn ready(
-    outcome: Result<Host<MemoryDisk>, OpenRefused<MemoryDisk>>,
-) -> Result<Host<MemoryDisk>, StoreFault> {
-    outcome.map_err(|refused| refused.fault)
-}
-
-/// A new store with this registry.
-fn made(alloc: Global, registry: Registry) -> Result<Host<MemoryDisk>, Fail> {
-    let host = Host::create(alloc, disk(alloc, &[])?, disk(alloc, &[])?, registry);
-    Ok(ready(host)?)
+/// A new store with the program's registrations.
+fn made(alloc: Global) -> Result<Host<MemoryDisk>, Fail> {
+    Ok(new_host(alloc, registrations(alloc)?)?)
 }
 
 /// Why a store of this file isn't opened with a registry, if it isn't. The disks read as before.
 fn refusal(alloc: Global, file: &[u8], registry: Registry) -> Result<Option<StoreFault>, Fail> {
-    let opened = Host::open(alloc, disk(alloc, file)?, disk(alloc, &[0])?, registry);
-    let Err(refused) = opened else {
+    let (a, b) = (disk(alloc, file)?, disk(alloc, &[0])?);
+    let Err(refused) = Host::open(alloc, a, b, registry) else {
         return Ok(None);
     };
     if refused.a.bytes() != file || refused.b.bytes() != [0].as_slice() {
@@ -56,106 +51,176 @@ fn refusal(alloc: Global, file: &[u8], registry: Registry) -> Result<Option<Stor
     Ok(Some(refused.fault))
 }
 
-/// A file with another byte at a place.
-fn with_byte(alloc: Global, file: &[u8], place: usize, byte: u8) -> Result<Vec<u8>, AllocError> {
-    let mut changed = Vec::from_slice(alloc, file)?;
-    if let Some(old) = changed.get_mut(place) {
-        *old = byte;
-    }
-    Ok(changed)
+fn refusal_with_none(alloc: Global, file: &[u8]) -> Result<Option<StoreFault>, Fail> {
+    refusal(alloc, file, Registry::new(alloc))
+}
+
+fn refusal_with_program(alloc: Global, file: &[u8]) -> Result<Option<StoreFault>, Fail> {
+    refusal(alloc, file, registrations(alloc)?)
+}
+
+/// Loads a source as the module `m`.
+fn load(host: &mut Host<MemoryDisk>, source: &str) -> Result<u64, Refusal> {
+    host.load("m", source.as_bytes(), 1000)
+        .map(|answer| answer.seq)
+}
+
+/// The number of a host, and its global `n`.
+fn state(host: &Host<MemoryDisk>) -> (u64, Option<i32>) {
+    let number = match host.global("m", "n") {
+        Ok(Word::Int(number)) => Some(number),
+        _ => None,
+    };
+    (host.seq(), number)
+}
+
+fn reopened(host: Host<MemoryDisk>) -> Result<Host<MemoryDisk>, StoreFault> {
+    host.reopen().map_err(|refused| refused.fault)
+}
+
+/// The file of an empty store with that text: its image is longer by the text, which comes after its length, and the rest
+/// is that of an empty store.
+fn with_text(alloc: Global) -> Result<Vec<u8>, AllocError> {
+    let mut file = Vec::from_slice(alloc, &EMPTY[..17])?;
+    file.push(0x1d + 191)?;
+    file.extend_from_slice(&EMPTY[18..23])?;
+    file.push(191)?;
+    file.extend_from_slice(&EMPTY[24..27])?;
+    file.extend_from_slice(TEXT)?;
+    file.extend_from_slice(&EMPTY[27..])?;
+    Ok(file)
 }
 
 #[test]
 fn the_text_in_a_new_store(rt: HostRuntime) -> Result<(), Fail> {
-    let (first, second) = made(rt.alloc(), registrations(rt.alloc())?)?.close();
-    // The image is longer by the text, which comes after its length, and the rest is that of an empty store.
-    let longer = with_byte(rt.alloc(), &EMPTY, 17, 0x1d + 191)?;
-    let mut expected = with_byte(rt.alloc(), &longer, 23, 191)?;
-    expected.truncate(27);
-    expected.extend_from_slice(TEXT)?;
-    expected.extend_from_slice(&EMPTY[27..])?;
-    assert_eq!(rt; first.bytes(), expected.as_slice());
-    assert_eq!(rt; second.bytes(), [0].as_slice());
+    let (first, second) = closed(made(rt.alloc())?);
+    let wanted = with_text(rt.alloc())?;
+    check(&rt, &first.bytes(), &wanted.as_slice(), "the first disk");
+    check(&rt, &second.bytes(), &[0].as_slice(), "the second disk");
     Ok(())
+}
+
+/// The disks of a store with the program's registrations and a module, which were handed back where it was opened with
+/// one method more.
+fn refused_disks(rt: &impl Abort, alloc: Global) -> Result<(MemoryDisk, MemoryDisk), Fail> {
+    let mut host = made(alloc)?;
+    load(&mut host, "int n = 2;")?;
+    let (first, second) = closed(host);
+    match Host::open(alloc, first, second, one_more(alloc)?) {
+        Ok(_) => Err("opened with another registry".into()),
+        Err(refused) => {
+            check(rt, &refused.fault, &StoreFault::OtherInterface, "one more");
+            Ok((refused.a, refused.b))
+        }
+    }
 }
 
 #[test]
 fn one_more_method_is_another_interface(rt: HostRuntime) -> Result<(), Fail> {
     let alloc = rt.alloc();
-    let mut host = made(alloc, registrations(alloc)?)?;
-    host.load("m", b"int n = 2;", 1000)?;
-    let (first, second) = host.close();
-    let Err(closed) = Host::open(alloc, first, second, one_more(alloc)?) else {
-        return Err("opened with another registry".into());
-    };
-    assert_eq!(rt; closed.fault, StoreFault::OtherInterface);
-    let host = ready(Host::open(alloc, closed.a, closed.b, registrations(alloc)?))?;
-    assert_eq!(rt; host.seq(), 1);
-    assert!(rt; matches!(host.global("m", "n"), Ok(Word::Int(2))));
+    let (first, second) = refused_disks(&rt, alloc)?;
+    let host = opened(alloc, first, second, registrations(alloc)?)?;
+    check(&rt, &state(&host), &(1, Some(2)), "opened with its own");
     // Nothing registered is another interface too, the other way round as well.
-    let (first, _) = host.close();
+    let (first, _) = closed(host);
     let other = Some(StoreFault::OtherInterface);
-    assert_eq!(rt; refusal_with_none(alloc, first.bytes())?, other);
-    assert_eq!(rt; refusal(alloc, &EMPTY, registrations(alloc)?)?, other);
-    assert_eq!(rt; refusal_with_none(alloc, &EMPTY)?, None);
-    Ok(())
-}
-
-fn refusal_with_none(alloc: Global, file: &[u8]) -> Result<Option<StoreFault>, Fail> {
-    refusal(alloc, file, Registry::new(alloc))
-}
-
-#[test]
-fn damage_before_the_interface_and_after_it(rt: HostRuntime) -> Result<(), Fail> {
-    let alloc = rt.alloc();
-    let mut host = made(alloc, one_type(alloc, "Tall")?)?;
-    host.load("m", b"int Tale = 2;", 1000)?;
-    let (first, _) = host.close();
-    let file = first.bytes();
-    let other = Some(StoreFault::OtherInterface);
-    let damaged = Some(StoreFault::Damaged(0));
-    assert_eq!(rt; refusal(alloc, file, one_type(alloc, "Tall")?)?, None);
-    assert_eq!(rt; refusal(alloc, file, one_type(alloc, "Tale")?)?, other);
-    // Cut short, the file is damaged for every registry.
-    let mut cut = Vec::from_slice(alloc, file)?;
-    cut.truncate(80);
-    assert_eq!(rt; refusal(alloc, &cut, one_type(alloc, "Tall")?)?, damaged);
-    assert_eq!(rt; refusal(alloc, &cut, one_type(alloc, "Tale")?)?, damaged);
-    // With the text `type Tale 1` its source declares what is registered, which that registry alone can find.
-    let taken = with_byte(alloc, file, 35, b'e')?;
-    assert_eq!(rt; refusal(alloc, &taken, one_type(alloc, "Tale")?)?, damaged);
-    assert_eq!(rt; refusal(alloc, &taken, one_type(alloc, "Tall")?)?, other);
-    // A text that isn't UTF-8.
-    let no_text = with_byte(alloc, file, 35, 0xff)?;
-    assert_eq!(rt;
-        refusal(alloc, &no_text, one_type(alloc, "Tall")?)?,
-        damaged
+    check(
+        &rt,
+        &refusal_with_none(alloc, first.bytes())?,
+        &other,
+        "with none",
+    );
+    check(
+        &rt,
+        &refusal_with_program(alloc, &EMPTY)?,
+        &other,
+        "an empty one",
+    );
+    check(
+        &rt,
+        &refusal_with_none(alloc, &EMPTY)?,
+        &None,
+        "an empty one with none",
     );
     Ok(())
+}
+
+static TAKEN: [&str; 3] = [
+    "int tally = 1;",
+    "int Counter = 1;",
+    "int total() { return 1; }",
+];
+
+#[test]
+fn a_handle_to_no_object_before_the_interface(rt: HostRuntime) -> Result<(), Fail> {
+    let alloc = rt.alloc();
+    let mut host = made(alloc, one_type(alloc, "Tall")?)?;
+    host.load("m", b"int n = 2;", 1000)?;
+    let (first, _) = host.close();
+    let file = first.bytes();
+    // The word of the global, before the number of objects and the gate.
+    let at = file.len() - 10;
+    assert_eq!(rt; &file[at..at + 5], [1, 2, 0, 0, 0].as_slice());
+    let other = Some(StoreFault::OtherInterface);
+    let damaged = Some(StoreFault::Damaged(0));
+    // Object 9 is none of the image's, whatever is registered.
+    let object = with_word(alloc, file, at, file[17] + 4, &[6, 9, 0, 0, 0, 0, 0, 0, 0])?;
+    assert_eq!(rt; refusal(alloc, &object, one_type(alloc, "Tall")?)?, damaged);
+    assert_eq!(rt; refusal(alloc, &object, one_type(alloc, "Tale")?)?, damaged);
+    // Null is a word of a store, and none of an `int`.
+    let null = with_word(alloc, file, at, file[17] - 4, &[5])?;
+    assert_eq!(rt; refusal(alloc, &null, one_type(alloc, "Tall")?)?, damaged);
+    assert_eq!(rt; refusal(alloc, &null, one_type(alloc, "Tale")?)?, other);
+    Ok(())
+}
+
+/// A file with another word in the place of an `int`, and another length of its image.
+fn with_word(
+    alloc: Global,
+    file: &[u8],
+    at: usize,
+    length: u8,
+    word: &[u8],
+) -> Result<Vec<u8>, AllocError> {
+    let mut changed = with_byte(alloc, file, 17, length)?;
+    changed.truncate(at);
+    changed.extend_from_slice(word)?;
+    changed.extend_from_slice(&file[at + 5..])?;
+    Ok(changed)
 }
 
 #[test]
 fn a_registered_name_is_taken(rt: HostRuntime) -> Result<(), Fail> {
-    let alloc = rt.alloc();
-    let mut host = made(alloc, registrations(alloc)?)?;
-    for source in [
-        "int tally = 1;",
-        "int Counter = 1;",
-        "int total() { return 1; }",
-    ] {
-        let refused = host.load("m", source.as_bytes(), 1000).err();
-        assert_eq!(rt; refused, Some(Refusal::NameTaken { at: 4 }), "{source}");
+    let mut host = made(rt.alloc())?;
+    for source in &TAKEN {
+        check(
+            &rt,
+            &load(&mut host, source),
+            &Err(Refusal::NameTaken { at: 4 }),
+            source,
+        );
     }
     // A host that is opened again has what was registered.
-    let mut host = ready(host.reopen())?;
-    assert!(rt;
-        matches!(
-            host.load("m", b"int tally = 1;", 1000),
-            Err(Refusal::NameTaken { at: 4 })
-        )
+    let mut host = reopened(host)?;
+    let taken = load(&mut host, "int tally = 1;");
+    check(
+        &rt,
+        &taken,
+        &Err(Refusal::NameTaken { at: 4 }),
+        "opened again",
     );
-    assert_eq!(rt; host.load("m", b"int add = 1;", 1000)?.seq, 1);
-    let (first, _) = host.close();
-    assert_eq!(rt; refusal(alloc, first.bytes(), registrations(alloc)?)?, None);
+    check(
+        &rt,
+        &load(&mut host, "int add = 1;"),
+        &Ok(1),
+        "another name",
+    );
+    let (first, _) = closed(host);
+    check(
+        &rt,
+        &refusal_with_program(rt.alloc(), first.bytes())?,
+        &None,
+        "its file",
+    );
     Ok(())
 }

@@ -1,15 +1,17 @@
 //! The run over slices and vectors, and over readers and writers that fail.
 
-use crate::hosts::{assert_replies, new_host, replies, served};
+use crate::hosts::{Row, check, check_rows, check_text, closed, ending, new_host, replies};
 use ash_disk::MemoryDisk;
 use ash_durable::StoreFault;
 use ash_registry::Registry;
 use ash_serve::RunFault;
+use ash_serve::program::check::end_check;
 use ash_serve::program::fault::Fault;
 use ash_serve::program::service::{serve_new, serve_stored};
-use ash_serve::run::run;
+use std::alloc::Global;
 use std::io;
 use std::io::{ErrorKind, Read, Write};
+use std::process::Abort;
 use std::test::Fail;
 
 /// Gives the bytes one by one, and fails once so many reads are done.
@@ -64,105 +66,225 @@ const INPUT: &[u8] =
 const OUTPUT: &str =
     "ok 0\nrefused 601 BadRequest\nrefused 401 NoModule\nrefused 401 NoModule\nrefused 104 Unexpected 3\nrefused 601 BadRequest\nrefused 601 BadRequest\nrefused 601 BadRequest\nok\n";
 
+static EACH_LINE: [Row; 1] = [Row {
+    budget: 1000,
+    source: None,
+    requests: INPUT,
+    replies: OUTPUT,
+    end: Ok(()),
+}];
+
 #[test]
 fn answers_each_line(rt: HostRuntime) -> Result<(), Fail> {
-    assert_replies(&rt, rt.alloc(), 1000, INPUT, OUTPUT)
+    check_rows(&rt, rt.alloc(), &EACH_LINE)
+}
+
+/// What is written where a new store is served.
+fn served_new(alloc: Global, written: &mut Vec<u8>) -> Result<(), Fault> {
+    let (a, b) = (MemoryDisk::new(alloc), MemoryDisk::new(alloc));
+    serve_new(alloc, a, b, Registry::new(alloc), INPUT, written, 1000)
+}
+
+/// What is written where the store on two disks is served.
+fn served_stored(
+    alloc: Global,
+    a: MemoryDisk,
+    b: MemoryDisk,
+    requests: &[u8],
+    written: &mut Vec<u8>,
+) -> Result<(), Fault> {
+    serve_stored(alloc, a, b, Registry::new(alloc), requests, written, 1000)
+}
+
+/// The disks of a store with a module.
+fn stored(alloc: Global) -> Result<(MemoryDisk, MemoryDisk), Fail> {
+    let mut host = new_host(alloc, Registry::new(alloc))?;
+    replies(alloc, &mut host, b"load m 10\nint n = 7;\n")?;
+    Ok(closed(host))
 }
 
 #[test]
 fn serves_a_new_store_and_one_that_is_there(rt: HostRuntime) -> Result<(), Fail> {
     let alloc = rt.alloc();
-    let (a, b) = (MemoryDisk::new(alloc), MemoryDisk::new(alloc));
     let mut written = Vec::new(alloc);
-    serve_new(alloc, a, b, Registry::new(alloc), INPUT, &mut written, 1000)?;
-    assert_eq!(rt; written.as_slice(), OUTPUT.as_bytes());
+    served_new(alloc, &mut written)?;
+    check(&rt, &written.as_slice(), &OUTPUT.as_bytes(), "a new store");
 
-    let mut host = new_host(alloc, Registry::new(alloc))?;
-    replies(alloc, &mut host, b"load m 10\nint n = 7;\n")?;
-    let (a, b) = host.close();
-    let requests = b"get m n\nseq\n".as_slice();
+    let (a, b) = stored(alloc)?;
     let mut written = Vec::new(alloc);
-    serve_stored(
-        alloc,
-        a,
-        b,
-        Registry::new(alloc),
-        requests,
-        &mut written,
-        1000,
-    )?;
-    assert_eq!(rt; written.as_slice(), b"ok 7\nok 1\n".as_slice());
-
-    let (a, b) = (MemoryDisk::new(alloc), MemoryDisk::new(alloc));
-    let mut written = Vec::new(alloc);
-    let result = serve_stored(alloc, a, b, Registry::new(alloc), INPUT, &mut written, 1000);
-    assert!(rt; matches!(result, Err(Fault::Store(StoreFault::NoGeneration))));
-    assert!(rt; written.is_empty());
+    served_stored(alloc, a, b, b"get m n\nseq\n", &mut written)?;
+    check(
+        &rt,
+        &written.as_slice(),
+        &b"ok 7\nok 1\n".as_slice(),
+        "a store that is there",
+    );
+    serves_no_store(&rt, alloc);
     Ok(())
 }
 
+/// Compares what serving tells and writes where there is no store.
+fn serves_no_store(rt: &impl Abort, alloc: Global) {
+    let (a, b) = (MemoryDisk::new(alloc), MemoryDisk::new(alloc));
+    let mut written = Vec::new(alloc);
+    let fault = match served_stored(alloc, a, b, INPUT, &mut written) {
+        Err(Fault::Store(fault)) => Some(fault),
+        _ => None,
+    };
+    let wanted = (Some(StoreFault::NoGeneration), 0);
+    check(rt, &(fault, written.len()), &wanted, "no store");
+}
+
+static CUT: [Row; 4] = [
+    Row {
+        budget: 1000,
+        source: None,
+        requests: b"seq\nse",
+        replies: "ok 0\n",
+        end: Err(RunFault::Truncated),
+    },
+    Row {
+        budget: 1000,
+        source: None,
+        requests: b"seq\nload m 4\nabc",
+        replies: "ok 0\n",
+        end: Err(RunFault::Truncated),
+    },
+    Row {
+        budget: 1000,
+        source: None,
+        requests: b"seq\nload m 3\nabc",
+        replies: "ok 0\n",
+        end: Err(RunFault::Truncated),
+    },
+    Row {
+        budget: 1000,
+        source: None,
+        requests: b"seq\nload m 3\nabcd",
+        replies: "ok 0\n",
+        end: Err(RunFault::Truncated),
+    },
+];
+
 #[test]
 fn a_cut_request_is_reported(rt: HostRuntime) -> Result<(), Fail> {
-    for requests in [
-        "seq\nse",
-        "seq\nload m 4\nabc",
-        "seq\nload m 3\nabc",
-        "seq\nload m 3\nabcd",
-    ] {
-        let mut host = new_host(rt.alloc(), Registry::new(rt.alloc()))?;
-        let (end, replies) = served(rt.alloc(), &mut host, 1000, requests.as_bytes())?;
-        assert_eq!(rt; end, Err(RunFault::Truncated), "end of {requests:?}");
-        assert_eq!(rt; replies.as_str(), "ok 0\n", "to {requests:?}");
+    check_rows(&rt, rt.alloc(), &CUT)
+}
+
+/// Compares how a run ended after so many reads or writes, and that what was written is a front of the output.
+fn check_front(
+    rt: &impl Abort,
+    left: usize,
+    found: Result<(), RunFault>,
+    wanted: RunFault,
+    written: &[u8],
+) {
+    check(rt, &(left, found), &(left, Err(wanted)), "after so many");
+    if !OUTPUT.as_bytes().starts_with(written) {
+        panic!(rt; "after {left}: {}", written.escape_ascii());
     }
+}
+
+/// Compares how a run ends whose reader fails after so many reads.
+fn check_reads(rt: &impl Abort, alloc: Global, left: usize) -> Result<(), Fail> {
+    let mut host = new_host(alloc, Registry::new(alloc))?;
+    let mut written = Vec::new(alloc);
+    let reader = Failing { bytes: INPUT, left };
+    let found = ending(alloc, reader, &mut written, &mut host, 1000);
+    check_front(rt, left, found, RunFault::Read, &written);
     Ok(())
 }
 
 #[test]
 fn a_read_that_fails_is_reported(rt: HostRuntime) -> Result<(), Fail> {
     for left in 0..79 {
-        let mut host = new_host(rt.alloc(), Registry::new(rt.alloc()))?;
-        let mut written = Vec::new(rt.alloc());
-        let reader = Failing { bytes: INPUT, left };
-        let result = run(rt.alloc(), reader, &mut written, &mut host, 1000);
-        assert_eq!(rt; result, Err(RunFault::Read), "after {left} reads");
-        let is_prefix = OUTPUT.as_bytes().starts_with(&written);
-        assert!(rt; is_prefix, "after {left} reads: {}", written.escape_ascii());
+        check_reads(&rt, rt.alloc(), left)?;
     }
+    Ok(())
+}
+
+/// Compares how a run ends whose writer fails after so many writes and flushes.
+fn check_writes(rt: &impl Abort, alloc: Global, left: usize) -> Result<(), Fail> {
+    let mut host = new_host(alloc, Registry::new(alloc))?;
+    let mut writer = Refusing {
+        bytes: Vec::new(alloc),
+        left,
+    };
+    let found = ending(alloc, INPUT, &mut writer, &mut host, 1000);
+    check_front(rt, left, found, RunFault::Write, &writer.bytes);
     Ok(())
 }
 
 #[test]
 fn a_write_that_fails_is_reported(rt: HostRuntime) -> Result<(), Fail> {
     for left in 0..150 {
-        let mut host = new_host(rt.alloc(), Registry::new(rt.alloc()))?;
-        let mut writer = Refusing {
-            bytes: Vec::new(rt.alloc()),
-            left,
-        };
-        let result = run(rt.alloc(), INPUT, &mut writer, &mut host, 1000);
-        assert_eq!(rt; result, Err(RunFault::Write), "after {left} writes");
-        let written = writer.bytes;
-        let is_prefix = OUTPUT.as_bytes().starts_with(&written);
-        assert!(rt;
-            is_prefix,
-            "after {left} writes: {}",
-            written.escape_ascii()
-        );
+        check_writes(&rt, rt.alloc(), left)?;
     }
+    Ok(())
+}
+
+static NUMBERED: [(RunFault, &str); 5] = [
+    (RunFault::Truncated, "603 Truncated"),
+    (RunFault::TooLong, "604 TooLong"),
+    (RunFault::Read, "605 Read"),
+    (RunFault::Write, "606 Write"),
+    (RunFault::NoMemory, "509 NoMemory"),
+];
+
+/// Compares how a fault is written.
+fn check_written(
+    rt: &impl Abort,
+    alloc: Global,
+    fault: RunFault,
+    wanted: &str,
+) -> Result<(), Fail> {
+    let found = format!(in alloc; "{fault}")?;
+    check_text(rt, &found, wanted, "a fault");
+    Ok(())
+}
+
+#[test]
+fn a_check_ends_with_a_line_and_a_status(rt: HostRuntime) -> Result<(), Fail> {
+    let registry = Registry::new(rt.alloc());
+    for (source, line, status) in [
+        ("int n = 2;", "ok\n", 0),
+        ("int f() { }", "refused 307 NoReturn 4\n", 1),
+    ] {
+        let mut written = Vec::new(rt.alloc());
+        let end = end_check(rt.alloc(), &registry, source.as_bytes(), &mut written);
+        assert_eq!(rt; written.as_slice(), line.as_bytes(), "of {source}");
+        assert_eq!(rt; end.status, status, "of {source}");
+        assert!(rt; end.fault.is_none(), "of {source}");
+    }
+    let unread = Failing {
+        bytes: b"int n = 2;",
+        left: 4,
+    };
+    let mut written = Vec::new(rt.alloc());
+    let end = end_check(rt.alloc(), &registry, unread, &mut written);
+    assert!(rt; matches!(end.fault, Some(Fault::Run(RunFault::Read))));
+    assert_eq!(rt; end.status, 1);
+    assert!(rt; written.is_empty());
+    let mut refusing = Refusing {
+        bytes: Vec::new(rt.alloc()),
+        left: 2,
+    };
+    let end = end_check(
+        rt.alloc(),
+        &registry,
+        b"int n = 2;".as_slice(),
+        &mut refusing,
+    );
+    assert!(rt; matches!(end.fault, Some(Fault::Run(RunFault::Write))));
+    assert_eq!(rt; end.status, 1);
+    assert_eq!(rt; refusing.bytes.as_slice(), b"ok".as_slice());
     Ok(())
 }
 
 #[test]
 fn each_fault_is_written_with_its_number(rt: HostRuntime) -> Result<(), Fail> {
-    for (fault, text) in [
-        (RunFault::Truncated, "603 Truncated"),
-        (RunFault::TooLong, "604 TooLong"),
-        (RunFault::Read, "605 Read"),
-        (RunFault::Write, "606 Write"),
-        (RunFault::NoMemory, "509 NoMemory"),
-    ] {
-        let written = format!(in rt.alloc(); "{fault}")?;
-        assert_eq!(rt; written.as_str(), text, "of {fault:?}");
+    for (fault, wanted) in &NUMBERED {
+        check_written(&rt, rt.alloc(), *fault, wanted)?;
     }
     Ok(())
 }

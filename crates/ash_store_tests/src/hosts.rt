@@ -1,0 +1,158 @@
+//! Hosts over disks in memory, and their calls. Each call of a host stands in a function of its own, which promises
+//! nothing: so its contract is seen once, and not in every test.
+
+use ash_disk::{Disk, FuseDisk, MemoryDisk, Survives};
+use ash_durable::{Host, StoreFault};
+use ash_host::Word;
+use ash_meaning::refusal::Refusal;
+use ash_meaning::request::{Answer, Argument, Reply, Request};
+use ash_registry::Registry;
+use std::alloc::{AllocError, Global};
+use std::fmt::Debug;
+use std::process::Abort;
+use std::test::Fail;
+
+pub const SOURCE: &[u8] = b"int n = 2; int f(int k) { n += k; return n; }";
+
+/// The file of a host that has no module, nothing registered, and has answered no request.
+pub static EMPTY: [u8; 51] = [
+    0x01, 0x41, 0x53, 0x48, 0x4f, 0x53, 0x54, 0x30, 0x31, 0x01, 0x00, 0x00, 0x00, 0x00, 0x00, 0x00,
+    0x00, 0x1d, 0x00, 0x00, 0x00, 0x01, 0x00, 0x00, 0x00, 0x00, 0x00, 0x00, 0x00, 0x00, 0x00, 0x00,
+    0x00, 0x00, 0x00, 0x00, 0x00, 0x00, 0x00, 0x00, 0x00, 0x00, 0x00, 0x00, 0x00, 0x00, 0x00, 0x00,
+    0x00, 0x00, 0x00,
+];
+
+/// Compares what is found with what is wanted.
+pub fn check<T: Debug + PartialEq>(rt: &impl Abort, found: &T, wanted: &T, what: &str) {
+    if *found != *wanted {
+        panic!(rt; "{what}: found {found:?}, wanted {wanted:?}");
+    }
+}
+
+/// The same of bytes.
+pub fn check_bytes(rt: &impl Abort, found: &[u8], wanted: &[u8], what: &str) {
+    if found != wanted {
+        panic!(rt; "{what}: found {found:?}, wanted {wanted:?}");
+    }
+}
+
+/// The same of texts.
+pub fn check_text(rt: &impl Abort, found: &str, wanted: &str, what: &str) {
+    if found != wanted {
+        panic!(rt; "{what}: found {found}, wanted {wanted}");
+    }
+}
+
+/// A value, written out.
+pub fn shown<T: Debug>(alloc: Global, value: &T) -> Result<String, AllocError> {
+    format!(in alloc; "{value:?}")
+}
+
+pub fn disk(alloc: Global, bytes: &[u8]) -> Result<MemoryDisk, AllocError> {
+    MemoryDisk::with_bytes(alloc, bytes)
+}
+
+/// An empty disk that fails after so many calls.
+pub fn fuse(alloc: Global, calls: u64) -> FuseDisk<MemoryDisk> {
+    FuseDisk::new(MemoryDisk::new(alloc), calls)
+}
+
+pub fn inner(disk: FuseDisk<MemoryDisk>) -> MemoryDisk {
+    disk.into_inner()
+}
+
+pub fn calls(disk: &MemoryDisk) -> usize {
+    disk.calls()
+}
+
+/// What a crash leaves of a disk, where this survives of what was not synced.
+pub fn crashed(
+    alloc: Global,
+    disk: &MemoryDisk,
+    survives: Survives,
+) -> Result<MemoryDisk, AllocError> {
+    let image = disk.crash_image(disk.calls(), survives)?;
+    MemoryDisk::with_bytes(alloc, &image)
+}
+
+/// A host with a new store on these disks, or why there is none.
+pub fn created<D: Disk + Drop>(
+    alloc: Global,
+    a: D,
+    b: D,
+    registry: Registry,
+) -> Result<Host<D>, StoreFault> {
+    Host::create(alloc, a, b, registry).map_err(|refused| refused.fault)
+}
+
+/// A host with the store on these disks, or why there is none.
+pub fn opened<D: Disk + Drop>(
+    alloc: Global,
+    a: D,
+    b: D,
+    registry: Registry,
+) -> Result<Host<D>, StoreFault> {
+    Host::open(alloc, a, b, registry).map_err(|refused| refused.fault)
+}
+
+pub fn reopened<D: Disk + Drop>(host: Host<D>) -> Result<Host<D>, StoreFault> {
+    host.reopen().map_err(|refused| refused.fault)
+}
+
+pub fn closed<D: Disk>(host: Host<D>) -> (D, D) {
+    host.close()
+}
+
+/// Loads a source as the module `m`.
+pub fn load<D: Disk>(host: &mut Host<D>, source: &[u8]) -> Result<Answer, Refusal> {
+    host.load("m", source, 1000)
+}
+
+/// Calls the function `f` of the module `m`.
+pub fn call<D: Disk>(host: &mut Host<D>, arguments: &[Argument]) -> Result<Answer, Refusal> {
+    host.call("m", "f", arguments, 1000)
+}
+
+pub fn replies_to<D: Disk>(
+    alloc: Global,
+    host: &mut Host<D>,
+    requests: &[Request],
+) -> Result<Vec<Reply>, AllocError> {
+    host.carry_out_all(alloc, requests, 1000)
+}
+
+/// A global of the module `m`.
+pub fn global<D: Disk>(host: &Host<D>, name: &str) -> Result<Word, Refusal> {
+    host.global("m", name)
+}
+
+/// How many requests have been answered.
+pub fn seq<D: Disk>(host: &Host<D>) -> u64 {
+    host.seq()
+}
+
+/// A host with a new store on such disks and nothing registered.
+pub fn made(alloc: Global, a: &[u8], b: &[u8]) -> Result<Host<MemoryDisk>, Fail> {
+    let (a, b) = (disk(alloc, a)?, disk(alloc, b)?);
+    Ok(created(alloc, a, b, Registry::new(alloc))?)
+}
+
+/// What opening a store on such disks gives, where nothing is registered: its number, or why there is no host.
+pub fn found(alloc: Global, a: &[u8], b: &[u8]) -> Result<Result<u64, StoreFault>, Fail> {
+    let (a, b) = (disk(alloc, a)?, disk(alloc, b)?);
+    Ok(opened(alloc, a, b, Registry::new(alloc)).map(|host| seq(&host)))
+}
+
+/// A host that has answered two requests, after which `n` is 7.
+pub fn used(alloc: Global) -> Result<Host<MemoryDisk>, Fail> {
+    let mut host = made(alloc, &[], &[])?;
+    load(&mut host, SOURCE)?;
+    call(&mut host, &[Argument::Number(5)])?;
+    Ok(host)
+}
+
+/// The first disk of that host.
+pub fn used_file(alloc: Global) -> Result<MemoryDisk, Fail> {
+    let (first, _) = closed(used(alloc)?);
+    Ok(first)
+}
