@@ -33,8 +33,18 @@ const ONE_MODULE: [u8; 65] = [
     0x00,
 ];
 
-/// The image of a module `_a9` with no source, whose globals hold one word of each type, after 258 requests.
-const EACH_WORD: [u8; 79] = [
+/// The image of a module `_a9` with no source, whose globals hold one word of each type but a handle to an object, after
+/// 258 requests.
+const EACH_WORD: [u8; 70] = [
+    0x01, 0x00, 0x00, 0x00, 0x00, 0x00, 0x02, 0x01, 0x00, 0x00, 0x00, 0x00, 0x00, 0x00, 0x00, 0x00,
+    0x00, 0x00, 0x00, 0x00, 0x00, 0x00, 0x00, 0x00, 0x01, 0x03, 0x5f, 0x61, 0x39, 0x00, 0x00, 0x00,
+    0x00, 0x06, 0x00, 0x00, 0x01, 0x01, 0x00, 0x00, 0x00, 0x80, 0x02, 0xff, 0xff, 0xff, 0xff, 0x03,
+    0xff, 0xff, 0xff, 0xff, 0xff, 0xff, 0xff, 0x7f, 0x04, 0x00, 0x00, 0x00, 0x00, 0x00, 0x00, 0x00,
+    0x80, 0x05, 0x00, 0x00, 0x00, 0x00,
+];
+
+/// The same with a seventh global, a handle to the object 9. An image has no objects, so it is none.
+const WITH_A_HANDLE: [u8; 79] = [
     0x01, 0x00, 0x00, 0x00, 0x00, 0x00, 0x02, 0x01, 0x00, 0x00, 0x00, 0x00, 0x00, 0x00, 0x00, 0x00,
     0x00, 0x00, 0x00, 0x00, 0x00, 0x00, 0x00, 0x00, 0x01, 0x03, 0x5f, 0x61, 0x39, 0x00, 0x00, 0x00,
     0x00, 0x07, 0x00, 0x00, 0x01, 0x01, 0x00, 0x00, 0x00, 0x80, 0x02, 0xff, 0xff, 0xff, 0xff, 0x03,
@@ -56,6 +66,10 @@ fn one_module() -> &'static [u8] {
 
 fn each_word_image() -> &'static [u8] {
     &EACH_WORD
+}
+
+fn image_with_a_handle() -> &'static [u8] {
+    &WITH_A_HANDLE
 }
 
 /// What a file holds.
@@ -212,8 +226,7 @@ fn is_each_word(words: &[Word]) -> bool {
             Word::Uint(u32::MAX),
             Word::Int64(i64::MAX),
             Word::Uint64(0x8000_0000_0000_0000),
-            Word::Null,
-            Word::Object(9)
+            Word::Null
         ]
     )
 }
@@ -234,8 +247,10 @@ fn each_word(rt: HostRuntime) -> Result<(), Fail> {
 fn no_image(rt: HostRuntime) -> Result<(), Fail> {
     let alloc = rt.alloc();
     check_true(&rt, !is_image(alloc, &[])?, "no bytes");
-    let image = cut(each_word_image(), 78);
+    let image = cut(each_word_image(), 69);
     check_true(&rt, !is_image(alloc, image)?, "a byte less");
+    let is_handle = is_image(alloc, image_with_a_handle())?;
+    check_true(&rt, !is_handle, "a handle to no object");
     // The truth value is neither 0 nor 1, and then its tag is no tag.
     let image = changed(alloc, each_word_image(), 36, 2)?;
     check_true(&rt, !is_image(alloc, &image)?, "the truth value 2");

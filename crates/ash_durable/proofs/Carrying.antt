@@ -1,5 +1,6 @@
 -- What one request of a host does, by what its state did and what was kept.
 use Rattle.std.proofs.Common.{◌≡◌, inl, inr, ℕ, false, Option, Some, None, is_some, unwrap_or, Result, Ok, Err, IfOk, OnErr, refl, sym, ◌∙◌, ap, subst}
+use Rattle.ash_disk.specs.Device.{Device}
 use Rattle.ash_meaning.specs.declared.refusal.Refusal as code
 use Rattle.ash_meaning.specs.declared.refusal.Refusal.TheVariants as saving
 use Rattle.ash_meaning.specs.Refusals.{Refusal}
@@ -7,7 +8,7 @@ use Rattle.ash_meaning.specs.Refusals as refusals
 use Rattle.ash_meaning.specs.declared.request.Answer.{Answer}
 use Rattle.ash_meaning.specs.State.{State, Request, Reply, Answered, Value, Number, Refused, answered, answer_of}
 use Rattle.ash_meaning.specs.Step.{Steps, step}
-use Rattle.ash_durable.specs.Hosting.{Device, Hosted, state_unless, IsRunning, IsSaved, LeavesFilesOf, LeavesClosed, WroteFile, IsAnswer, WasLost, TellsFailures, Keeps, Carries}
+use Rattle.ash_durable.specs.Hosting.{Hosted, state_unless, IsRunning, IsSaved, LeavesFilesOf, LeavesClosed, WroteFile, IsAnswer, WasLost, TellsFailures, Keeps, Carries}
 use Rattle.ash_durable.proofs.Answering.{LeavesState, steps-fine, steps-registered}
 use Rattle.ash_durable.proofs.Opened.{runs_in, saved_in}
 

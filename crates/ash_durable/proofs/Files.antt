@@ -3,14 +3,14 @@ use Rattle.std.proofs.Common.{◌≡◌, inr, ℕ, ◌+◌, ◌≤◌, List, [],
 use Rattle.std.specs.Prelude.{slice_index}
 use Rattle.std.specs.Bool.{IsTrue}
 use Rattle.std.specs.List.{AllByRecursion}
-use Rattle.ash_disk.specs.Image.{after_write, Only}
+use Rattle.ash_disk.specs.Device.{Device, IsDurable, IsOnlyRead}
+use Rattle.ash_disk.specs.Image.{after_write}
 use Rattle.ash_image.specs.Image.{IsFile, IsClosed, FitsFile, file_of, shut_gate}
 use Rattle.ash_meaning.specs.Kept.{Admits, IsAdmitted, state_in, scripts_in}
 use Rattle.ash_meaning.specs.State.{State, Script}
 use Rattle.ash_meaning.specs.Step.{most_modules}
 use Rattle.ash_meaning.specs.declared.kept.ModuleParts.{ModuleParts}
-use Rattle.ash_durable.specs.Hosting.{Device, LeavesFilesOf, LeavesClosed, snapshot_of}
-use Rattle.ash_durable.specs.Store.{OnlyRead}
+use Rattle.ash_durable.specs.Hosting.{LeavesFilesOf, LeavesClosed, snapshot_of}
 
 -- a state that is written by its parts
 pub admitted_in : (parts : Option ModuleParts) (seq : ℕ) (state : State) → scripts_in parts ≡ state.modules → Admits state → Admits (state_in state.registered parts seq)
@@ -28,13 +28,13 @@ pub written_file : (state : State) (old image : List ℕ) → FitsFile (snapshot
 written_file state old image fits is = (fits, drop (0 + length (file_of (snapshot_of state))) old, is)
 
 -- so it is on the disk
-pub leaves_file : {D : Type 0} (device : Device D) (state : State) (old new : D) → FitsFile (snapshot_of state) → (IsTrue (device.honest old) → device.seen new ≡ after_write (device.seen old) 0 (file_of (snapshot_of state))) → (IsTrue (device.honest old) → Only (device.seen new) (device.leaves new (device.clock new))) → device.honest new ≡ device.honest old → LeavesFilesOf device state new
+pub leaves_file : {D : Type 0} (device : Device D) (state : State) (old new : D) → FitsFile (snapshot_of state) → (IsTrue (device.honest old) → device.seen new ≡ after_write (device.seen old) 0 (file_of (snapshot_of state))) → (IsTrue (device.honest old) → IsDurable device new) → device.honest new ≡ device.honest old → LeavesFilesOf device state new
 leaves_file device state old new fits written only same honest image left =
     let was : IsTrue (device.honest old) = subst IsTrue same honest in
     written_file state (device.seen old) image fits (only was image left ∙ written was)
 
 -- and so is a shut gate
-pub leaves_closed : {D : Type 0} (device : Device D) (old new : D) → (IsTrue (device.honest old) → device.seen new ≡ after_write (device.seen old) 0 (shut_gate ∷ [])) → (IsTrue (device.honest old) → Only (device.seen new) (device.leaves new (device.clock new))) → device.honest new ≡ device.honest old → LeavesClosed device new
+pub leaves_closed : {D : Type 0} (device : Device D) (old new : D) → (IsTrue (device.honest old) → device.seen new ≡ after_write (device.seen old) 0 (shut_gate ∷ [])) → (IsTrue (device.honest old) → IsDurable device new) → device.honest new ≡ device.honest old → LeavesClosed device new
 leaves_closed device old new written only same honest image left =
     let was : IsTrue (device.honest old) = subst IsTrue same honest in
     shut_closed (device.seen old) image (only was image left ∙ written was)
@@ -45,6 +45,6 @@ on_ok (Ok x) a b f = f a b
 on_ok (Err e) a b f = tt
 
 -- a file that was written after calls that only read
-pub written_since : {D : Type 0} (device : Device D) (old middle new : D) (file : List ℕ) → OnlyRead device old middle → (IsTrue (device.honest middle) → device.seen new ≡ after_write (device.seen middle) 0 file) → IsTrue (device.honest old) → device.seen new ≡ after_write (device.seen old) 0 file
+pub written_since : {D : Type 0} (device : Device D) (old middle new : D) (file : List ℕ) → IsOnlyRead device old middle → (IsTrue (device.honest middle) → device.seen new ≡ after_write (device.seen middle) 0 file) → IsTrue (device.honest old) → device.seen new ≡ after_write (device.seen old) 0 file
 written_since device old middle new file read written honest =
     written (subst IsTrue (sym read.honesty) honest) ∙ ap (λ (l : List ℕ). after_write l 0 file) (read.seen honest)

@@ -3,8 +3,10 @@ use Rattle.std.proofs.Common.{◌≡◌, ◌⊎◌, inl, inr, ℕ, ◌≤◌, �
 use Rattle.std.specs.Prelude.{slice_index, string_bytes, IfSome}
 use Rattle.std.specs.Bool.{IsTrue}
 use Rattle.std.proofs.lemmas.Bool.{cases_lt}
+use Rattle.ash_disk.specs.Device.{Device, IsOnlyRead}
 use Rattle.ash_disk.specs.Failures.{Rose}
-use Rattle.ash_disk.proofs.MomentLaws.{at_end, goes_on, weaker}
+use Rattle.ash_disk.proofs.DeviceLaws.{read_on}
+use Rattle.ash_disk.proofs.MomentLaws.{at_end}
 use Rattle.ash_image.specs.Image.{Snapshot, IsFile, IsClosed, held, snapshot_read}
 use Rattle.ash_image.specs.declared.image.FileContent.{FileContent}
 use Rattle.ash_image.specs.declared.image.FileContent.TheVariants as contents
@@ -13,8 +15,8 @@ use Rattle.ash_meaning.specs.Kept.{Admits, scripts_of, state_of}
 use Rattle.ash_meaning.specs.State.{State}
 use Rattle.ash_registry.specs.Text.{text_of}
 use Rattle.ash_registry.specs.Calls.{Call}
-use Rattle.ash_durable.specs.Hosting.{Device, snapshot_of}
-use Rattle.ash_durable.specs.Store.{OnlyRead, NoneFailed, IsStateOf, IsDamaged, IsOfOthers, TellsRead, TellsState, Finds}
+use Rattle.ash_durable.specs.Hosting.{snapshot_of}
+use Rattle.ash_durable.specs.Store.{NoneFailed, IsStateOf, IsDamaged, IsOfOthers, TellsRead, TellsState, Finds}
 use Rattle.ash_durable.specs.declared.fault.StoreFault.{StoreFault}
 use Rattle.ash_durable.specs.declared.fault.StoreFault.TheVariants as faults
 
@@ -68,38 +70,28 @@ closed_when bytes tells = elim (gate_or bytes) [
 ]
 
 -- what a crash may leave after calls that only read
-pub images_left : {D : Type 0} (device : Device D) (old new : D) → OnlyRead device old new → IsTrue (device.honest old) → (image : List ℕ) → device.leaves new (device.clock new) image → device.leaves old (device.clock old) image
+pub images_left : {D : Type 0} (device : Device D) (old new : D) → IsOnlyRead device old new → IsTrue (device.honest old) → (image : List ℕ) → device.leaves new (device.clock new) image → device.leaves old (device.clock old) image
 images_left device old new read honest image left = at_end (device.clock old) (device.clock new) (device.leaves old) (device.leaves new) (device.leaves old (device.clock old)) (read.moments honest) image left
 
--- more calls that only read
-pub reads_on : {D : Type 0} (device : Device D) (old middle new : D) → OnlyRead device old middle → OnlyRead device middle new → OnlyRead device old new
-reads_on device old middle new one other = record {
-  honesty = other.honesty ∙ one.honesty;
-  seen = λ honest. other.seen (subst IsTrue (sym one.honesty) honest) ∙ one.seen honest;
-  moments = λ honest.
-      goes_on (device.clock old) (device.clock middle) (device.clock new) (device.leaves old) (device.leaves middle) (device.leaves new) (device.leaves old (device.clock old)) (one.moments honest)
-      (weaker (device.clock middle) (device.clock new) (device.leaves middle) (device.leaves new) (device.leaves middle (device.clock middle)) (device.leaves old (device.clock old)) (images_left device old middle one honest) (other.moments (subst IsTrue (sym one.honesty) honest)));
-}
-
 -- the bytes of the first disk were not read
-pub not_read : {D : Type 0} (device : Device D) (registered : List Call) (a between a' b b' : D) (fault : StoreFault) → OnlyRead device a between → OnlyRead device between a' → OnlyRead device b b' → device.failures between ≡ device.failures a → device.failures b' ≡ device.failures b → (IsTrue (device.honest a) → IsClosed (device.seen a) → ⊥) → (IsTrue (device.honest b) → IsClosed (device.seen b)) → TellsRead {T = Unit {0}} device between (Err fault) a' → Finds device registered a b (Err fault) a' b'
-not_read device registered a between a' b b' faults.DeviceFailed read_a read_on read_b none_a none_b open_a closed_b tells = record {
-  first = reads_on device a between a' read_a read_on;
+pub not_read : {D : Type 0} (device : Device D) (registered : List Call) (a between a' b b' : D) (fault : StoreFault) → IsOnlyRead device a between → IsOnlyRead device between a' → IsOnlyRead device b b' → device.failures between ≡ device.failures a → device.failures b' ≡ device.failures b → (IsTrue (device.honest a) → IsClosed (device.seen a) → ⊥) → (IsTrue (device.honest b) → IsClosed (device.seen b)) → TellsRead {T = Unit {0}} device between (Err fault) a' → Finds device registered a b (Err fault) a' b'
+not_read device registered a between a' b b' faults.DeviceFailed read_a read_rest read_b none_a none_b open_a closed_b tells = record {
+  first = read_on device a between a' read_a read_rest;
   second = read_b;
   outcome = inl (subst (λ (n : ℕ). Rose n (device.failures a')) none_a tells, none_b);
 }
-not_read device registered a between a' b b' faults.NoMemory read_a read_on read_b none_a none_b open_a closed_b tells = record {
-  first = reads_on device a between a' read_a read_on;
+not_read device registered a between a' b b' faults.NoMemory read_a read_rest read_b none_a none_b open_a closed_b tells = record {
+  first = read_on device a between a' read_a read_rest;
   second = read_b;
   outcome = (record { first = tells ∙ none_a; second = none_b }, λ honest_a honest_b. (open_a honest_a, closed_b honest_b));
 }
-not_read device registered a between a' b b' (faults.Damaged offset) read_a read_on read_b none_a none_b open_a closed_b tells = absurd tells
-not_read device registered a between a' b b' faults.OtherInterface read_a read_on read_b none_a none_b open_a closed_b tells = absurd tells
-not_read device registered a between a' b b' faults.NoGeneration read_a read_on read_b none_a none_b open_a closed_b tells = absurd tells
-not_read device registered a between a' b b' faults.AlreadyThere read_a read_on read_b none_a none_b open_a closed_b tells = absurd tells
+not_read device registered a between a' b b' (faults.Damaged offset) read_a read_rest read_b none_a none_b open_a closed_b tells = absurd tells
+not_read device registered a between a' b b' faults.OtherInterface read_a read_rest read_b none_a none_b open_a closed_b tells = absurd tells
+not_read device registered a between a' b b' faults.NoGeneration read_a read_rest read_b none_a none_b open_a closed_b tells = absurd tells
+not_read device registered a between a' b b' faults.AlreadyThere read_a read_rest read_b none_a none_b open_a closed_b tells = absurd tells
 
 -- the bytes of the first disk were read
-pub finds : {D : Type 0} (device : Device D) (registered : List Call) (a a' b b' : D) (bytes : List ℕ) (result : Result State StoreFault) → OnlyRead device a a' → OnlyRead device b b' → NoneFailed device a b a' b' → (IsTrue (device.honest a) → bytes ≡ device.seen a) → (IsTrue (device.honest a) → IsClosed (device.seen a) → ⊥) → (IsTrue (device.honest b) → IsClosed (device.seen b)) → TellsState registered bytes result → Finds device registered a b result a' b'
+pub finds : {D : Type 0} (device : Device D) (registered : List Call) (a a' b b' : D) (bytes : List ℕ) (result : Result State StoreFault) → IsOnlyRead device a a' → IsOnlyRead device b b' → NoneFailed device a b a' b' → (IsTrue (device.honest a) → bytes ≡ device.seen a) → (IsTrue (device.honest a) → IsClosed (device.seen a) → ⊥) → (IsTrue (device.honest b) → IsClosed (device.seen b)) → TellsState registered bytes result → Finds device registered a b result a' b'
 finds device registered a a' b b' bytes (Ok state) first second failed whole open_a closed_b tells = record {
   first = first;
   second = second;

@@ -2,8 +2,9 @@
 use Rattle.std.proofs.Common.{◌≡◌, ℕ, ◌+◌, ◌<◌, ◌≤◌, List, [], ◌∷◌, ◌++◌, map, drop, length, get_or, refl, sym, ◌∙◌, ap, subst, add-one, drop-cons}
 use Rattle.std.proofs.Math.ListN.{drop_of_length-le}
 use Rattle.std.proofs.lemmas.List.{append-nil}
+use Rattle.ash_disk.specs.Device.{Device}
 use Rattle.ash_meaning.specs.State.{Request, Reply}
-use Rattle.ash_durable.specs.Hosting.{Device, Hosted, Carries, CarriesAll}
+use Rattle.ash_durable.specs.Hosting.{Hosted, Carries, CarriesAll}
 
 told_last : {A : Type 0} (told : A → Reply) (replies : List A) (reply : A) (more : List Reply)
     → map told replies ++ (told reply ∷ more) ≡ map told (replies ++ reply ∷ []) ++ more

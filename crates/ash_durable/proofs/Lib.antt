@@ -5,3 +5,4 @@ pub mod Answering
 pub mod Carrying
 pub mod Going_on
 pub mod LongSources
+pub mod Running

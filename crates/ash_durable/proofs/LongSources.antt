@@ -2,12 +2,13 @@
 use Rattle.std.proofs.Common.{◌≡◌, ◌⊎◌, inl, inr, ◌<◌, ◌≤◌, ℕ, nat_lt, Bool, true, false, List, length, take, refl, ap, ◌∙◌, subst, arith, Option, Some, None, Err}
 use Rattle.std.proofs.lemmas.Bool.Decides.{nat_tests}
 use Rattle.std.proofs.lemmas.Grind.{common_steps}
+use Rattle.ash_disk.specs.Device.{Device}
 use Rattle.ash_meaning.specs.State.{State, Load, Reply, Refused}
 use Rattle.ash_meaning.specs.Step.{step, TakesMemory}
 use Rattle.ash_meaning.specs.Refusals as refusals
 use Rattle.ash_meaning.specs.Reading.{read_source}
 use Rattle.ash_meaning.proofs.ReadingLaws.{read_source-long}
-use Rattle.ash_durable.specs.Hosting.{Device, Hosted, IsAnswer, Replies, Carries}
+use Rattle.ash_durable.specs.Hosting.{Hosted, IsAnswer, Replies, Carries}
 
 take-all : (n : ℕ) (xs : List ℕ) → length xs ≤ n → take n xs ≡ xs
 take-all n xs h = grind (arith, common_steps)

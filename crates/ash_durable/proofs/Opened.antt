@@ -1,14 +1,15 @@
 -- What a host has that was made or opened.
 use Rattle.std.proofs.Common.{◌≡◌, inl, inr, ℕ, List, Some, Result, Ok, Err, refl, sym, ap, ◌∙◌, subst}
 use Rattle.std.specs.Bool.{IsTrue}
+use Rattle.ash_disk.specs.Device.{Device, IsOnlyRead}
 use Rattle.ash_image.specs.Image.{Snapshot, IsFile}
 use Rattle.ash_image.proofs.Image_laws.{file_of_one, is_open}
 use Rattle.ash_meaning.specs.Kept.{Admits}
 use Rattle.ash_meaning.specs.State.{Script, State, empty}
 use Rattle.ash_registry.specs.Calls.{Call}
 use Rattle.ash_registry.specs.Text.{text_of}
-use Rattle.ash_durable.specs.Hosting.{Device, Hosted, IsRunning, IsSaved, LeavesFilesOf, LeavesClosed, snapshot_of}
-use Rattle.ash_durable.specs.Store.{OnlyRead, Makes, Finds, WasCreated, WasOpened, IsMishap, Opens, OpensAgain}
+use Rattle.ash_durable.specs.Hosting.{Hosted, IsRunning, IsSaved, LeavesFilesOf, LeavesClosed, snapshot_of}
+use Rattle.ash_durable.specs.Store.{Makes, Finds, WasCreated, WasOpened, IsMishap, Opens, OpensAgain}
 use Rattle.ash_durable.proofs.Found.{images_left}
 use Rattle.ash_durable.specs.declared.fault.OpenRefused.{OpenRefused}
 use Rattle.ash_durable.specs.declared.fault.StoreFault.{StoreFault}
@@ -45,12 +46,12 @@ same_state bytes a b registered one other =
 
 -- what was kept stays, where disks were only read
 
-still_files : {D : Type 0} (device : Device D) (state : State) (old new : D) → OnlyRead device old new → LeavesFilesOf device state old → LeavesFilesOf device state new
+still_files : {D : Type 0} (device : Device D) (state : State) (old new : D) → IsOnlyRead device old new → LeavesFilesOf device state old → LeavesFilesOf device state new
 still_files device state old new read files honest image left =
     let was : IsTrue (device.honest old) = subst IsTrue read.honesty honest in
     files was image (images_left device old new read was image left)
 
-still_closed : {D : Type 0} (device : Device D) (old new : D) → OnlyRead device old new → LeavesClosed device old → LeavesClosed device new
+still_closed : {D : Type 0} (device : Device D) (old new : D) → IsOnlyRead device old new → LeavesClosed device old → LeavesClosed device new
 still_closed device old new read closed honest image left =
     let was : IsTrue (device.honest old) = subst IsTrue read.honesty honest in
     closed was image (images_left device old new read was image left)

@@ -1,6 +1,7 @@
 -- A host over two disks, and what one request does to it.
-use Rattle.std.specs.Prelude.{◌≡◌, ◌⊎◌, ℕ, ◌≤◌, Bool, List, [], ◌∷◌, Option, Some, None, Result, Ok, Err, OnOk}
+use Rattle.std.specs.Prelude.{◌≡◌, ◌⊎◌, ℕ, ◌≤◌, List, [], ◌∷◌, Option, Some, None, Result, Ok, Err, OnOk}
 use Rattle.std.specs.Bool.{IsTrue}
+use Rattle.ash_disk.specs.Device.{Device}
 use Rattle.ash_disk.specs.Failures.{Rose}
 use Rattle.ash_disk.specs.Image.{after_write}
 use Rattle.ash_image.specs.Image.{Snapshot, IsFile, IsClosed, file_of}
@@ -12,14 +13,6 @@ use Rattle.ash_meaning.specs.Refusals as refusals
 use Rattle.ash_meaning.specs.Kept.{Admits}
 use Rattle.ash_meaning.specs.State.{State, Request, Seq, Reply, Answered, Number, Refused}
 use Rattle.ash_meaning.specs.Step.{Steps, step}
-
--- what can be said of the disks of one type: the ghost members of `Disk`
-pub record Device (D : Type 0) : Type 1 where
-  pub honest : D → Bool
-  pub seen : D → List ℕ
-  pub clock : D → ℕ
-  pub leaves : D → ℕ → List ℕ → Type 0
-  pub failures : D → ℕ
 
 -- A host: what is registered; its state, or none where it is owed a reopening; the number after the last request that
 -- was answered; its two disks.

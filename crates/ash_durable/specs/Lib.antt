@@ -1,2 +1,3 @@
 pub mod Hosting
+pub mod Running
 pub mod Store

@@ -1,15 +1,15 @@
 -- Making a store on two disks, opening it, and what is said of the disks.
 use Rattle.std.specs.Prelude.{◌≡◌, ◌⊎◌, ℕ, List, [], ◌∷◌, length, slice_index, Result, Ok, Err}
 use Rattle.std.specs.Bool.{IsTrue}
+use Rattle.ash_disk.specs.Device.{Device, IsOnlyRead}
 use Rattle.ash_disk.specs.Failures.{Rose}
 use Rattle.ash_disk.specs.Image.{after_write}
-use Rattle.ash_disk.specs.Moments.{During}
 use Rattle.ash_image.specs.Image.{Snapshot, IsFile, IsClosed, file_of, shut_gate}
 use Rattle.ash_meaning.specs.Kept.{Admits}
 use Rattle.ash_meaning.specs.State.{State, empty}
 use Rattle.ash_registry.specs.Calls.{Call}
 use Rattle.ash_registry.specs.Text.{text_of}
-use Rattle.ash_durable.specs.Hosting.{Device, Hosted, IsRunning, IsSaved, LeavesFilesOf, LeavesClosed, snapshot_of}
+use Rattle.ash_durable.specs.Hosting.{Hosted, IsRunning, IsSaved, LeavesFilesOf, LeavesClosed, snapshot_of}
 use Rattle.ash_durable.specs.declared.fault.OpenRefused.{OpenRefused}
 use Rattle.ash_durable.specs.declared.fault.StoreFault.{StoreFault}
 use Rattle.ash_durable.specs.declared.fault.StoreFault.TheVariants as faults
@@ -19,13 +19,6 @@ use Rattle.ash_durable.specs.declared.front.Front.{Front}
 pub record IsFront (front : Front) (bytes : List ℕ) : Type 0 where
   pub length_is : front.length ≡ length bytes
   pub gate_is : front.gate ≡ slice_index bytes 0
-
--- Calls that only read took a disk from old to new. It reads as it did, and at every moment of them a crash leaves
--- nothing that it could not leave before.
-pub record OnlyRead {D : Type 0} (device : Device D) (old new : D) : Type 0 where
-  pub honesty : device.honest new ≡ device.honest old
-  pub seen : IsTrue (device.honest old) → device.seen new ≡ device.seen old
-  pub moments : IsTrue (device.honest old) → During (device.clock old) (device.clock new) (device.leaves old) (device.leaves new) (device.leaves old (device.clock old))
 
 -- What was read, or why it was not: a disk failed, which its count shows, or memory was refused.
 abbrev pub TellsRead : {D T : Type 0} → Device D → D → Result T StoreFault → D → Type 0
@@ -88,15 +81,15 @@ pub record WasMade {D : Type 0} (device : Device D) (state : State) (a b a' b' :
 -- nothing was written, and no disk failed
 pub record WasNotTouched {D : Type 0} (device : Device D) (a b a' b' : D) : Type 0 where
   pub failed : NoneFailed device a b a' b'
-  pub first : OnlyRead device a a'
-  pub second : OnlyRead device b b'
+  pub first : IsOnlyRead device a a'
+  pub second : IsOnlyRead device b b'
 
 -- A disk failed: before anything was written, or where both files were closed. The second is closed, whatever a crash
 -- makes of it, before the first is written.
 abbrev pub WasLeft : {D : Type 0} → Device D → D → D → D → D → Type 0
 WasLeft device a b a' b' =
-    (OnlyRead device a a' × OnlyRead device b b')
-    ⊎ ((IsTrue (device.honest a) → IsTrue (device.honest b) → AreClosed device a b) × (OnlyRead device a a' ⊎ LeavesClosed device b'))
+    (IsOnlyRead device a a' × IsOnlyRead device b b')
+    ⊎ ((IsTrue (device.honest a) → IsTrue (device.honest b) → AreClosed device a b) × (IsOnlyRead device a a' ⊎ LeavesClosed device b'))
 
 -- what came of it, by the first reason that holds
 abbrev pub MakesWith : {D T : Type 0} → Device D → State → D → D → Result T StoreFault → D → D → Type 0
@@ -162,8 +155,8 @@ FindsWith device registered a b (Err faults.AlreadyThere) a' b' = ⊥
 
 -- The state of a store is looked for on the disks a and b, which it leaves as a' and b' and reading as before.
 pub record Finds {D : Type 0} (device : Device D) (registered : List Call) (a b : D) (result : Result State StoreFault) (a' b' : D) : Type 0 where
-  pub first : OnlyRead device a a'
-  pub second : OnlyRead device b b'
+  pub first : IsOnlyRead device a a'
+  pub second : IsOnlyRead device b b'
   pub outcome : FindsWith device registered a b result a' b'
 
 -- A host was opened with this registered: it runs in the state that was found. Where the disks keep a state with it, it

@@ -1,11 +1,12 @@
 // How a file begins, and what its first byte says.
 
 ghost use Rattle.std.specs.Prelude.{◌≡◌, ◌↔◌, ℕ, List, ◌∷◌, [], IsTrue, IfOk, OnOk};
+ghost use Rattle.ash_disk.specs.Device.{IsOnlyRead};
 ghost use Rattle.ash_disk.specs.Failures.{CountsFailure};
 ghost use Rattle.ash_disk.specs.Image.{after_write};
 ghost use Rattle.ash_image.specs.Image.{IsClosed, shut_gate};
 ghost use Rattle.ash_durable.specs.Hosting.{LeavesClosed};
-ghost use Rattle.ash_durable.specs.Store.{IsFront, OnlyRead};
+ghost use Rattle.ash_durable.specs.Store.{IsFront};
 
 use ash_disk::{DeviceFailed, Disk, write_durably};
 
@@ -36,7 +37,7 @@ impl Front {
 /// How the file on a disk begins.
 pub fn front_of<D: Disk>(disk: &mut D) -> Result<Front, DeviceFailed>
     ensures front { IfOk result (λ front. IsTrue (D.honest disk.old) → IsFront front (D.seen disk.old)) }
-    ensures only_read { OnlyRead (record { honest = D.honest; seen = D.seen; clock = D.clock; leaves = D.leaves; failures = D.failures }) disk.old disk.new }
+    ensures only_read { IsOnlyRead D.Disk disk.old disk.new }
     ensures cause { CountsFailure result (D.failures disk.old) (D.failures disk.new) }
 {
     let length = disk.len()?;
@@ -52,7 +53,7 @@ pub fn front_of<D: Disk>(disk: &mut D) -> Result<Front, DeviceFailed>
 pub fn shut<D: Disk>(disk: &mut D, front: Front) -> Result<(), DeviceFailed>
     requires { IsTrue (D.honest disk.old) → IsFront front (D.seen disk.old) }
     ensures written { OnOk result (IsTrue (D.honest disk.old) → D.seen disk.new ≡ after_write (D.seen disk.old) 0 (shut_gate ∷ [])) }
-    ensures closed { OnOk result (LeavesClosed (record { honest = D.honest; seen = D.seen; clock = D.clock; leaves = D.leaves; failures = D.failures }) disk.new) }
+    ensures closed { OnOk result (LeavesClosed D.Disk disk.new) }
     ensures honesty { D.honest disk.new ≡ D.honest disk.old }
     ensures cause { CountsFailure result (D.failures disk.old) (D.failures disk.new) }
 {

@@ -4,6 +4,7 @@ ghost use Rattle.std.specs.Prelude.{◌≡◌, ℕ, map, None, IfOk, OnErr};
 ghost use Rattle.ash_meaning.specs.State.{State, Load, Call, Global as LookUp, Seq, Number, answer_of, word_of, request_of, reply_of};
 ghost use Rattle.ash_registry.specs.Registered.{registered};
 ghost use Rattle.ash_durable.specs.Hosting.{Carries, CarriesAll, IsRunning, Keeps};
+ghost use Rattle.ash_durable.specs.Running.{RunsToFailure};
 ghost use Rattle.ash_durable.specs.Store.{Creates, Opens, OpensAgain};
 
 use crate::fault::OpenRefused;
@@ -54,7 +55,7 @@ impl<D: Disk> Host<D> {
         mut b: D,
         registry: Registry,
     ) -> Result<Host<D>, OpenRefused<D>>
-        ensures { Creates (record { honest = D.honest; seen = D.seen; clock = D.clock; leaves = D.leaves; failures = D.failures }) (registered registry) a b result }
+        ensures { Creates D.Disk (registered registry) a b result }
     {
         let state = PlainState::new(alloc, registry);
         match make(alloc, &state, &mut a, &mut b) {
@@ -80,7 +81,7 @@ impl<D: Disk> Host<D> {
         mut b: D,
         registry: Registry,
     ) -> Result<Host<D>, OpenRefused<D>>
-        ensures { Opens (record { honest = D.honest; seen = D.seen; clock = D.clock; leaves = D.leaves; failures = D.failures }) (registered registry) a b result }
+        ensures { Opens D.Disk (registered registry) a b result }
     {
         match find(alloc, registry, &mut a, &mut b) {
             Ok(state) => Ok(Host {
@@ -118,8 +119,8 @@ impl<D: Disk> Host<D> {
     ///
     /// Faults are those of `open`.
     pub fn reopen(self) -> Result<Host<D>, OpenRefused<D>>
-        ensures opens { Opens (record { honest = D.honest; seen = D.seen; clock = D.clock; leaves = D.leaves; failures = D.failures }) self.registered self.first self.second result }
-        ensures again { OpensAgain (record { honest = D.honest; seen = D.seen; clock = D.clock; leaves = D.leaves; failures = D.failures }) self result }
+        ensures opens { Opens D.Disk self.registered self.first self.second result }
+        ensures again { OpensAgain D.Disk self result }
     {
         let alloc = self.alloc;
         let (registry, first, second) = self.into_parts();
@@ -133,7 +134,7 @@ impl<D: Disk> Host<D> {
         ensures owed { OnErr result ((self.new.state ≡ None) × (self.new.seq ≡ seq)) }
         ensures second { self.new.second ≡ self.old.second }
         ensures registry { self.new.registered ≡ self.old.registered }
-        ensures saves { (state : State) → IsRunning state self.old → Keeps (record { honest = D.honest; seen = D.seen; clock = D.clock; leaves = D.leaves; failures = D.failures }) state self.old.first result self.new.first }
+        ensures saves { (state : State) → IsRunning state self.old → Keeps D.Disk state self.old.first result self.new.first }
     {
         match save(self.alloc, &self.state, &mut self.first) {
             Ok(()) => Ok(answer),
@@ -151,7 +152,7 @@ impl<D: Disk> Host<D> {
     /// `check_source` tells of a source, `NotYet`.
     /// At `DeviceFailed`, and at `NoMemory` where the answer could not be kept, a reopening is owed from then on.
     pub fn load(&mut self, name: &str, source: &[u8], budget: u64) -> Result<Answer, Refusal>
-        ensures { Carries (record { honest = D.honest; seen = D.seen; clock = D.clock; leaves = D.leaves; failures = D.failures }) budget (Load name.now source.now) self.old (answer_of result) self.new }
+        ensures { Carries D.Disk budget (Load name.now source.now) self.old (answer_of result) self.new }
     {
         if self.owed.is_some() {
             return Err(Refusal::Reopen);
@@ -174,7 +175,7 @@ impl<D: Disk> Host<D> {
         arguments: &[Argument],
         budget: u64,
     ) -> Result<Answer, Refusal>
-        ensures { Carries (record { honest = D.honest; seen = D.seen; clock = D.clock; leaves = D.leaves; failures = D.failures }) budget (Call script.now function.now arguments.now) self.old (answer_of result) self.new }
+        ensures { Carries D.Disk budget (Call script.now function.now arguments.now) self.old (answer_of result) self.new }
     {
         if self.owed.is_some() {
             return Err(Refusal::Reopen);
@@ -190,7 +191,7 @@ impl<D: Disk> Host<D> {
     ///
     /// Refusals, the first that holds: `Reopen`, `NoModule`, `NoGlobal`.
     pub fn global(&self, script: &str, name: &str) -> Result<Word, Refusal>
-        ensures { (budget : ℕ) → Carries (record { honest = D.honest; seen = D.seen; clock = D.clock; leaves = D.leaves; failures = D.failures }) budget (LookUp script.now name.now) self.now (word_of result) self.now }
+        ensures { (budget : ℕ) → Carries D.Disk budget (LookUp script.now name.now) self.now (word_of result) self.now }
     {
         match self.owed {
             None => self.state.global(script, name),
@@ -201,14 +202,14 @@ impl<D: Disk> Host<D> {
     /// How many requests have been answered.
     pub fn seq(&self) -> u64
         ensures number { result ≡ self.now.seq }
-        ensures carries { (budget : ℕ) → Carries (record { honest = D.honest; seen = D.seen; clock = D.clock; leaves = D.leaves; failures = D.failures }) budget Seq self.now (Number result) self.now }
+        ensures carries { (budget : ℕ) → Carries D.Disk budget Seq self.now (Number result) self.now }
     {
         self.owed.unwrap_or(self.state.seq())
     }
 
     /// Carries out one request, with a budget in ticks.
     pub fn carry_out(&mut self, request: &Request, budget: u64) -> Reply
-        ensures { Carries (record { honest = D.honest; seen = D.seen; clock = D.clock; leaves = D.leaves; failures = D.failures }) budget (request_of request.now) self.old (reply_of result) self.new }
+        ensures { Carries D.Disk budget (request_of request.now) self.old (reply_of result) self.new }
     {
         match *request {
             Request::Load { name, source } => self.load(name, source, budget).into(),
@@ -225,14 +226,16 @@ impl<D: Disk> Host<D> {
         }
     }
 
-    /// Carries out requests in order, each with a budget in ticks. An `Err` comes before the first of them.
+    /// Carries out requests in order, each with a budget in ticks. They are a run of the written steps up to the first
+    /// whose answer is lost; from then on the host must be reopened. An `Err` comes before the first of them.
     pub fn carry_out_all(
         &mut self,
         alloc: Global,
         requests: &[Request],
         budget: u64,
     ) -> Result<Vec<Reply>, AllocError>
-        ensures run { IfOk result (λ replies. CarriesAll (record { honest = D.honest; seen = D.seen; clock = D.clock; leaves = D.leaves; failures = D.failures }) budget self.old (map request_of requests.now) (map reply_of replies.items) self.new) }
+        ensures run { IfOk result (λ replies. CarriesAll D.Disk budget self.old (map request_of requests.now) (map reply_of replies.items) self.new) }
+        ensures defined { IfOk result (λ replies. RunsToFailure budget self.old (map request_of requests.now) (map reply_of replies.items) self.new) }
         ensures err { OnErr result (self.new ≡ self.old) }
     {
         let mut replies = Vec::with_capacity(alloc, requests.len())?;

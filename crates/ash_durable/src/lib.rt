@@ -7,7 +7,8 @@
 //!
 //! In reading order: `fault` (why there is no store), `front` (how a file begins), `saving` (the file of a state, and
 //! how it is kept), `store` (making a store and finding its state), `host`. The words of the clauses stand in
-//! `specs/Hosting` (a host and its requests) and `specs/Store` (its disks).
+//! `specs/Hosting` (a host and its requests), `specs/Running` (a list of requests as a run of the written steps) and
+//! `specs/Store` (its disks).
 #![tactic(auto)]
 
 pub mod fault;

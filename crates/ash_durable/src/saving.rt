@@ -23,7 +23,7 @@ pub fn file_of(alloc: Global, state: &PlainState) -> Result<Vec<u8>, AllocError>
 
 /// Writes the file of a state over the file on a disk, by one write and one sync.
 pub fn save<D: Disk>(alloc: Global, state: &PlainState, disk: &mut D) -> Result<(), Refusal>
-    ensures { Keeps (record { honest = D.honest; seen = D.seen; clock = D.clock; leaves = D.leaves; failures = D.failures }) state.now disk.old result disk.new }
+    ensures { Keeps D.Disk state.now disk.old result disk.new }
 {
     let file = file_of(alloc, state)?;
     match write_durably(disk, 0, &file) {

@@ -1,8 +1,9 @@
 // Making a store on two disks, and finding its state there.
 
 ghost use Rattle.std.specs.Prelude.{◌≡◌, length, IsTrue, IfOk};
+ghost use Rattle.ash_disk.specs.Device.{IsOnlyRead};
 ghost use Rattle.ash_registry.specs.Registered.{registered};
-ghost use Rattle.ash_durable.specs.Store.{Finds, Makes, OnlyRead, TellsRead, TellsState};
+ghost use Rattle.ash_durable.specs.Store.{Finds, Makes, TellsRead, TellsState};
 
 use crate::fault::StoreFault;
 use crate::front::{front_of, shut};
@@ -20,7 +21,7 @@ pub fn make<D: Disk>(
     a: &mut D,
     b: &mut D,
 ) -> Result<(), StoreFault>
-    ensures { Makes (record { honest = D.honest; seen = D.seen; clock = D.clock; leaves = D.leaves; failures = D.failures }) state.now a.old b.old result a.new b.new }
+    ensures { Makes D.Disk state.now a.old b.old result a.new b.new }
 {
     let first = front_of(a)?;
     let second = front_of(b)?;
@@ -36,8 +37,8 @@ pub fn make<D: Disk>(
 /// All bytes of a file of this length.
 fn whole<D: Disk>(alloc: Global, disk: &mut D, count: u64) -> Result<Vec<u8>, StoreFault>
     ensures whole { IfOk result (λ bytes. IsTrue (D.honest disk.old) → count ≡ length (D.seen disk.old) → bytes.items ≡ D.seen disk.old) }
-    ensures only_read { OnlyRead (record { honest = D.honest; seen = D.seen; clock = D.clock; leaves = D.leaves; failures = D.failures }) disk.old disk.new }
-    ensures cause { TellsRead (record { honest = D.honest; seen = D.seen; clock = D.clock; leaves = D.leaves; failures = D.failures }) disk.old result disk.new }
+    ensures only_read { IsOnlyRead D.Disk disk.old disk.new }
+    ensures cause { TellsRead D.Disk disk.old result disk.new }
 {
     let mut bytes = vec![in alloc; 0; count as usize]?;
     disk.read(0, &mut bytes)?;
@@ -67,7 +68,7 @@ pub fn find<D: Disk>(
     a: &mut D,
     b: &mut D,
 ) -> Result<PlainState, StoreFault>
-    ensures { Finds (record { honest = D.honest; seen = D.seen; clock = D.clock; leaves = D.leaves; failures = D.failures }) (registered registry) a.old b.old result a.new b.new }
+    ensures { Finds D.Disk (registered registry) a.old b.old result a.new b.new }
 {
     let first = front_of(a)?;
     let second = front_of(b)?;

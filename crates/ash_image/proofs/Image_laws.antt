@@ -1,5 +1,5 @@
 -- The two laws of an image and of its file: what is read is depicted, and what is depicted is read.
-use Rattle.std.proofs.Common.{◌≡◌, ℕ, zero, suc, ◌^◌, ◌<◌, true, false, ltb, leb, eqb, List, [], ◌++◌, length, get_or, Option, Some, None, refl, sym, ap, subst, ◌∙◌, append_assoc, arith, inl, inr}
+use Rattle.std.proofs.Common.{◌≡◌, ℕ, zero, suc, ◌^◌, ◌<◌, true, false, ltb, leb, eqb, List, [], ◌∷◌, ◌++◌, length, get_or, Option, Some, None, refl, sym, ap, subst, ◌∙◌, append_assoc, arith, inl, inr}
 use Rattle.std.specs.Bool.{IsTrue}
 use Rattle.std.specs.Int.{w32, w64, cast_signed, cast_unsigned}
 use Rattle.std.specs.List.{AllByRecursion}
@@ -11,7 +11,7 @@ use Rattle.ash_host.specs.declared.word.Word.TheVariants as words
 use Rattle.ash_meaning.specs.State.{Script}
 use Rattle.ash_meaning.specs.Step.{is_module_name, most_modules}
 use Rattle.ash_image.specs.Fields.{number, text, items, ◌>>=◌, as_at, number_at, whole}
-use Rattle.ash_image.specs.Image.{Snapshot, word, script, image_of, FitsWord, FitsModule, FitsText, Fits, Depicts, version, most_text, most_source, most_globals, open_gate, shut_gate, magic, generation, file_of, FitsFile, IsFile, IsClosed}
+use Rattle.ash_image.specs.Image.{Snapshot, word, script, image_of, FitsWord, NamesObject, NameNoObject, FitsModule, FitsText, Fits, Depicts, version, most_text, most_source, most_globals, open_gate, shut_gate, magic, generation, file_of, FitsFile, IsFile, IsClosed}
 use Rattle.ash_image.specs.ImageReading.{value_at, word_at, name_at, source_at, count_at, globals_at, module_at, modules_at, is_text, registered_at, image_at, file_at}
 use Rattle.ash_image.proofs.Numbers.{IsBytes}
 use Rattle.ash_image.proofs.Names.{name_short}
@@ -54,8 +54,7 @@ value_takes (suc (suc (suc (suc zero)))) bytes x ok e = number_value 4 8 (λ n. 
 value_takes (suc (suc (suc (suc (suc zero))))) bytes x ok e =
     let made : Word × List ℕ = (words.Null, bytes) in
     subst (λ (y : Word × List ℕ). Carries 5 bytes y) (some_is made x e) (record { value = []; spelled = refl; taken = record { parts = refl; rest_fits = ok }; fits = tt })
-value_takes (suc (suc (suc (suc (suc (suc zero)))))) bytes x ok e = number_value 6 8 (λ n. words.Object n) (number_field 8) (λ n lt. (refl, lt)) bytes x ok e
-value_takes (suc (suc (suc (suc (suc (suc (suc n))))))) bytes x ok e = absurd cc
+value_takes (suc (suc (suc (suc (suc (suc n)))))) bytes x ok e = absurd cc
 
 word_takes : (bytes : List ℕ) (x : Word × List ℕ) → IsBytes bytes → word_at bytes ≡ Some x → Takes bytes (word x.0) x.1 × FitsWord x.0
 unfolding word_at
@@ -90,7 +89,16 @@ word_again (words.Int64 z) rest h =
 word_again (words.Uint64 n) rest h = value_again 4 8 (λ n. words.Uint64 n) (number_field 8) (omega arith) (λ bytes. refl) n rest h
 word_again words.Null rest h =
     ap (λ (o : Option (ℕ × List ℕ)). o >>= λ t. value_at t.0 t.1) ((number_field 1).again 5 rest (omega arith))
-word_again (words.Object n) rest h = value_again 6 8 (λ n. words.Object n) (number_field 8) (omega arith) (λ bytes. refl) n rest h
+word_again (words.Object n) rest h = absurd h
+
+names_none : (w : Word) → FitsWord w → NamesObject w → ⊥
+names_none (words.Object n) fits named = fits
+names_none _ fits named = named
+
+-- words that fit name no object
+name_none : (list : List Word) → AllByRecursion FitsWord list → NameNoObject list
+name_none [] fits = tt
+name_none (w ∷ more) fits = (names_none w fits.0, name_none more fits.1)
 
 pub word_field : IsField word FitsWord word_at
 word_field = record { takes = word_takes; again = word_again }
@@ -121,7 +129,7 @@ module_field =
     (λ (x : List ℕ × (List ℕ × List Word)). record { name = x.0; source = x.1.0; globals = x.1.1 }) (λ (m : Script). (m.name, (m.source, m.globals))) script FitsModule
     (λ m h. refl)
     (λ x h. refl)
-    (λ x h. record { limits = record { name = h.0.1; source = leb-true _ _ h.1.0.1; globals = leb-true _ _ h.1.1.0.1 }; words = h.1.1.1 })
+    (λ x h. record { limits = record { name = h.0.1; source = leb-true _ _ h.1.0.1; globals = leb-true _ _ h.1.1.0.1; handles = name_none x.1.1 h.1.1.1 }; words = h.1.1.1 })
     (λ m h. ((omega (arith, name_short m.name h.limits.name), h.limits.name), ((omega (arith, h.limits.source), le-leb _ _ h.limits.source), ((omega (arith, h.limits.globals), le-leb _ _ h.limits.globals), h.words))))
 
 modules_field : IsField (items 1 script) (λ modules. ((length modules < 256 ^ 1) × IsTrue (leb (length modules) most_modules)) × AllByRecursion FitsModule modules) modules_at

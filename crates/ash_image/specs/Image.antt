@@ -66,13 +66,13 @@ image_of s = number 2 version ++ (text 4 s.registered ++ (number 8 s.seq ++ (las
 
 -- ---- what has a spelling
 
--- a word in the range of its type
+-- A word in the range of its type. None names an object: a handle is to an object of its image, and an image has none.
 abbrev pub FitsWord : Word → Type 0
 FitsWord (words.Int value) = FitsSigned w32 value
 FitsWord (words.Uint value) = value < 2 ^ 32
 FitsWord (words.Int64 value) = FitsSigned w64 value
 FitsWord (words.Uint64 value) = value < 2 ^ 64
-FitsWord (words.Object value) = value < 2 ^ 64
+FitsWord (words.Object value) = ⊥
 FitsWord _ = ⊤
 
 -- the most bytes of the text of what is registered
@@ -92,11 +92,21 @@ pub record FitsText (registered : List ℕ) : Type 0 where
   pub utf8 : IsUtf8 registered
   pub short : length registered ≤ most_text
 
--- a module whose name is one, within the limits of a host
+-- the word is a handle to an object
+abbrev pub NamesObject : Word → Type 0
+NamesObject (words.Object value) = Unit {0}
+NamesObject _ = ⊥
+
+-- none of the words is a handle to an object
+abbrev pub NameNoObject : List Word → Type 0
+NameNoObject list = AllByRecursion (λ (w : Word). NamesObject w → ⊥) list
+
+-- A module whose name is one, within the limits of a host. Its globals name no object, since no host has one.
 pub record IsWithinLimits (m : Script) : Type 0 where
   pub name : IsTrue (is_module_name m.name)
   pub source : length m.source ≤ most_source
   pub globals : length m.globals ≤ most_globals
+  pub handles : NameNoObject m.globals
 
 -- a module that has a spelling
 pub record FitsModule (m : Script) : Type 0 where

@@ -9,7 +9,7 @@ use Rattle.ash_meaning.specs.Step.{is_module_name, most_modules}
 use Rattle.ash_image.specs.Fields.{◌>>=◌, as_at, checked_at, pair_at, number_at, text_at, after_number, before_number, after_bytes, items_at, within_at}
 use Rattle.ash_image.specs.Image.{Snapshot, version, most_text, most_source, most_globals, open_gate, shut_gate, magic, generation}
 
--- the value of a word with this tag
+-- the value of a word with this tag; a handle names an object, of which there is none
 unfoldable pub value_at : ℕ → List ℕ → Option (Word × List ℕ)
 value_at zero = as_at (λ n. words.Bool (n == 1)) (checked_at (λ n. nat_lt n 2) (number_at 1))
 value_at (suc zero) = as_at (λ n. words.Int (cast_signed w32 n)) (number_at 4)
@@ -17,8 +17,7 @@ value_at (suc (suc zero)) = as_at (λ n. words.Uint n) (number_at 4)
 value_at (suc (suc (suc zero))) = as_at (λ n. words.Int64 (cast_signed w64 n)) (number_at 8)
 value_at (suc (suc (suc (suc zero)))) = as_at (λ n. words.Uint64 n) (number_at 8)
 value_at (suc (suc (suc (suc (suc zero))))) = λ rest. Some (words.Null, rest)
-value_at (suc (suc (suc (suc (suc (suc zero)))))) = as_at (λ n. words.Object n) (number_at 8)
-value_at (suc (suc (suc (suc (suc (suc (suc more))))))) = λ rest. None
+value_at (suc (suc (suc (suc (suc (suc more)))))) = λ rest. None
 
 -- a tag, and the value of a word with it
 unfoldable pub word_at : List ℕ → Option (Word × List ℕ)

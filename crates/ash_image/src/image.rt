@@ -21,7 +21,7 @@
 //     3  int64       i64
 //     4  uint64      u64
 //     5  null
-//     6  object      u64
+//     6  object      u64    none so far: it is an object of the image, and an image has none
 //
 // The file:
 //

@@ -12,7 +12,8 @@ use Rattle.ash_lines.specs.Source.{Feed}
 use Rattle.ash_lines.specs.Sink.{Outlet}
 use Rattle.ash_lines.specs.Reading.{kept_part, ReadsBytes}
 use Rattle.ash_serve.specs.Serving.{fault_of}
-use Rattle.ash_serve.specs.Checking.{found_line, judged, Judges, Tells, ReadsScript, ChecksScript, IsScriptOf, ChecksFile}
+use Rattle.ash_serve.specs.Checking.{found_line, judged, found_status, ending_of, Judges, Tells, ReadsScript, ChecksScript, IsScriptOf, ChecksFile, EndsCheck}
+use Rattle.ash_serve.specs.Program.{ending_status, end_of}
 use Rattle.ash_lines.specs.Reader.{left_of, allowance_of, reader_feed}
 use Rattle.ash_lines.specs.Writer.{writer_outlet}
 use Rattle.ash_lines.specs.declared.reader.Reader.{Reader}
@@ -142,3 +143,21 @@ file_checked remaining contents registered s t k o file r before x e a b n f w =
     let checked = file-checked remaining contents registered s t k o file r e a b w in
     subst (λ (y : _). ChecksFile registered file (contents y) r (contents x)) n
     (subst (λ (y : _). ChecksFile registered file (contents k.writer.now) r (contents y)) (sym (f (checked-name remaining contents registered s t k o r w))) checked)
+
+-- The program ends by what was found.
+
+status-found : (found : Option Refusal) → ending_status (ending_of found) ≡ found_status found
+status-found None = refl
+status-found (Some refusal) = refl
+
+pub ends_check : (registered : List Registration) (file before after : Option (List ℕ)) (r : Result Ending Fault) → ChecksFile registered file before r after → EndsCheck registered file before (end_of r) after
+ends_check registered file before after (Ok ending) h = (h.0, h.1, ap ending_status h.2 ∙ status-found (judged registered h.0), h.3)
+ends_check registered file before after (Err (program.Run faults.Write)) h = (h.0, h.1, refl, h.2, h.3, h.4, h.5)
+ends_check registered file before after (Err (program.Run faults.Read)) h = (refl, h)
+ends_check registered file before after (Err (program.Run faults.TooLong)) h = absurd h
+ends_check registered file before after (Err (program.Run faults.Truncated)) h = absurd h
+ends_check registered file before after (Err (program.Run faults.NoMemory)) h = absurd h
+ends_check registered file before after (Err program.Usage) h = absurd h
+ends_check registered file before after (Err program.NoMemory) h = (refl, h)
+ends_check registered file before after (Err (program.Registry fault)) h = absurd h
+ends_check registered file before after (Err (program.Store fault)) h = absurd h

@@ -3,5 +3,6 @@ pub mod NextLemmas
 pub mod TakenLemmas
 pub mod ServingLemmas
 pub mod RunningLemmas
+pub mod DefinedLemmas
 pub mod ServiceLemmas
 pub mod CheckingLemmas

@@ -1,7 +1,8 @@
 -- Serving by a host that was opened or made.
 use Rattle.std.proofs.Common.{ℕ, List, Option, Result, Ok, Err}
+use Rattle.ash_disk.specs.Device.{Device}
 use Rattle.ash_registry.specs.Calls.{Call}
-use Rattle.ash_durable.specs.Hosting.{Device, Hosted}
+use Rattle.ash_durable.specs.Hosting.{Hosted}
 use Rattle.ash_durable.specs.Store.{Creates, Opens}
 use Rattle.ash_durable.specs.declared.fault.OpenRefused.{OpenRefused}
 use Rattle.ash_serve.specs.Service.{ServesBy, ServesFrom}

@@ -12,6 +12,7 @@ use Rattle.ash_lines.specs.Reading.{kept_part}
 use Rattle.ash_lines.specs.Replies.{refusal_text}
 use Rattle.ash_lines.specs.declared.source.ReadFault.TheVariants as reads
 use Rattle.ash_serve.specs.declared.fault.RunFault.TheVariants as faults
+use Rattle.ash_serve.specs.declared.program.ending.End.{End}
 use Rattle.ash_serve.specs.declared.program.ending.Ending.{Ending}
 use Rattle.ash_serve.specs.declared.program.ending.Ending.TheVariants as endings
 use Rattle.ash_serve.specs.declared.program.fault.Fault.{Fault}
@@ -93,3 +94,25 @@ ChecksFile registered file before (Err (program.Run faults.Write)) after =
 ChecksFile registered file before (Err (program.Run faults.Read)) after = Keeps before after
 ChecksFile registered file before (Err program.NoMemory) after = Keeps before after
 ChecksFile registered file before (Err _) after = ⊥
+
+-- The status that the program ends with once it has written this line: 1 for a refusal.
+abbrev pub found_status : Option Refusal → ℕ
+found_status None = 0
+found_status (Some refusal) = 1
+
+-- What a check of a file comes to as a program, by the fault that it writes on standard error, if there is one. With
+-- none, the line for the script is on standard output, and the status is that of the line. A fault has the status 1,
+-- and only where it is one of writing there may be a prefix of the line.
+abbrev pub EndsBy : List Registration → Option (List ℕ) → Option (List ℕ) → ℕ → Option Fault → Option (List ℕ) → Type 0
+EndsBy registered file before status None after =
+    (script : List ℕ) × IsScriptOf file script × (status ≡ found_status (judged registered script))
+    × Appends before after (found_line (judged registered script))
+EndsBy registered file before status (Some (program.Run faults.Write)) after =
+    (script : List ℕ) × IsScriptOf file script × (status ≡ 1)
+    × (out : List ℕ) × (lost : List ℕ) × Appends before after out × (found_line (judged registered script) ≡ out ++ lost)
+EndsBy registered file before status (Some (program.Run faults.Read)) after = (status ≡ 1) × Keeps before after
+EndsBy registered file before status (Some program.NoMemory) after = (status ≡ 1) × Keeps before after
+EndsBy registered file before status (Some _) after = ⊥
+
+abbrev pub EndsCheck : List Registration → Option (List ℕ) → Option (List ℕ) → End → Option (List ℕ) → Type 0
+EndsCheck registered file before end after = EndsBy registered file before end.status end.fault after

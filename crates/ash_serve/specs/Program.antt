@@ -1,5 +1,6 @@
 -- The statuses of the program.
-use Rattle.std.specs.Prelude.{ℕ}
+use Rattle.std.specs.Prelude.{ℕ, Some, None, Result, Ok, Err}
+use Rattle.ash_serve.specs.declared.program.ending.End.{End}
 use Rattle.ash_serve.specs.declared.program.ending.Ending.{Ending}
 use Rattle.ash_serve.specs.declared.program.ending.Ending.TheVariants as endings
 use Rattle.ash_serve.specs.declared.program.fault.Fault.{Fault}
@@ -17,3 +18,8 @@ status_of (Run fault) = 1
 abbrev pub ending_status : Ending → ℕ
 ending_status endings.Well = 0
 ending_status endings.Refused = 1
+
+-- The program ends by what it did: with a status, and with a fault where one ended it.
+abbrev pub end_of : Result Ending Fault → End
+end_of (Ok ending) = record { status = ending_status ending; fault = None }
+end_of (Err fault) = record { status = status_of fault; fault = Some fault }

@@ -2,11 +2,24 @@
 use Rattle.std.specs.Prelude.{◌≡◌, ◌<◌, ◌≤◌, ◌⊎◌, ℕ, ◌^◌, true, List, [], ◌∷◌, ◌++◌, length, Option, Result, Ok, Err, IfSome}
 use Rattle.std.specs.List.{AllByRecursion}
 use Rattle.std.specs.Io.KnownBytes.{Appends, Keeps}
-use Rattle.ash_lines.specs.Lines.{Line, Quit, GoesOn, Cut, next, Asks, is_unfinished}
-use Rattle.ash_lines.specs.Replies.{Told, text_of}
+use Rattle.ash_meaning.specs.State.{Request, Reply}
+use Rattle.ash_lines.specs.Lines.{Line, Asked, Quit, GoesOn, Cut, next, Asks, is_unfinished}
+use Rattle.ash_lines.specs.Replies.{Told, Replied, text_of}
 use Rattle.ash_serve.specs.Serving.{Carrying, AnswersAll}
 use Rattle.ash_serve.specs.declared.fault.RunFault.{RunFault}
 use Rattle.ash_serve.specs.declared.fault.RunFault.TheVariants as faults
+
+-- the requests among lines that a host is asked
+abbrev pub asked : List Line → List Request
+asked [] = []
+asked (Asked request ∷ lines) = request ∷ asked lines
+asked (_ ∷ lines) = asked lines
+
+-- the replies among answers that are a host's
+abbrev pub replied : List Told → List Reply
+replied [] = []
+replied (Replied reply ∷ answers) = reply ∷ replied answers
+replied (_ ∷ answers) = replied answers
 
 -- What a run did: the bytes that it read spell these requests and leave this rest, and the host answered each in turn.
 pub record Run {H : Type 0} (carries : Carrying H) (budget : ℕ) (old new : H) : Type 0 where

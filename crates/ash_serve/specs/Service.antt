@@ -1,6 +1,7 @@
 -- Serving from two disks: a host is opened or made on them, and runs.
 use Rattle.std.specs.Prelude.{◌≡◌, ℕ, List, Option, Result, Ok, Err}
-use Rattle.ash_durable.specs.Hosting.{Device, Hosted, IsSaved, Carries}
+use Rattle.ash_disk.specs.Device.{Device}
+use Rattle.ash_durable.specs.Hosting.{Hosted, IsSaved, Carries}
 use Rattle.ash_durable.specs.declared.fault.OpenRefused.{OpenRefused}
 use Rattle.ash_serve.specs.Running.{RunEnds}
 use Rattle.ash_serve.specs.declared.fault.RunFault.{RunFault}

@@ -23,9 +23,9 @@ pub trait Carrier {
 }
 
 impl<D: Disk> Carrier for Host<D> {
-    ghost carries = { Carries (record { honest = D.honest; seen = D.seen; clock = D.clock; leaves = D.leaves; failures = D.failures }) };
+    ghost carries = { Carries D.Disk };
 
-    ghost is_blind = { carries_blind (record { honest = D.honest; seen = D.seen; clock = D.clock; leaves = D.leaves; failures = D.failures }) };
+    ghost is_blind = { carries_blind _ };
 
     fn carry_out(&mut self, request: &Request, budget: u64) -> Reply {
         Host::carry_out(self, request, budget)

@@ -11,8 +11,8 @@ pub mod task;
 use crate::fault::RunFault;
 use ash_disk::MemoryDisk;
 use ash_durable::Host;
-use check::check_file;
-use ending::Ending;
+use check::end_check;
+use ending::{End, Ending};
 use fault::Fault;
 use registrations::registrations;
 use service::{serve_new, serve_stored};
@@ -27,18 +27,18 @@ use task::{Limits, Task};
 pub fn main<R: Env + Files<File = File> + Input + Print + Eprint + AllocGlobal>(
     rt: &R,
 ) -> ExitCode {
-    let end = match words_of(rt) {
+    let done = match words_of(rt) {
         Ok(words) => carry_out(rt, &words),
         Err(fault) => Err(fault),
     };
-    match end {
-        Ok(ending) => ExitCode::from(ending.status()),
-        Err(fault) => {
-            let status = fault.status();
-            let _ = eprintln!(rt; "ashd: {fault}");
-            ExitCode::from(status)
-        }
+    let end = match done {
+        Ok(end) => end,
+        Err(fault) => End::by(Err(fault)),
+    };
+    if let Some(fault) = &end.fault {
+        let _ = eprintln!(rt; "ashd: {fault}");
     }
+    ExitCode::from(end.status)
 }
 
 /// The words of the process. Some that are not text ask for nothing.
@@ -55,14 +55,14 @@ fn words_of<R: Env + AllocGlobal>(rt: &R) -> Result<Vec<String>, Fault> {
 fn carry_out<R: Files<File = File> + Input + Print + AllocGlobal>(
     rt: &R,
     words: &[String],
-) -> Result<Ending, Fault> {
+) -> Result<End, Fault> {
     match Task::read(rt.alloc(), words)? {
         Task::Try { limits } => serve_in_memory(rt, limits)?,
         Task::Create { folder } => create(rt, folder)?,
         Task::Serve { folder, limits } => serve(rt, folder, limits)?,
         Task::Check { file } => return check_path(rt, file),
     }
-    Ok(Ending::Well)
+    Ok(End::by(Ok(Ending::Well)))
 }
 
 /// Serves standard input and output, with the store in memory.
@@ -101,14 +101,15 @@ fn create<R: Files<File = File> + Print + AllocGlobal>(rt: &R, folder: &str) -> 
     }
 }
 
-/// Checks the script in a file, and tells what is found of it.
+/// Checks the script in a file, writes what is found of it, and says how the program ends by that.
 fn check_path<R: Files<File = File> + Print + AllocGlobal>(
     rt: &R,
     path: &str,
-) -> Result<Ending, Fault> {
+) -> Result<End, Fault> {
     let file = File::open(rt, path).map_err(unread)?;
     let registry = registrations(rt.alloc())?;
-    check_file(rt.alloc(), &registry, file, &mut io::writer(rt))
+    let end = end_check(rt.alloc(), &registry, file, &mut io::writer(rt));
+    Ok(end)
 }
 
 /// Why a script's file could not be opened.

@@ -1,7 +1,12 @@
 // The run over a reader and a writer.
 
+ghost use Rattle.std.specs.Prelude.{List};
 ghost use Rattle.ash_durable.specs.Hosting.{Carries, IsSaved};
-ghost use Rattle.ash_serve.specs.Running.{RunEnds};
+ghost use Rattle.ash_durable.specs.Running.{RunsToFailure};
+ghost use Rattle.ash_lines.specs.Lines.{Line};
+ghost use Rattle.ash_lines.specs.Replies.{Told};
+ghost use Rattle.ash_serve.specs.Running.{RunEnds, asked, replied};
+ghost use Rattle.ash_serve.specs.Serving.{AnswersAll};
 
 use crate::fault::RunFault;
 use crate::serve::serve;
@@ -21,6 +26,7 @@ pub(crate) const ROOM: usize = 8192;
 /// `Truncated` where the input ends inside a request, `TooLong` past 2^40 bytes, `Read` and `Write` where the
 /// reader or the writer fails, `NoMemory` where there is none for the buffers; no other memory is taken. However it
 /// ends, the state of a host that runs is on its disks afterwards, if it was before.
+#[tactic(auto, using(crate::proofs::DefinedLemmas::answers_run))]
 pub fn run<D: Disk, R: Read + Drop, W: Write>(
     alloc: Global,
     reader: R,
@@ -28,11 +34,12 @@ pub fn run<D: Disk, R: Read + Drop, W: Write>(
     host: &mut Host<D>,
     budget: u64,
 ) -> Result<(), RunFault>
-    ensures ends { RunEnds (R.remaining reader)
-        (Carries (record { honest = D.honest; seen = D.seen; clock = D.clock; leaves = D.leaves; failures = D.failures }))
+    ensures ends { RunEnds (R.remaining reader) (Carries D.Disk)
         budget host.old (W.contents writer.old) result host.new (W.contents writer.new) }
-    ensures saved { IsSaved (record { honest = D.honest; seen = D.seen; clock = D.clock; leaves = D.leaves; failures = D.failures }) host.old
-        → IsSaved (record { honest = D.honest; seen = D.seen; clock = D.clock; leaves = D.leaves; failures = D.failures }) host.new }
+    // The requests that the host answered are a run of the written steps, up to the first answer that is lost.
+    ensures defined { (lines : List Line) (replies : List Told) → AnswersAll (Carries D.Disk) budget host.old lines replies host.new
+        → RunsToFailure budget host.old (asked lines) (replied replies) host.new }
+    ensures saved { IsSaved D.Disk host.old → IsSaved D.Disk host.new }
 {
     let Ok(mut source) = Reader::new(alloc, reader) else {
         return Err(RunFault::NoMemory);

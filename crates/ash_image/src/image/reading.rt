@@ -50,10 +50,7 @@ fn word_of(bytes: &[u8]) -> Result<(Word, &[u8]), Unread>
             Ok((Word::Uint64(value), rest))
         }
         5 => Ok((Word::Null, rest)),
-        6 => {
-            let (value, rest) = u64_at(rest)?;
-            Ok((Word::Object(value), rest))
-        }
+        // A handle names an object of the image, and there is none.
         _ => Err(Unread::Damaged),
     }
 }

@@ -3,7 +3,7 @@
 ghost use Rattle.std.specs.Prelude.{◌≡◌, ◌<◌, ◌≤◌, ◌^◌, ◌*◌, ◌++◌, ℕ, length, OnOk, IfSome};
 ghost use Rattle.std.specs.List.{flat_map, AllByRecursion};
 ghost use Rattle.ash_image.specs.Fields.{items, number, text};
-ghost use Rattle.ash_image.specs.Image.{Fits, FitsModule, FitsWord, IsWithinLimits, image_of, most_text, script, snapshot_in, word};
+ghost use Rattle.ash_image.specs.Image.{Fits, FitsModule, FitsWord, IsWithinLimits, NameNoObject, NamesObject, image_of, most_text, script, snapshot_in, word};
 ghost use Rattle.ash_meaning.specs.Kept.{script_in, scripts_in};
 
 use crate::image::{LAST_NUMBER, NO_OBJECTS, NO_SERVICES, VERSION};
@@ -44,6 +44,7 @@ pub fn put_u64(out: &mut Vec<u8>, value: u64) -> Result<(), AllocError>
 }
 
 fn put_word(out: &mut Vec<u8>, value: Word) -> Result<(), AllocError>
+    requires { NamesObject value → ⊥ }
     ensures written { OnOk result (out.new.items ≡ out.old.items ++ word value) }
     ensures fits { OnOk result (FitsWord value) }
 {
@@ -77,6 +78,7 @@ fn put_word(out: &mut Vec<u8>, value: Word) -> Result<(), AllocError>
 }
 
 fn put_words(out: &mut Vec<u8>, words: &[Word]) -> Result<(), AllocError>
+    requires { NameNoObject words.now }
     ensures written { OnOk result (out.new.items ≡ out.old.items ++ flat_map word words.now) }
     ensures fits { OnOk result (AllByRecursion FitsWord words.now) }
 {

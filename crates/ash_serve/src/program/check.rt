@@ -1,9 +1,9 @@
 // Checking a script: its bytes are read and judged, and what is found of it is told.
 
 ghost use Rattle.ash_registry.specs.Registered.{registered};
-ghost use Rattle.ash_serve.specs.Checking.{ReadsScript, Judges, found_of, Tells, ChecksScript, ChecksFile};
+ghost use Rattle.ash_serve.specs.Checking.{ReadsScript, Judges, found_of, Tells, ChecksScript, ChecksFile, EndsCheck};
 
-use super::ending::Ending;
+use super::ending::{End, Ending};
 use super::fault::Fault;
 use crate::fault::{RunFault, run_fault};
 use crate::run::ROOM;
@@ -21,6 +21,19 @@ use std::io::{Read, Write};
 
 /// How many bytes are read of a script, at the most: by so many it is seen to be too long.
 const MOST_SCRIPT: u32 = 65_537;
+
+/// Checks the script that a reader gives, with this registry, and writes a line on a writer, as `check_file`; and says
+/// how the program ends by that: with the status 0 where the line is `ok`, else 1.
+pub fn end_check<R: Read + Drop, W: Write>(
+    alloc: Global,
+    registry: &Registry,
+    reader: R,
+    writer: &mut W,
+) -> End
+    ensures { EndsCheck (registered registry.now) (R.remaining reader) (W.contents writer.old) result (W.contents writer.new) }
+{
+    End::by(check_file(alloc, registry, reader, writer))
+}
 
 /// Checks the script that a reader gives, with this registry, and writes a line: `ok`, or its refusal as a `load` is
 /// told it. The first 65,537 bytes are judged.

@@ -1,7 +1,9 @@
-// How the program ends where no fault ends it.
+// How the program ends: by what it found, or by a fault.
 
 ghost use Rattle.std.specs.Prelude.{◌≡◌};
-ghost use Rattle.ash_serve.specs.Program.{ending_status};
+ghost use Rattle.ash_serve.specs.Program.{end_of, ending_status};
+
+use super::fault::Fault;
 
 /// How the program ends where no fault ends it.
 #[derive(Clone, Copy, Debug, PartialEq, Eq)]
@@ -20,6 +22,31 @@ impl Ending {
         match self {
             Ending::Well => 0,
             Ending::Refused => 1,
+        }
+    }
+}
+
+/// How the program ends: its status, and the fault that it writes on standard error, if one ends it.
+#[derive(Debug, Drop)]
+pub struct End {
+    pub status: u8,
+    pub fault: Option<Fault>,
+}
+
+impl End {
+    /// How the program ends by what it did.
+    pub fn by(done: Result<Ending, Fault>) -> End
+        ensures { result ≡ end_of done }
+    {
+        match done {
+            Ok(ending) => End {
+                status: ending.status(),
+                fault: None,
+            },
+            Err(fault) => End {
+                status: fault.status(),
+                fault: Some(fault),
+            },
         }
     }
 }

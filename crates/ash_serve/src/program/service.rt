@@ -1,6 +1,5 @@
 // Serving from two disks: a host is opened or made on them, and runs.
 
-ghost use Rattle.ash_durable.specs.Hosting.{Device};
 ghost use Rattle.ash_durable.specs.Store.{Creates, Opens};
 ghost use Rattle.ash_registry.specs.Registered.{registered};
 ghost use Rattle.ash_serve.specs.Service.{ServesBy, ServesFrom};
@@ -23,8 +22,7 @@ pub fn serve_stored<D: Disk + Drop, R: Read + Drop, W: Write>(
     writer: &mut W,
     budget: u64,
 ) -> Result<(), Fault>
-    ensures { let device : Device D = record { honest = D.honest; seen = D.seen; clock = D.clock; leaves = D.leaves; failures = D.failures } in
-        ServesFrom device (Opens device (registered registry) a b) (R.remaining reader) budget (W.contents writer.old) result (W.contents writer.new) }
+    ensures { ServesFrom D.Disk (Opens D.Disk (registered registry) a b) (R.remaining reader) budget (W.contents writer.old) result (W.contents writer.new) }
 {
     match Host::open(alloc, a, b, registry) {
         Ok(host) => serve_by(alloc, host, reader, writer, budget),
@@ -42,8 +40,7 @@ pub fn serve_new<D: Disk + Drop, R: Read + Drop, W: Write>(
     writer: &mut W,
     budget: u64,
 ) -> Result<(), Fault>
-    ensures { let device : Device D = record { honest = D.honest; seen = D.seen; clock = D.clock; leaves = D.leaves; failures = D.failures } in
-        ServesFrom device (Creates device (registered registry) a b) (R.remaining reader) budget (W.contents writer.old) result (W.contents writer.new) }
+    ensures { ServesFrom D.Disk (Creates D.Disk (registered registry) a b) (R.remaining reader) budget (W.contents writer.old) result (W.contents writer.new) }
 {
     match Host::create(alloc, a, b, registry) {
         Ok(host) => serve_by(alloc, host, reader, writer, budget),
@@ -58,8 +55,7 @@ fn serve_by<D: Disk + Drop, R: Read + Drop, W: Write>(
     writer: &mut W,
     budget: u64,
 ) -> Result<(), Fault>
-    ensures { ServesBy (record { honest = D.honest; seen = D.seen; clock = D.clock; leaves = D.leaves; failures = D.failures })
-        host (R.remaining reader) budget (W.contents writer.old) result (W.contents writer.new) }
+    ensures { ServesBy D.Disk host (R.remaining reader) budget (W.contents writer.old) result (W.contents writer.new) }
 {
     match run(alloc, reader, writer, &mut host, budget) {
         Ok(()) => Ok(()),

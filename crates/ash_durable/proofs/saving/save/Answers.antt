@@ -1,13 +1,13 @@
 use Rattle.std.proofs.Common.{◌≡◌, ◌∙◌, IsTrue, ap, arith}
 use Rattle.ash_disk.specs.Image.{after_write}
 use Rattle.ash_image.specs.Image.{file_of}
-use Rattle.ash_durable.specs.Hosting.{Device, snapshot_of}
+use Rattle.ash_durable.specs.Hosting.{snapshot_of}
 use Rattle.ash_durable.proofs.Files.{leaves_file}
 use Rattle.ash_durable.proofs.saving.save.Goals as goal
 
 pub returns-in-Ok : goal.returns-in-Ok
 returns-in-Ok g c =
-    let device : Device g.row.D.Denot = record { honest = g.D.Disk.honest; seen = g.D.Disk.seen; clock = g.D.Disk.clock; leaves = g.D.Disk.leaves; failures = g.D.Disk.failures } in
+    let device = g.D.Disk in
     let wrote = c.in-Ok.ensures in
     let file_is : c.deref.result.now ≡ file_of (snapshot_of c.args.state.now) = c.deref.ensures.value ∙ c.in_ok-file.ensures.written in
     let reads : (IsTrue (device.honest c.args.disk.now) → device.seen c.write_durably.new.disk ≡ after_write (device.seen c.args.disk.now) 0 (file_of (snapshot_of c.args.state.now))) =

@@ -1,19 +1,19 @@
 use Rattle.std.proofs.Common.{rules, ◌≡◌, ◌∙◌, inl, Err, IsTrue, refl, subst, sym}
 use Rattle.ash_registry.specs.Registered.{registered}
-use Rattle.ash_durable.specs.Hosting.{Device}
-use Rattle.ash_durable.proofs.Found.{finds, not_read, reads_on, closed_when}
+use Rattle.ash_disk.proofs.DeviceLaws.{read_on}
+use Rattle.ash_durable.proofs.Found.{finds, not_read, closed_when}
 use Rattle.ash_durable.proofs.store.find.Goals as goal
 
 pub returns : goal.returns
 returns g c =
-    let device : Device g.row.D.Denot = record { honest = g.D.Disk.honest; seen = g.D.Disk.seen; clock = g.D.Disk.clock; leaves = g.D.Disk.leaves; failures = g.D.Disk.failures } in
+    let device = g.D.Disk in
     let read_a = c.in_ok-first.ensures.only_read in
     let read_b = c.in_ok-second.ensures.only_read in
-    let read_on = c.in_ok-bytes.ensures.only_read in
+    let read_rest = c.in_ok-bytes.ensures.only_read in
     let front_a = c.in_ok-first.ensures.front in
     let front_b = c.in_ok-second.ensures.front in
     finds device (registered c.args.registry) c.args.a.now c.whole.new.disk c.args.b.now c.front_of-2.new.disk c.deref.result.now c.state_in.result
-    (reads_on device c.args.a.now c.front_of.new.disk c.whole.new.disk read_a read_on)
+    (read_on device c.args.a.now c.front_of.new.disk c.whole.new.disk read_a read_rest)
     read_b
     (record { first = c.in_ok-bytes.ensures.cause ∙ c.in_ok-first.ensures.cause.none; second = c.in_ok-second.ensures.cause.none })
     (λ honest.
@@ -25,7 +25,7 @@ returns g c =
 
 pub returns-in_err-bytes : goal.returns-in_err-bytes
 returns-in_err-bytes g c =
-    let device : Device g.row.D.Denot = record { honest = g.D.Disk.honest; seen = g.D.Disk.seen; clock = g.D.Disk.clock; leaves = g.D.Disk.leaves; failures = g.D.Disk.failures } in
+    let device = g.D.Disk in
     let front_a = c.in_ok-first.ensures.front in
     let front_b = c.in_ok-second.ensures.front in
     let told : c.from_residual-in_err-bytes.result ≡ Err c.in_err-bytes.field-0.0 = search rules in
@@ -38,7 +38,7 @@ returns-in_err-bytes g c =
 
 pub returns-then-is_open : goal.returns-then-is_open
 returns-then-is_open g c =
-    let device : Device g.row.D.Denot = record { honest = g.D.Disk.honest; seen = g.D.Disk.seen; clock = g.D.Disk.clock; leaves = g.D.Disk.leaves; failures = g.D.Disk.failures } in
+    let device = g.D.Disk in
     let front_b = c.in_ok-second.ensures.front in
     record {
       first = c.in_ok-first.ensures.only_read;

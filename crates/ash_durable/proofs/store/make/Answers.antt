@@ -1,7 +1,7 @@
 use Rattle.std.proofs.Common.{rules, ◌≡◌, ◌∙◌, IsTrue, [], ◌∷◌, inr, ap, arith, Err}
 use Rattle.ash_disk.specs.Image.{after_write}
 use Rattle.ash_image.specs.Image.{file_of, shut_gate}
-use Rattle.ash_durable.specs.Hosting.{Device, snapshot_of}
+use Rattle.ash_durable.specs.Hosting.{snapshot_of}
 use Rattle.ash_durable.specs.Store.{OneFailed}
 use Rattle.ash_durable.specs.declared.fault.StoreFault.TheVariants as faults
 use Rattle.ash_durable.proofs.Files.{leaves_file, written_since}
@@ -9,7 +9,7 @@ use Rattle.ash_durable.proofs.store.make.Goals as goal
 
 pub returns : goal.returns
 returns g c =
-    let device : Device g.row.D.Denot = record { honest = g.D.Disk.honest; seen = g.D.Disk.seen; clock = g.D.Disk.clock; leaves = g.D.Disk.leaves; failures = g.D.Disk.failures } in
+    let device = g.D.Disk in
     let read_a = c.in_ok-first.ensures.only_read in
     let read_b = c.in_ok-second.ensures.only_read in
     let wrote = c.in_ok-write_durably.ensures in
@@ -32,7 +32,7 @@ returns g c =
 
 pub returns-in_err-write_durably : goal.returns-in_err-write_durably
 returns-in_err-write_durably g c =
-    let device : Device g.row.D.Denot = record { honest = g.D.Disk.honest; seen = g.D.Disk.seen; clock = g.D.Disk.clock; leaves = g.D.Disk.leaves; failures = g.D.Disk.failures } in
+    let device = g.D.Disk in
     let read_a = c.in_ok-first.ensures.only_read in
     let read_b = c.in_ok-second.ensures.only_read in
     let told : c.from_residual-in_err-write_durably.result ≡ Err faults.DeviceFailed = search rules in

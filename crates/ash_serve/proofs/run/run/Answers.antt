@@ -1,5 +1,6 @@
 use Rattle.std.proofs.Common.{rules, ap}
 use Rattle.ash_serve.proofs.RunningLemmas.{run_writes, run_keeps}
+use Rattle.ash_serve.proofs.DefinedLemmas.{answers_run}
 use Rattle.ash_serve.proofs.run.run.Goals as goal
 
 pub returns-clause-ends : goal.returns-clause-ends
@@ -9,3 +10,6 @@ returns-clause-ends g c =
 
 pub returns-clause-saved : goal.returns-clause-saved
 returns-clause-saved g c h = run_keeps _ _ (λ budget request old new reply carried was. carried.saved was) _ _ _ _ _ _ _ (returns-clause-ends g c) h
+
+pub returns-clause-defined : goal.returns-clause-defined
+returns-clause-defined g c = λ lines replies answered. answers_run g.D.Disk _ _ lines replies _ answered

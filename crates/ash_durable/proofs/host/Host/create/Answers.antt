@@ -1,14 +1,13 @@
 use Rattle.std.proofs.Common.{◌≡◌, ap, subst, Some, Ok}
 use Rattle.ash_meaning.specs.State.{State, empty}
 use Rattle.ash_registry.specs.Registered.{registered}
-use Rattle.ash_durable.specs.Hosting.{Device}
 use Rattle.ash_durable.specs.Store.{Makes}
 use Rattle.ash_durable.proofs.Opened.{created}
 use Rattle.ash_durable.proofs.host.Host.create.Goals as goal
 
 pub returns-in-Ok : goal.returns-in-Ok
 returns-in-Ok g c =
-    let device : Device g.row.D.Denot = record { honest = g.D.Disk.honest; seen = g.D.Disk.seen; clock = g.D.Disk.clock; leaves = g.D.Disk.leaves; failures = g.D.Disk.failures } in
+    let device = g.D.Disk in
     let state : State = c.new-state.result in
     let is : state ≡ empty (registered c.args.registry) = c.new-state.ensures in
     created device (registered c.args.registry) c.args.a c.args.b (record { registered = state.registered; state = Some state; seq = state.seq; first = c.make.new.a; second = c.make.new.b })

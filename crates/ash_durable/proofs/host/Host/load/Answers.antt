@@ -1,13 +1,13 @@
 use Rattle.std.proofs.Common.{rules, ◌≡◌, false, is_some, subst}
 use Rattle.ash_meaning.specs.Refusals.{refusal_of}
 use Rattle.ash_meaning.specs.State.{Load, Refused, answer_of}
-use Rattle.ash_durable.specs.Hosting.{Device, Hosted, Carries}
+use Rattle.ash_durable.specs.Hosting.{Hosted, Carries}
 use Rattle.ash_durable.proofs.Carrying.{WasTold, seen_host, carries_untouched, carries_answer}
 use Rattle.ash_durable.proofs.host.Host.load.Goals as goal
 
 pub returns-in-Ok : goal.returns-in-Ok
 returns-in-Ok g c =
-    let device : Device g.row.D.Denot = record { honest = g.D.Disk.honest; seen = g.D.Disk.seen; clock = g.D.Disk.clock; leaves = g.D.Disk.leaves; failures = g.D.Disk.failures } in
+    let device = g.D.Disk in
     let runs : is_some c.self.inside.owed ≡ false = search rules in
     let told : WasTold device c.self.inside.owed c.self.inside.state c.load.new.self c.self.inside.first c.self.inside.second c.in-Ok.answer c.keep.result c.keep.new.self = record {
       kept = c.keep.ensures.kept;
@@ -20,6 +20,6 @@ returns-in-Ok g c =
 
 pub returns-in-Err : goal.returns-in-Err
 returns-in-Err g c =
-    let device : Device g.row.D.Denot = record { honest = g.D.Disk.honest; seen = g.D.Disk.seen; clock = g.D.Disk.clock; leaves = g.D.Disk.leaves; failures = g.D.Disk.failures } in
+    let device = g.D.Disk in
     let runs : is_some c.self.inside.owed ≡ false = search rules in
     subst (λ (host : Hosted g.row.D.Denot). Carries device c.args.budget (Load c.args.name.now c.args.source.now) host (Refused (refusal_of c.in-Err.refusal)) (seen_host c.self.inside.owed c.load.new.self c.self.inside.first c.self.inside.second)) c.self.view_is (carries_untouched device c.args.budget (Load c.args.name.now c.args.source.now) c.self.inside.owed c.self.inside.state c.load.new.self c.self.inside.first c.self.inside.second (Refused (refusal_of c.in-Err.refusal)) runs (λ no. no) c.in-Err.ensures)

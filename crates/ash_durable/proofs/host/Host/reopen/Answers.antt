@@ -1,14 +1,13 @@
 use Rattle.std.proofs.Common.{List, subst}
 use Rattle.ash_registry.specs.Calls.{Call}
 use Rattle.ash_registry.specs.Registered.{registered}
-use Rattle.ash_durable.specs.Hosting.{Device}
 use Rattle.ash_durable.specs.Store.{Opens}
 use Rattle.ash_durable.proofs.Opened.{opens_again}
 use Rattle.ash_durable.proofs.host.Host.reopen.Goals as goal
 
 pub returns-clause-opens : goal.returns-clause-opens
 returns-clause-opens g c =
-    let device : Device g.row.D.Denot = record { honest = g.D.Disk.honest; seen = g.D.Disk.seen; clock = g.D.Disk.clock; leaves = g.D.Disk.leaves; failures = g.D.Disk.failures } in
+    let device = g.D.Disk in
     let parts = c.into_parts-registry.result in
     subst (λ (r : List Call). Opens device r c.args.self.first c.args.self.second c.open.result) c.into_parts-registry.ensures.registry
     (subst (λ (a : g.row.D.Denot). Opens device (registered parts.0) a c.args.self.second c.open.result) c.into_parts-registry.ensures.first
@@ -16,7 +15,7 @@ returns-clause-opens g c =
 
 pub returns-clause-again : goal.returns-clause-again
 returns-clause-again g c =
-    let device : Device g.row.D.Denot = record { honest = g.D.Disk.honest; seen = g.D.Disk.seen; clock = g.D.Disk.clock; leaves = g.D.Disk.leaves; failures = g.D.Disk.failures } in
+    let device = g.D.Disk in
     let parts = c.into_parts-registry.result in
     opens_again device g.met.D.Disk.seen_may_stay c.args.self c.open.result
     (subst (λ (r : List Call). Opens device r c.args.self.first c.args.self.second c.open.result) c.into_parts-registry.ensures.registry

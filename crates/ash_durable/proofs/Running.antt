@@ -1,0 +1,87 @@
+-- Requests that a host handled are a run of the definition, up to the first failure.
+use Rattle.std.proofs.Common.{◌≡◌, ◌⊎◌, inl, inr, ℕ, List, [], ◌∷◌, Option, Some, None, refl, sym, ap, ◌∙◌, subst}
+use Rattle.ash_disk.specs.Device.{Device}
+use Rattle.ash_meaning.specs.Refusals as refusals
+use Rattle.ash_meaning.specs.State.{State, Request, Reply, Refused}
+use Rattle.ash_meaning.specs.Step.{Steps}
+use Rattle.ash_durable.specs.Hosting.{Hosted, IsRunning, WasLost, WasNotKept, Replies, CarriesAll, reply_owed}
+use Rattle.ash_durable.specs.Running.{replies_until_reopened, IsFailure, RunsThrough, RunsUntilFailure, RunsToFailure}
+
+is_failure : {D : Type 0} (old : D) (reply : Reply) (new : D) → WasLost old reply new → IsFailure reply
+is_failure old (Refused refusals.DeviceFailed) new h = tt
+is_failure old (Refused refusals.NoMemory) new h = tt
+is_failure old _ new h = absurd h
+
+-- a host that must be reopened
+while_stopped : {D : Type 0} (device : Device D) (budget : ℕ) (old : Hosted D) (requests : List Request) (replies : List Reply) (new : Hosted D) → old.state ≡ None → CarriesAll device budget old requests replies new → (replies ≡ replies_until_reopened requests old.seq) × (new ≡ old)
+while_stopped device budget old [] [] new none all = (refl, all)
+while_stopped {D} device budget old (request ∷ requests) (reply ∷ replies) new none all =
+    let one : (reply ≡ reply_owed request old.seq) × (all.0 ≡ old) = subst (λ (state : Option State). Replies budget request state old reply all.0) none all.1.replies in
+    let more = while_stopped device budget all.0 requests replies new (ap (λ (host : Hosted D). host.state) one.1 ∙ none) all.2 in
+    let rest : replies ≡ replies_until_reopened requests old.seq = more.0 ∙ ap (λ (host : Hosted D). replies_until_reopened requests host.seq) one.1 in
+    (ap (λ (first : Reply). first ∷ replies) one.0 ∙ ap (λ (later : List Reply). reply_owed request old.seq ∷ later) rest, more.1 ∙ one.1)
+while_stopped device budget old [] (reply ∷ replies) new none all = absurd all
+while_stopped device budget old (request ∷ requests) [] new none all = absurd all
+
+-- what a host that runs did
+abbrev Ran : {D : Type 0} → ℕ → State → List Request → List Reply → Hosted D → Type 0
+Ran budget state requests replies new = RunsThrough budget state requests replies new ⊎ RunsUntilFailure budget state requests replies new
+
+one_step : {D : Type 0} (budget : ℕ) (request : Request) (reply : Reply) (state next : State) (requests : List Request) (replies : List Reply) (new : Hosted D) → Steps budget request state reply next → Ran budget next requests replies new → Ran budget state (request ∷ requests) (reply ∷ replies) new
+one_step budget request reply state next requests replies new step (inl through) = inl (record {
+  last = through.last;
+  run = (next, step, through.run);
+  running = through.running;
+})
+one_step budget request reply state next requests replies new step (inr until) = inr (record {
+  before = request ∷ until.before;
+  failed = until.failed;
+  later = until.later;
+  replied = reply ∷ until.replied;
+  failure = until.failure;
+  last = until.last;
+  requests_are = ap (λ (more : List Request). request ∷ more) until.requests_are;
+  replies_are = ap (λ (more : List Reply). reply ∷ more) until.replies_are;
+  run = (next, step, until.run);
+  answer = until.answer;
+  is_failure = until.is_failure;
+  stopped = until.stopped;
+  seq_is = until.seq_is;
+})
+
+failed_first : {D : Type 0} (device : Device D) (budget : ℕ) (request : Request) (reply : Reply) (state : State) (old next : Hosted D) (requests : List Request) (replies : List Reply) (new : Hosted D) → IsRunning state old → WasNotKept budget request state old reply next → CarriesAll device budget next requests replies new → RunsUntilFailure budget state (request ∷ requests) (reply ∷ replies) new
+failed_first {D} device budget request reply state old next requests replies new runs lost all =
+    let after = while_stopped device budget next requests replies new lost.owed all in
+    let seq : next.seq ≡ state.seq = lost.seq_same ∙ runs.seq_is in
+    record {
+      before = [];
+      failed = request;
+      later = requests;
+      replied = [];
+      failure = reply;
+      last = state;
+      requests_are = refl;
+      replies_are = ap (λ (more : List Reply). reply ∷ more) (after.0 ∙ ap (λ (n : ℕ). replies_until_reopened requests n) seq);
+      run = refl;
+      answer = lost.answer;
+      is_failure = is_failure old.first reply next.first lost.lost;
+      stopped = ap (λ (host : Hosted D). host.state) after.1 ∙ lost.owed;
+      seq_is = ap (λ (host : Hosted D). host.seq) after.1 ∙ seq;
+    }
+
+while_running : {D : Type 0} (device : Device D) (budget : ℕ) (state : State) (old : Hosted D) (requests : List Request) (replies : List Reply) (new : Hosted D) → IsRunning state old → CarriesAll device budget old requests replies new → Ran budget state requests replies new
+while_running {D} device budget state old [] [] new runs all = inl (record { last = state; run = refl; running = subst (λ (host : Hosted D). IsRunning state host) (sym all) runs })
+while_running device budget state old (request ∷ requests) (reply ∷ replies) new runs all =
+    let one : Replies budget request (Some state) old reply all.0 = subst (λ (s : Option State). Replies budget request s old reply all.0) runs.state_is all.1.replies in
+    elim one [
+      | inl taken ↦ one_step budget request reply state taken.after requests replies new taken.step (while_running device budget taken.after all.0 requests replies new taken.running all.2)
+      | inr lost ↦ inr (failed_first device budget request reply state old all.0 requests replies new runs lost all.2)
+    ]
+while_running device budget state old [] (reply ∷ replies) new runs all = absurd all
+while_running device budget state old (request ∷ requests) [] new runs all = absurd all
+
+pub runs_to_failure : {D : Type 0} (device : Device D) (budget : ℕ) (old : Hosted D) (requests : List Request) (replies : List Reply) (new : Hosted D) → CarriesAll device budget old requests replies new → RunsToFailure budget old requests replies new
+runs_to_failure device budget old requests replies new all = record {
+  running = λ state runs. while_running device budget state old requests replies new runs all;
+  stopped = λ none. while_stopped device budget old requests replies new none all;
+}

@@ -1,0 +1,46 @@
+-- What a host did for a list of requests: a run of the definition, up to the first failure.
+use Rattle.std.specs.Prelude.{◌≡◌, ◌⊎◌, ℕ, List, ◌∷◌, ◌++◌, map, None}
+use Rattle.ash_meaning.specs.Refusals as refusals
+use Rattle.ash_meaning.specs.State.{State, Request, Reply, Refused}
+use Rattle.ash_meaning.specs.Step.{Runs, step}
+use Rattle.ash_durable.specs.Hosting.{Hosted, IsRunning, IsAnswer, reply_owed}
+
+-- The replies of a host that must be reopened: its number is that of the last answer.
+abbrev pub replies_until_reopened : List Request → ℕ → List Reply
+replies_until_reopened requests seq = map (λ request. reply_owed request seq) requests
+
+-- The reply is a refusal by which an answer was lost: a disk failed, or memory ran out.
+abbrev pub IsFailure : Reply → Type 0
+IsFailure (Refused refusals.DeviceFailed) = Unit {0}
+IsFailure (Refused refusals.NoMemory) = Unit {0}
+IsFailure _ = ⊥
+
+-- The requests are a run of the definition, and the host runs in the state that this run leads to.
+pub record RunsThrough {D : Type 0} (budget : ℕ) (state : State) (requests : List Request) (replies : List Reply) (new : Hosted D) : Type 0 where
+  pub last : State
+  pub run : Runs budget state requests replies last
+  pub running : IsRunning last new
+
+-- The requests before one are a run of the definition. That one has an answer in the state that the run leads to, and
+-- it failed. From then on the host must be reopened: its number is that of the run's last state, and each later reply
+-- is that of such a host.
+pub record RunsUntilFailure {D : Type 0} (budget : ℕ) (state : State) (requests : List Request) (replies : List Reply) (new : Hosted D) : Type 0 where
+  pub before : List Request
+  pub failed : Request
+  pub later : List Request
+  pub replied : List Reply
+  pub failure : Reply
+  pub last : State
+  pub requests_are : requests ≡ before ++ failed ∷ later
+  pub replies_are : replies ≡ replied ++ failure ∷ replies_until_reopened later last.seq
+  pub run : Runs budget state before replied last
+  pub answer : IsAnswer (step budget failed last).0
+  pub is_failure : IsFailure failure
+  pub stopped : new.state ≡ None
+  pub seq_is : new.seq ≡ last.seq
+
+-- A host handled these requests. Where it was running, they are a run of the definition up to the first failure, if
+-- there is one. Where it had to be reopened, it still has to be, and nothing changed.
+pub record RunsToFailure {D : Type 0} (budget : ℕ) (old : Hosted D) (requests : List Request) (replies : List Reply) (new : Hosted D) : Type 0 where
+  pub running : (state : State) → IsRunning state old → RunsThrough budget state requests replies new ⊎ RunsUntilFailure budget state requests replies new
+  pub stopped : old.state ≡ None → (replies ≡ replies_until_reopened requests old.seq) × (new ≡ old)
