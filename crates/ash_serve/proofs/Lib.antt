@@ -1,4 +1,3 @@
-pub mod KeptLemmas
 pub mod NextLemmas
 pub mod TakenLemmas
 pub mod ServingLemmas
