@@ -70,7 +70,8 @@ module _ {B : Type 0} where
   abbrev pub with_holds : ℕ → Living B → Living B
   with_holds holds object = record object { holds = holds }
 
-  living_face : (m : ℕ) (l : List (ℕ × Placed B)) (F : ℕ) → option_map (living F) (object_at m l) ≡ option_map (with_holds (counted m l - F)) (face_at m l)
+  -- what a contract sees is that, with what the count has beside fields
+  pub living_face : (m : ℕ) (l : List (ℕ × Placed B)) (F : ℕ) → option_map (living F) (object_at m l) ≡ option_map (with_holds (counted m l - F)) (face_at m l)
   living_face m l F = go (object_at m l) refl
     where
       go : (v : Option (Placed B)) → object_at m l ≡ v → option_map (living F) v ≡ option_map (with_holds (option_map_or (λ object. (object.item).count) v 0 - F)) (option_map face v)
@@ -124,7 +125,7 @@ module _ {B : Type 0} where
     handle_each P None l stays each = each
     handle_each P (Some k) l stays each = each-change P k f l (λ p is. stays p k refl is) each
 
-  lives_some : (m : ℕ) (l : List (ℕ × Placed B)) → Lives l m → (p : Placed B) × (object_at m l ≡ Some p)
+  pub lives_some : (m : ℕ) (l : List (ℕ × Placed B)) → Lives l m → (p : Placed B) × (object_at m l ≡ Some p)
   lives_some m l lives = go (object_at m l) refl lives
     where
       go : (v : Option (Placed B)) → object_at m l ≡ v → IsSome v → (p : Placed B) × (object_at m l ≡ Some p)

@@ -7,4 +7,5 @@ pub mod Steps
 pub mod Fields
 pub mod Views
 pub mod Boxes
+pub mod Referring
 pub mod Newcomers

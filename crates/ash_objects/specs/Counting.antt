@@ -1,9 +1,9 @@
 -- How the table counts: what it keeps beside each object, and what a contract sees of it.
-use Rattle.std.specs.Prelude.{◌≡◌, ℕ, ◌+◌, ◌-◌, ◌<◌, ◌≤◌, ◌^◌, ◌==◌, true, List, [], ◌∷◌, length, Option, None, Some, IfSome, sum_by, if◌then◌else◌}
+use Rattle.std.specs.Prelude.{◌≡◌, ℕ, ◌+◌, ◌-◌, ◌<◌, ◌≤◌, ◌^◌, ◌==◌, true, List, [], ◌∷◌, length, All, Option, None, Some, IfSome, sum_by, if◌then◌else◌}
 use Rattle.std.specs.Option.{option_map_or}
 use Rattle.std.specs.Map.{values_of}
 use Rattle.ash_host.specs.declared.word.Word.{Word}
-use Rattle.ash_host.specs.Objects.{object_at, Lives, IsInOrder, handles_to}
+use Rattle.ash_host.specs.Objects.{object_at, Lives, IsInOrder, handle, handles_to}
 use Rattle.ash_objects.specs.declared.entry.Item.{Item}
 use Rattle.ash_objects.specs.Bodies.{words_of, with_word}
 use Rattle.ash_objects.specs.Store.{Placed, with_item}
@@ -64,6 +64,19 @@ module _ {B : Type 0} where
   abbrev pub change_handle : (Placed B → Placed B) → Option ℕ → List (ℕ × Placed B) → List (ℕ × Placed B)
   change_handle change None objects = objects
   change_handle change (Some number) objects = change_at number change objects
+
+  -- the words of an object; none where none lives
+  abbrev pub words_at : ℕ → List (ℕ × Placed B) → List Word
+  words_at number objects = option_map_or (λ object. words_of (object.item).body) (object_at number objects) []
+
+  -- each object that these words are handles to lives
+  abbrev pub AllLive : List (ℕ × Placed B) → List Word → Type 0
+  AllLive objects words = All (λ word. IfSome (handle word) (Lives objects)) words
+
+  -- the objects, each counted once more for each of these words that is a handle to it
+  abbrev pub refer_all : List Word → List (ℕ × Placed B) → List (ℕ × Placed B)
+  refer_all [] objects = objects
+  refer_all (word ∷ words) objects = refer_all words (change_handle once_more (handle word) objects)
 
   -- an object with a word at a place, which touches it
   abbrev pub written : ℕ → Word → Placed B → Placed B

@@ -1,6 +1,9 @@
 //! What an object is.
+ghost use Rattle.std.specs.Prelude.{◌≡◌};
+ghost use Rattle.ash_objects.specs.Bodies.{words_of};
 
 use crate::words::Words;
+use ash_host::Word;
 
 /// What an object is, beside its number and its count.
 #[derive(Drop)]
@@ -20,4 +23,16 @@ pub struct Script {
     pub class: u16,
     /// Its fields, in order of declaration.
     pub fields: Words,
+}
+
+impl<B> Body<B> {
+    /// The words that it holds, in order; a host object holds none.
+    pub fn words(&self) -> &[Word]
+        ensures { result.now ≡ words_of self.now }
+    {
+        match self {
+            Body::Script(script) => script.fields.as_slice(),
+            Body::Host(_) => &[],
+        }
+    }
 }

@@ -4,7 +4,7 @@ ghost use Rattle.ash_host.specs.Objects.{object_at, Lives, handle};
 ghost use Rattle.ash_objects.specs.Bodies.{words_of};
 ghost use Rattle.ash_objects.specs.Store.{IsIn, IsOccupied, AreStored};
 ghost use Rattle.ash_objects.specs.Table.{change_at};
-ghost use Rattle.ash_objects.specs.Counting.{counted, once_more, once_less, change_handle, written};
+ghost use Rattle.ash_objects.specs.Counting.{counted, once_more, once_less, change_handle, words_at, AllLive, refer_all, written};
 
 use crate::body::Body;
 use crate::store::Store;
@@ -48,6 +48,21 @@ pub(crate) fn refer<B>(store: &mut Store<B>, word: Word)
             unreachable!()
         };
         count_more(store, slot);
+    }
+}
+
+/// Counts each object once more for each of the words of the object in a slot that is a handle to it.
+pub(crate) fn refer_words<B>(store: &mut Store<B>, slot: usize)
+    requires { (number : ℕ) × IsIn number slot store.old.objects
+        × AllLive store.old.objects (words_at number store.old.objects)
+        × ((other : ℕ) → counted other store.old.objects + length (words_at number store.old.objects) < 2 ^ 128) }
+    ensures { (number : ℕ) → IsIn number slot store.old.objects
+        → store.new.objects ≡ refer_all (words_at number store.old.objects) store.old.objects }
+{
+    let count = store.item(slot).body.words().len();
+    for place in 0..count {
+        let word = read_word(store, slot, place);
+        refer(store, word);
     }
 }
 

@@ -1,13 +1,14 @@
 //! The making of objects.
-ghost use Rattle.std.specs.Prelude.{◌≡◌, ◌≢◌, ◌<◌, ◌≤◌, ◌+◌, ◌↔◌, ◌++◌, ◌∷◌, [], ℕ, length, Some, None, IsSomeAnd, IfOk, OnOk, OnErr, IsErrOf, slice_get, nat_eq};
+ghost use Rattle.std.specs.Prelude.{All, ◌≡◌, ◌≢◌, ◌<◌, ◌≤◌, ◌+◌, ◌↔◌, ◌++◌, ◌∷◌, [], ℕ, length, Some, None, IsSomeAnd, IfOk, OnOk, OnErr, IsErrOf, slice_get, nat_eq};
 ghost use Rattle.std.specs.List.{remove, position};
 ghost use Rattle.ash_host.specs.declared.event.Event.{Event};
 ghost use Rattle.ash_objects.specs.declared.making.MakeFault.{MakeFault};
 ghost use Rattle.ash_objects.specs.declared.body.Body.{Body};
-ghost use Rattle.ash_objects.specs.Table.{slot_of};
+ghost use Rattle.ash_objects.specs.Table.{slot_of, IsAlive};
 ghost use Rattle.ash_objects.specs.Making.{IsFull, IsSpent, first_of_kind, with_made};
 
-use crate::body::Body;
+use crate::body::{Body, Script};
+use crate::counting::refer_words;
 use crate::entry::Item;
 use crate::objects::Objects;
 use ash_host::{Event, HostObject};
@@ -56,6 +57,33 @@ impl<B> Objects<B> {
 }
 
 impl<B: HostObject> Objects<B> {
+    /// Makes an object of a script's class, with its fields in order of declaration, and gives it the next number. The
+    /// objects that its fields are handles to are counted once more for each; nothing holds the new one yet.
+    pub fn new_script(&mut self, script: Script) -> Result<u64, MakeFault>
+        requires short { length script.fields ≤ 4096 }
+        requires alive { All (λ word. IsAlive word self.old) script.fields }
+        ensures full { IsErrOf result MakeFault.ObjectLimit ↔ IsFull self.old }
+        ensures spent { IsErrOf result MakeFault.NumbersSpent ↔ ((IsFull self.old → ⊥) × IsSpent self.old) }
+        ensures pool { IsErrOf result MakeFault.PoolEmpty → ⊥ }
+        ensures unchanged { OnErr result (self.new ≡ self.old) }
+        ensures number { IfOk result (λ number. number ≡ self.old.last + 1) }
+        ensures made { IfOk result (λ number. IsSomeAnd (slot_of number self.new)
+            (λ slot. self.new ≡ with_made slot (Body.Script script) self.old)) }
+    {
+        let next = self.next_number()?;
+        let item = Item {
+            count: 0,
+            touched: true,
+            body: Body::Script(script),
+        };
+        let Ok(slot) = self.store.insert(next, item) else {
+            return Err(MakeFault::NoMemory);
+        };
+        refer_words(&mut self.store, slot);
+        self.last = next;
+        Ok(next)
+    }
+
     /// Takes the first free box of a kind from the pool and gives it the next number. Nothing holds it yet.
     pub fn draw(&mut self, kind: u16, events: &mut Vec<Event>) -> Result<u64, MakeFault>
         ensures full { IsErrOf result MakeFault.ObjectLimit ↔ IsFull self.old }

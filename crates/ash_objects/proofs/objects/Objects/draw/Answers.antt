@@ -1,5 +1,7 @@
 use Rattle.std.proofs.Common.{rules, ◌≡◌, refl, arith, sym, ap, ◌∙◌, ◌<◌, ◌+◌, length, true}
-use Rattle.ash_host.specs.Objects.{with_at}
+use Rattle.std.specs.Prelude.{IfSome}
+use Rattle.std.proofs.lemmas.List.Elements.{All-nil}
+use Rattle.ash_host.specs.Objects.{with_at, handle, Lives}
 use Rattle.ash_objects.specs.declared.body.Body.TheVariants.{Host}
 use Rattle.ash_objects.specs.Counting.{living_in}
 use Rattle.ash_objects.specs.Making.{made}
@@ -43,7 +45,7 @@ invariant_of-self-2 g c =
     let room = rw (← c.self.view_is) at c.in_ok-number.ensures.room in
     let few : length l < 4096 = omega (arith, room, length-living l l) in
     rw c.in_default-insert.ensures.objects
-    (table_new c.in_ok-number.number (record { slot = c.in_default-insert.field-0; waiting = true; item = record { count = 0; touched = true; body = Host c.remove.result } }) l t.in_order (absent l c.self.inside.last c.in_ok-number.number t.given later) refl refl c.self.inside.last c.self.inside.settled t refl few later)
+    (table_new c.in_ok-number.number (record { slot = c.in_default-insert.field-0; waiting = true; item = record { count = 0; touched = true; body = Host c.remove.result } }) l t.in_order t.counted (absent l c.self.inside.last c.in_ok-number.number t.given later) (All-nil (λ word. IfSome (handle word) (Lives l))) refl c.self.inside.last c.self.inside.settled t.given t.cleared refl (omega arith) few later)
 
 pub returns-clause-drawn : goal.returns-clause-drawn
 returns-clause-drawn g c =
@@ -53,7 +55,7 @@ returns-clause-drawn g c =
     let later : c.self.inside.last < c.in_ok-number.number = omega (arith, number) in
     let put : living_in c.insert.new.self.objects ≡ with_at c.in_ok-number.number (made c.in_default-insert.field-0 (Host c.remove.result)) (living_in l) =
     ap living_in c.in_default-insert.ensures.objects
-    ∙ view_new c.in_ok-number.number (record { slot = c.in_default-insert.field-0; waiting = true; item = record { count = 0; touched = true; body = Host c.remove.result } }) l t.in_order (absent l c.self.inside.last c.in_ok-number.number t.given later) refl refl refl in
+    ∙ view_new c.in_ok-number.number (record { slot = c.in_default-insert.field-0; waiting = true; item = record { count = 0; touched = true; body = Host c.remove.result } }) l t.in_order t.counted (absent l c.self.inside.last c.in_ok-number.number t.given later) (All-nil (λ word. IfSome (handle word) (Lives l))) refl refl in
     let first = sym (rw c.deref.ensures.value at c.place_of_kind.ensures) ∙ c.in-Some.is in
     let within : c.in-Some.place < length c.self.inside.pool.items = search rules in
     rw (← c.self.view_is)
