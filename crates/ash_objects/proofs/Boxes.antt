@@ -16,10 +16,10 @@ use Rattle.ash_host.specs.declared.answer.HostAnswer.{HostAnswer}
 use Rattle.ash_host.specs.declared.answer.HostAnswer.TheVariants as answers
 use Rattle.ash_host.specs.declared.event.Target.{Target}
 use Rattle.ash_host.specs.declared.event.Event.TheVariants.{Called}
-use Rattle.ash_objects.specs.Counting.{holding, fields_in, living, living_in, AreCounted, IsTable}
+use Rattle.ash_objects.specs.Counting.{holding, fields_in, living, living_in, AreCounted, IsTable, face}
 use Rattle.ash_objects.proofs.Changing.{object_at-change, length-change, in_order-change, sum-change, change_in_is}
 use Rattle.ash_objects.proofs.Counts.{object_at-living, each-change, given-change}
-use Rattle.ash_objects.proofs.Fields.{face, view_face, counted_same}
+use Rattle.ash_objects.proofs.Fields.{view_face, counted_same}
 use Rattle.ash_objects.proofs.Steps.{change_same}
 
 module _ {B : Type 0} where

@@ -97,7 +97,7 @@ module _ {B : Type 0} where
       go true later = refl
       go false later = later
 
-  numbers-change_in : (slot : ℕ) (f : Placed B → Placed B) (l : List (ℕ × Placed B)) → numbers (change_in slot f l) ≡ numbers l
+  pub numbers-change_in : (slot : ℕ) (f : Placed B → Placed B) (l : List (ℕ × Placed B)) → numbers (change_in slot f l) ≡ numbers l
   numbers-change_in slot f [] = refl
   numbers-change_in slot f (e ∷ l) = ap (λ (ns : List ℕ). e.0 ∷ ns) (numbers-change_in slot f l)
 

@@ -15,7 +15,7 @@ use Rattle.ash_objects.specs.declared.body.Body.TheVariants.{Script, Host}
 use Rattle.ash_objects.specs.Bodies.{words_of, with_word}
 use Rattle.ash_objects.specs.Store.{Placed}
 use Rattle.ash_objects.specs.Table.{Living, change_at, with_field}
-use Rattle.ash_objects.specs.Counting.{holding, fields_in, counted, living, living_in, AreCounted, once_more, once_less, change_handle, written}
+use Rattle.ash_objects.specs.Counting.{face, face_at, holding, fields_in, counted, living, living_in, AreCounted, once_more, once_less, change_handle, written}
 use Rattle.ash_objects.proofs.Changing.{object_at-change, length-change, in_order-change, sum-change, sum_same-change}
 use Rattle.ash_objects.proofs.Counts.{view_change, counted-change, each-change}
 
@@ -60,13 +60,6 @@ handles-at m ws i before there =
     omega (arith, some, was, hits_word m before)
 
 module _ {B : Type 0} where
-  -- what a contract sees of an object but its holds
-  abbrev pub face : Placed B → Living B
-  face p = record { slot = p.slot; holds = 0; touched = (p.item).touched; body = (p.item).body }
-
-  abbrev pub face_at : ℕ → List (ℕ × Placed B) → Option (Living B)
-  face_at m l = option_map face (object_at m l)
-
   abbrev pub with_holds : ℕ → Living B → Living B
   with_holds holds object = record object { holds = holds }
 

@@ -8,4 +8,9 @@ pub mod Fields
 pub mod Views
 pub mod Boxes
 pub mod Referring
+pub mod Releasing
+pub mod Sorting
+pub mod Marks
+pub mod Collecting
+pub mod Collected
 pub mod Newcomers

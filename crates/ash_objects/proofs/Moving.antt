@@ -15,7 +15,7 @@ use Rattle.std.proofs.lemmas.List.Elements.{Contains-append_left, Contains-appen
 use Rattle.slab.specs.Slab.{Slab, get, slab_len, Updates}
 use Rattle.slab.proofs.SlabLemmas.{ContainsKey-within}
 use Rattle.ash_host.specs.Objects.{object_at, with_at, IsInOrder}
-use Rattle.ash_host.proofs.Order.{none_behind, in_order_behind, in_order-with_at}
+use Rattle.ash_host.proofs.Order.{none_behind, in_order_behind, in_order-with_at, object_at-with_at}
 use Rattle.ash_objects.specs.declared.entry.Entry.{Entry}
 use Rattle.ash_objects.specs.Store.{Placed, placed, with_entry, placed_in, ArePlaced, IsStored, is_unlisted}
 
@@ -47,6 +47,36 @@ none_later {A} n e l o same = go (object_at n l) refl
     go : (v : Option A) → object_at n l ≡ v → object_at n l ≡ None
     go None is = is
     go (Some x) is = let not_here = none_behind e l n o (subst (λ (v : Option A). IsSome v) (sym is) refl) in absurd (cc)
+
+-- what stands at each number once one was taken out
+pub object_at-removed : {A : Type 0} (n m : ℕ) (l : List (ℕ × A)) → IsInOrder l → object_at m (remove_entry (nat_eq n) l) ≡ cond (nat_eq n m) None (object_at m l)
+object_at-removed {A} n m [] o = go (nat_eq n m)
+  where
+    go : (b : Bool) → None ≡ cond {A = Option A} b None None
+    go true = refl
+    go false = refl
+object_at-removed {A} n m (e ∷ l) o =
+    go (nat_eq n e.0) refl (object_at-removed n m l (in_order_behind e l o))
+  where
+    split : (b : Bool) → nat_eq n m ≡ b → nat_eq n e.0 ≡ true → object_at m l ≡ cond b None (cond (nat_eq m e.0) (Some e.1) (object_at m l))
+    split true p is =
+        let same : n ≡ m = eqb-true n m p in
+        ap (λ (k : ℕ). object_at k l) (sym same) ∙ none_later n e l o is
+    split false p is =
+        let apart : nat_eq m e.0 ≡ false = grind (arith, nat_tests) in
+        sym (ap (λ (b : Bool). cond b (Some e.1) (object_at m l)) apart)
+
+    other : (b c : Bool) → nat_eq n m ≡ b → nat_eq m e.0 ≡ c → nat_eq n e.0 ≡ false → cond c (Some e.1) (cond b None (object_at m l)) ≡ cond b None (cond c (Some e.1) (object_at m l))
+    other false c p q is = refl
+    other true false p q is = refl
+    other true true p q is =
+        let same : n ≡ e.0 = eqb-true n m p ∙ eqb-true m e.0 q in
+        let yes = eq-eqb n e.0 same in
+        absurd (cc)
+
+    go : (b : Bool) → nat_eq n e.0 ≡ b → object_at m (remove_entry (nat_eq n) l) ≡ cond (nat_eq n m) None (object_at m l) → object_at m (cond b l (e ∷ remove_entry (nat_eq n) l)) ≡ cond (nat_eq n m) None (cond (nat_eq m e.0) (Some e.1) (object_at m l))
+    go true is later = split (nat_eq n m) refl is
+    go false is later = ap (λ (v : Option A). cond (nat_eq m e.0) (Some e.1) v) later ∙ other (nat_eq n m) (nat_eq m e.0) refl refl is
 
 -- lists of slots that are alike for a test that an empty slot fails have as many that pass
 pub count_same : {A : Type 0} (p : Option A → Bool) → p None ≡ false → (xs ys : List (Option A)) → ((k : ℕ) → p (get_or xs k None) ≡ p (get_or ys k None)) → count_by p xs ≡ count_by p ys
@@ -199,6 +229,7 @@ module _ {B : Type 0} where
       record {
         in_order = in_order-with_at n slot index s.in_order;
         placed = (inserted_in others n entry was u.changed number index s.placed none).1;
+        whole = λ k. led k (nat_eq slot k) refl;
         listed = λ k. each k (nat_eq slot k) refl;
         fits = omega (arith, same, longer, some, fits);
       }
@@ -210,6 +241,23 @@ module _ {B : Type 0} where
           let now : get new k ≡ Some entry = ap (λ (j : ℕ). get new j) (sym slot_is) ∙ u.changed in
           ap is_unlisted now ∙ ap not waits ∙ sym (ap is_unlisted then)
       alike k false is = ap is_unlisted (u.others k (apart_from slot k is))
+
+      led_to : (k : ℕ) (o : Option (Entry B)) → IfSome o (λ x. object_at x.number index ≡ Some k) → IfSome o (λ x. object_at x.number (with_at n slot index) ≡ Some k)
+      led_to k None h = tt
+      led_to k (Some x) h = object_at-with_at n slot x.number index ∙ go (nat_eq x.number n) refl
+        where
+          go : (b : Bool) → nat_eq x.number n ≡ b → cond b (Some slot) (object_at x.number index) ≡ Some k
+          go true is = let nothing : object_at x.number index ≡ None = ap (λ (j : ℕ). object_at j index) (eqb-true x.number n is) ∙ none in let both : Some k ≡ None = sym h ∙ nothing in absurd (cc)
+          go false is = h
+
+      led : (k : ℕ) (b : Bool) → nat_eq slot k ≡ b → IfSome (get new k) (λ x. object_at x.number (with_at n slot index) ≡ Some k)
+      led k true is =
+          let slot_is : slot ≡ k = eqb-true slot k is in
+          let here : object_at entry.number (with_at n slot index) ≡ Some slot =
+          ap (λ (j : ℕ). object_at j (with_at n slot index)) number ∙ object_at-with_at n slot n index ∙ ap (λ (b : Bool). cond b (Some slot) (object_at n index)) (eq-eqb n n refl) in
+          subst (λ (j : ℕ). IfSome (get new j) (λ x. object_at x.number (with_at n slot index) ≡ Some j)) slot_is
+          (subst (λ (o : Option (Entry B)). IfSome o (λ x. object_at x.number (with_at n slot index) ≡ Some slot)) (sym u.changed) here)
+      led k false is = subst (λ (o : Option (Entry B)). IfSome o (λ x. object_at x.number (with_at n slot index) ≡ Some k)) (sym (u.others k (apart_from slot k is))) (led_to k (get entries k) (s.whole k))
 
       more : (k : ℕ) (o : Option (Entry B)) → IfSome o (λ x. x.waiting ≡ true → Contains idle k) → IfSome o (λ x. x.waiting ≡ true → Contains (idle ++ slot ∷ []) k)
       more k None h = tt
@@ -233,10 +281,33 @@ module _ {B : Type 0} where
       record {
         in_order = o;
         placed = subst (λ (l : List (ℕ × ℕ)). ArePlaced new l) (sym is) (removed_in others entry.number entry was refl index s.in_order s.placed).1;
+        whole = λ k. led k (nat_eq slot k) refl;
         listed = λ k. each k (nat_eq slot k) refl;
         fits = omega (arith, sums, count, fits);
       }
     where
+      mine : object_at entry.number index ≡ Some slot
+      mine = subst (λ (v : Option (Entry B)). IfSome v (λ x. object_at x.number index ≡ Some slot)) was (s.whole slot)
+
+      led_to : (k : ℕ) → nat_eq slot k ≡ false → (v : Option (Entry B)) → IfSome v (λ x. object_at x.number index ≡ Some k) → IfSome v (λ x. object_at x.number index' ≡ Some k)
+      led_to k apart None h = tt
+      led_to k apart (Some x) h = ap (λ (l : List (ℕ × ℕ)). object_at x.number l) is ∙ object_at-removed entry.number x.number index s.in_order ∙ go (nat_eq entry.number x.number) refl
+        where
+          go : (b : Bool) → nat_eq entry.number x.number ≡ b → cond b None (object_at x.number index) ≡ Some k
+          go true same =
+              let one : Some slot ≡ Some k = sym mine ∙ ap (λ (j : ℕ). object_at j index) (eqb-true entry.number x.number same) ∙ h in
+              let slots : slot ≡ k = cc in
+              let yes = eq-eqb slot k slots in
+              absurd (cc)
+          go false same = h
+
+      led : (k : ℕ) (b : Bool) → nat_eq slot k ≡ b → IfSome (get new k) (λ x. object_at x.number index' ≡ Some k)
+      led k true same =
+          let slot_is : slot ≡ k = eqb-true slot k same in
+          subst (λ (j : ℕ). IfSome (get new j) (λ x. object_at x.number index' ≡ Some j)) slot_is
+          (subst (λ (v : Option (Entry B)). IfSome v (λ x. object_at x.number index' ≡ Some slot)) (sym u.changed) tt)
+      led k false same = subst (λ (v : Option (Entry B)). IfSome v (λ x. object_at x.number index' ≡ Some k)) (sym (u.others k (apart_from slot k same))) (led_to k same (get entries k) (s.whole k))
+
       each : (k : ℕ) (b : Bool) → nat_eq slot k ≡ b → IfSome (get new k) (λ x. x.waiting ≡ true → Contains idle k)
       each k true is =
           let slot_is : slot ≡ k = eqb-true slot k is in
@@ -265,6 +336,7 @@ module _ {B : Type 0} where
       (let fits = s.fits in record {
         in_order = s.in_order;
         placed = still_placed_regrown entries capacity index s.placed;
+        whole = s.whole;
         listed = s.listed;
         fits = omega (arith, fits, more);
       })

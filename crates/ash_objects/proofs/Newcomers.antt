@@ -18,10 +18,10 @@ use Rattle.std.specs.List.{remove}
 use Rattle.ash_host.specs.declared.host_object.HostObject.{Ghosts}
 use Rattle.ash_objects.specs.declared.body.Body.{Body}
 use Rattle.ash_objects.specs.declared.body.Body.TheVariants.{Host}
-use Rattle.ash_objects.specs.Counting.{holding, fields_in, counted, living_among, living_in, words_at, AllLive, refer_all, AreCounted, AreGiven, IsTable}
+use Rattle.ash_objects.specs.Counting.{holding, fields_in, counted, living_among, living_in, words_at, AllLive, refer_all, AreCounted, AreGiven, IsTable, face, face_at}
 use Rattle.ash_objects.proofs.Placing.{found_by_number}
 use Rattle.ash_objects.proofs.Counts.{object_at-living, numbers-living, counted_fits}
-use Rattle.ash_objects.proofs.Fields.{face, face_at, with_holds, living_face}
+use Rattle.ash_objects.proofs.Fields.{with_holds, living_face}
 use Rattle.ash_objects.proofs.Referring.{all_face, all_fields, all_order, all_length, all_each, all_given, all_counted}
 
 length-with_at : {A : Type 0} (n : ℕ) (v : A) (l : List (ℕ × A)) → length (with_at n v l) ≤ length l + 1

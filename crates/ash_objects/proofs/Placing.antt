@@ -11,7 +11,7 @@ use Rattle.std.proofs.lemmas.Bool.Decides.{nat_tests}
 use Rattle.slab.specs.Slab.{Slab, get}
 use Rattle.ash_host.specs.Objects.{object_at, numbers, IsInOrder}
 use Rattle.ash_objects.specs.declared.entry.Entry.{Entry}
-use Rattle.ash_objects.specs.Store.{Placed, placed, with_entry, placed_in, ArePlaced, AreStored, NoneWaits, IsIn, IsOccupied}
+use Rattle.ash_objects.specs.Store.{Placed, placed, with_entry, placed_in, ArePlaced, AreStored, NoneWaits, IsIdle, IsIn, IsOccupied}
 
 is_at_eq : (x y : ℕ) → is_at (nat_cmp x) y ≡ nat_eq x y
 is_at_eq x y = grind (arith, nat_tests)
@@ -143,3 +143,29 @@ module _ {B : Type 0} where
   -- where nothing is listed nothing waits
   pub none_waits : (entries : Slab (Entry B)) (index : List (ℕ × ℕ)) → ArePlaced entries index → ((slot : ℕ) → IfSome (get entries slot) (λ entry. entry.waiting ≡ true → Contains [] slot)) → NoneWaits (placed_in entries index)
   none_waits entries index a listed n = none_waits_at n entries index a listed
+
+  pub in_from_idle : (n slot : ℕ) (l : List (ℕ × Placed B)) → IsSomeAnd (object_at n l) (λ object. (object.slot ≡ slot) × ((object.item).count ≡ 0)) → IsIn n slot l
+  in_from_idle n slot l h = go (object_at n l) h
+    where
+      go : (v : Option (Placed B)) → IsSomeAnd v (λ object. (object.slot ≡ slot) × ((object.item).count ≡ 0)) → IsSomeAnd v (λ object. object.slot ≡ slot)
+      go None h = absurd h
+      go (Some p) h = h.0
+
+  -- an object that is counted nowhere has such an entry
+  pub idle_entry : (slot : ℕ) (entries : Slab (Entry B)) (index : List (ℕ × ℕ)) (entry : Entry B) → ArePlaced entries index → get entries slot ≡ Some entry → IsIdle slot (placed_in entries index) → (entry.item).count ≡ 0
+  idle_entry slot entries index entry a there h =
+      let found = item_in h.0 slot entries index entry a there (in_from_idle h.0 slot (placed_in entries index) h.1) in
+      let at = subst (λ (v : Option (Placed B)). IsSomeAnd v (λ object. (object.slot ≡ slot) × ((object.item).count ≡ 0))) found.0 h.1 in
+      at.1
+
+  -- and the other way round
+  pub entry_idle : (slot : ℕ) (entries : Slab (Entry B)) (index : List (ℕ × ℕ)) (entry : Entry B) → ArePlaced entries index → ((s : ℕ) → IfSome (get entries s) (λ e. object_at e.number index ≡ Some s)) → get entries slot ≡ Some entry → (entry.item).count ≡ 0 → IsIdle slot (placed_in entries index)
+  entry_idle slot entries index entry a whole there none =
+      let led : object_at entry.number index ≡ Some slot = subst (λ (o : Option (Entry B)). IfSome o (λ e. object_at e.number index ≡ Some slot)) there (whole slot) in
+      let here = slot_from (object_at entry.number (placed_in entries index)) (slots_of entry.number entries index a ∙ led) in
+      let found = item_in entry.number slot entries index entry a there here in
+      (entry.number, subst (λ (v : Option (Placed B)). IsSomeAnd v (λ object. (object.slot ≡ slot) × ((object.item).count ≡ 0))) (sym found.0) (refl, none))
+    where
+      slot_from : (v : Option (Placed B)) → option_map (λ object. object.slot) v ≡ Some slot → IsSomeAnd v (λ object. object.slot ≡ slot)
+      slot_from None h = cc
+      slot_from (Some p) h = cc

@@ -9,11 +9,11 @@ use Rattle.ash_host.specs.Objects.{object_at, IsInOrder, Lives, handles_to, is_h
 use Rattle.ash_objects.specs.declared.entry.Item.{Item}
 use Rattle.ash_objects.specs.Bodies.{words_of}
 use Rattle.ash_objects.specs.Store.{Placed, IsIn}
-use Rattle.ash_objects.specs.Counting.{fields_in, counted, AllLive, AreGiven, once_more, change_handle, refer_all, words_at, living_in}
+use Rattle.ash_objects.specs.Counting.{fields_in, counted, AllLive, AreGiven, once_more, change_handle, refer_all, words_at, living_in, face, face_at}
 use Rattle.ash_objects.specs.Table.{Living}
 use Rattle.ash_objects.proofs.Counts.{given-change}
 use Rattle.ash_objects.proofs.Views.{alive_view}
-use Rattle.ash_objects.proofs.Fields.{face, face_at, face_more, hits, hits_word, handle_fields, handle_order, handle_length, handle_each, more_handle}
+use Rattle.ash_objects.proofs.Fields.{face_more, hits, hits_word, handle_fields, handle_order, handle_length, handle_each, more_handle}
 
 -- a handle counts once at the most
 pub hits_small : (h : Option ℕ) (m : ℕ) → hits h m ≤ 1
@@ -36,6 +36,20 @@ rest_at (x ∷ ws) zero w h = let same : x ≡ w = cc in ap (λ (v : Word). v �
 rest_at (x ∷ ws) (suc k) w h =
     let next : suc k + 1 ≡ suc (k + 1) = omega arith in
     rest_at ws k w h ∙ ap (λ (j : ℕ). w ∷ drop j (x ∷ ws)) (sym next)
+
+-- the same of any list
+pub rest_got : {A : Type 0} (xs : List A) (k : ℕ) (d : A) → k < length xs → drop k xs ≡ get_or xs k d ∷ drop (k + 1) xs
+rest_got [] k d h = absurd (omega arith)
+rest_got (x ∷ xs) zero d h = refl
+rest_got (x ∷ xs) (suc k) d h =
+    let next : suc k + 1 ≡ suc (k + 1) = omega arith in
+    rest_got xs k d (omega arith) ∙ ap (λ (j : ℕ). get_or xs k d ∷ drop j (x ∷ xs)) (sym next)
+
+pub rest_over : {A : Type 0} (xs : List A) (k : ℕ) → length xs ≤ k → drop k xs ≡ []
+rest_over [] zero h = refl
+rest_over [] (suc k) h = refl
+rest_over (x ∷ xs) zero h = absurd (omega arith)
+rest_over (x ∷ xs) (suc k) h = rest_over xs k (omega arith)
 
 pub rest_none : (ws : List Word) → drop (length ws) ws ≡ []
 rest_none [] = refl

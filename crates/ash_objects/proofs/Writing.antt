@@ -8,6 +8,7 @@ use Rattle.std.proofs.lemmas.List.Elements.{Contains-append_left, Contains-appen
 use Rattle.slab.specs.Slab.{Slab, get, with_value, Updates}
 use Rattle.slab.proofs.SlabLemmas.{Updates-with_value, ContainsKey-within}
 use Rattle.std.proofs.lemmas.List.{length-append}
+use Rattle.ash_host.specs.Objects.{object_at}
 use Rattle.ash_objects.specs.declared.entry.Entry.{Entry}
 use Rattle.ash_objects.specs.Store.{Placed, placed, with_entry, placed_in, ArePlaced, IsStored, is_unlisted, change_in}
 
@@ -100,6 +101,12 @@ module _ {B : Type 0} where
       let there = ap (λ (o : Option (Entry B)). cond {A = ℕ} (is_unlisted o) 1 0) was in
       omega (arith, sums, there)
 
+  -- the index leads to each entry still
+  still_whole : {old new : Slab (Entry B)} {slot : ℕ} {before after : Entry B} (w : Writes old new slot before after) (index : List (ℕ × ℕ)) → ((s : ℕ) → IfSome (get old s) (λ entry. object_at entry.number index ≡ Some s)) → (s : ℕ) → IfSome (get new s) (λ entry. object_at entry.number index ≡ Some s)
+  still_whole {old} {new} {slot} {before} {after} w index whole =
+      let mine : object_at before.number index ≡ Some slot = subst (λ (o : Option (Entry B)). IfSome o (λ entry. object_at entry.number index ≡ Some slot)) w.was (whole slot) in
+      still_each w (λ k entry. object_at entry.number index ≡ Some k) (ap (λ (k : ℕ). object_at k index) w.number ∙ mine) whole
+
   -- a write that leaves the flag leaves all in order
   pub still_stored : (entries : Slab (Entry B)) (index : List (ℕ × ℕ)) (idle : List ℕ) (room slot : ℕ) (before after : Entry B) → get entries slot ≡ Some before → after.number ≡ before.number → after.waiting ≡ before.waiting → IsStored entries index idle room → IsStored (with_value entries slot after) index idle room
   still_stored entries index idle room slot before after was number flag s =
@@ -111,6 +118,7 @@ module _ {B : Type 0} where
       record {
         in_order = s.in_order;
         placed = still_placed w index s.placed;
+        whole = still_whole w index s.whole;
         listed = still_each w (λ k entry. entry.waiting ≡ true → Contains idle k) (λ yes. mine (sym flag ∙ yes)) s.listed;
         fits = omega (arith, count, same, fits);
       }
@@ -127,6 +135,7 @@ module _ {B : Type 0} where
       record {
         in_order = s.in_order;
         placed = still_placed w index s.placed;
+        whole = still_whole w index s.whole;
         listed = still_each w (λ k entry. entry.waiting ≡ true → Contains (idle ++ slot ∷ []) k) (λ yes. Contains-append_right idle (slot ∷ []) slot (0, omega arith, refl)) (λ k. more k (get entries k) (s.listed k));
         fits = omega (arith, count, one, none, fits, longer);
       }
@@ -172,6 +181,7 @@ module _ {B : Type 0} where
       record {
         in_order = s.in_order;
         placed = still_placed w index s.placed;
+        whole = still_whole w index s.whole;
         listed = popped_listed entries (with_value entries slot after) slot idle rest is w.updates.others (subst (λ (o : Option (Entry B)). IfSome o (λ entry. entry.waiting ≡ false)) (sym w.updates.changed) now) s.listed;
         fits = omega (arith, count, none, fits, longer);
       }
@@ -184,6 +194,7 @@ module _ {B : Type 0} where
       record {
         in_order = s.in_order;
         placed = s.placed;
+        whole = s.whole;
         listed = popped_listed entries entries slot idle rest is (λ k apart. refl) (subst (λ (o : Option (Entry B)). IfSome o (λ entry. entry.waiting ≡ false)) (sym none) tt) s.listed;
         fits = omega (arith, fits, longer);
       }

@@ -1,5 +1,5 @@
 -- What objects hold.
-use Rattle.std.specs.Prelude.{ℕ, List, [], slice_set}
+use Rattle.std.specs.Prelude.{ℕ, Bool, true, false, List, [], slice_set}
 use Rattle.ash_host.specs.declared.word.Word.{Word}
 use Rattle.ash_objects.specs.declared.body.Body.{Body}
 use Rattle.ash_objects.specs.declared.body.Body.TheVariants.{Script, Host}
@@ -13,3 +13,8 @@ words_of (Host _) = []
 abbrev pub with_word : {B : Type 0} → ℕ → Word → Body B → Body B
 with_word place word (Script script) = Script (record script { fields = slice_set script.fields place word })
 with_word place word (Host box) = Host box
+
+-- whether it is a host object, in its box
+abbrev pub is_boxed : {B : Type 0} → Body B → Bool
+is_boxed (Script _) = false
+is_boxed (Host _) = true

@@ -1,6 +1,6 @@
 -- How the table counts: what it keeps beside each object, and what a contract sees of it.
 use Rattle.std.specs.Prelude.{◌≡◌, ℕ, ◌+◌, ◌-◌, ◌<◌, ◌≤◌, ◌^◌, ◌==◌, true, List, [], ◌∷◌, length, All, Option, None, Some, IfSome, sum_by, if◌then◌else◌}
-use Rattle.std.specs.Option.{option_map_or}
+use Rattle.std.specs.Option.{option_map, option_map_or}
 use Rattle.std.specs.Map.{values_of}
 use Rattle.ash_host.specs.declared.word.Word.{Word}
 use Rattle.ash_host.specs.Objects.{object_at, Lives, IsInOrder, handle, handles_to}
@@ -25,6 +25,13 @@ module _ {B : Type 0} where
   -- what a contract sees of an object to which there are so many handles in fields
   abbrev pub living : ℕ → Placed B → Living B
   living handles object = record { slot = object.slot; holds = (object.item).count - handles; touched = (object.item).touched; body = (object.item).body }
+
+  -- what a contract sees of an object but its holds
+  abbrev pub face : Placed B → Living B
+  face object = record { slot = object.slot; holds = 0; touched = (object.item).touched; body = (object.item).body }
+
+  abbrev pub face_at : ℕ → List (ℕ × Placed B) → Option (Living B)
+  face_at number objects = option_map face (object_at number objects)
 
   -- the same of some objects among all
   abbrev pub living_among : List (ℕ × Placed B) → List (ℕ × Placed B) → List (ℕ × Living B)
@@ -77,6 +84,11 @@ module _ {B : Type 0} where
   abbrev pub refer_all : List Word → List (ℕ × Placed B) → List (ℕ × Placed B)
   refer_all [] objects = objects
   refer_all (word ∷ words) objects = refer_all words (change_handle once_more (handle word) objects)
+
+  -- the objects, each counted once less for each of these words that is a handle to it
+  abbrev pub release_all : List Word → List (ℕ × Placed B) → List (ℕ × Placed B)
+  release_all [] objects = objects
+  release_all (word ∷ words) objects = release_all words (change_handle once_less (handle word) objects)
 
   -- an object with a word at a place, which touches it
   abbrev pub written : ℕ → Word → Placed B → Placed B

@@ -5,3 +5,5 @@ pub mod Table
 pub mod Counting
 pub mod Responses
 pub mod Making
+pub mod Sweeping
+pub mod Collecting

@@ -42,10 +42,12 @@ module _ {B : Type 0} where
   is_unlisted None = false
   is_unlisted (Some entry) = not entry.waiting
 
-  -- The index leads from each number to its entry, each waiting entry is listed, and the list has room for all others.
+  -- The index leads from each number to its entry and to every entry, each waiting entry is listed, and the list has
+  -- room for all others.
   pub record IsStored (entries : Slab (Entry B)) (index : List (ℕ × ℕ)) (idle : List ℕ) (room : ℕ) : Type 0 where
     pub in_order : IsInOrder index
     pub placed : ArePlaced entries index
+    pub whole : (slot : ℕ) → IfSome (get entries slot) (λ entry. object_at entry.number index ≡ Some slot)
     pub listed : (slot : ℕ) → IfSome (get entries slot) (λ entry. entry.waiting ≡ true → Contains idle slot)
     pub fits : count_by is_unlisted entries.slots + length idle ≤ room
 
@@ -61,6 +63,10 @@ module _ {B : Type 0} where
   pub record AreStored (objects : List (ℕ × Placed B)) : Type 0 where
     pub in_order : IsInOrder objects
     pub apart : (slot one other : ℕ) → IsIn one slot objects → IsIn other slot objects → one ≡ other
+
+  -- the object in a slot is counted nowhere
+  abbrev pub IsIdle : ℕ → List (ℕ × Placed B) → Type 0
+  IsIdle slot objects = (number : ℕ) × IsSomeAnd (object_at number objects) (λ object. (object.slot ≡ slot) × ((object.item).count ≡ 0))
 
   -- no object waits for the sweep
   abbrev pub NoneWaits : List (ℕ × Placed B) → Type 0

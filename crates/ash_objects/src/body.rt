@@ -1,6 +1,6 @@
 //! What an object is.
 ghost use Rattle.std.specs.Prelude.{◌≡◌};
-ghost use Rattle.ash_objects.specs.Bodies.{words_of};
+ghost use Rattle.ash_objects.specs.Bodies.{words_of, is_boxed};
 
 use crate::words::Words;
 use ash_host::Word;
@@ -26,6 +26,13 @@ pub struct Script {
 }
 
 impl<B> Body<B> {
+    /// Whether it is a host object.
+    pub fn is_host(&self) -> bool
+        ensures { result ≡ is_boxed self.now }
+    {
+        matches!(self, Body::Host(_))
+    }
+
     /// The words that it holds, in order; a host object holds none.
     pub fn words(&self) -> &[Word]
         ensures { result.now ≡ words_of self.now }

@@ -1,10 +1,10 @@
 //! Counts of handles, and the words that hold them.
-ghost use Rattle.std.specs.Prelude.{◌≡◌, ◌<◌, ◌+◌, ◌-◌, ◌^◌, ℕ, Some, None, IsSomeAnd, IfSome, slice_get, length};
-ghost use Rattle.ash_host.specs.Objects.{object_at, Lives, handle};
+ghost use Rattle.std.specs.Prelude.{◌≡◌, ◌<◌, ◌≤◌, ◌+◌, ◌-◌, ◌^◌, ℕ, Some, None, IsSomeAnd, IfSome, slice_get, length};
+ghost use Rattle.ash_host.specs.Objects.{object_at, Lives, handle, handles_to};
 ghost use Rattle.ash_objects.specs.Bodies.{words_of};
 ghost use Rattle.ash_objects.specs.Store.{IsIn, IsOccupied, AreStored};
 ghost use Rattle.ash_objects.specs.Table.{change_at};
-ghost use Rattle.ash_objects.specs.Counting.{counted, once_more, once_less, change_handle, words_at, AllLive, refer_all, written};
+ghost use Rattle.ash_objects.specs.Counting.{counted, once_more, once_less, change_handle, words_at, AllLive, refer_all, release_all, written};
 
 use crate::body::Body;
 use crate::store::Store;
@@ -77,6 +77,17 @@ pub(crate) fn release<B>(store: &mut Store<B>, word: Word)
             unreachable!()
         };
         count_less(store, slot);
+    }
+}
+
+/// Counts each object once less for each of these words that is a handle to it.
+pub(crate) fn release_words<B>(store: &mut Store<B>, words: &[Word])
+    requires { (number : ℕ) → handles_to number words.now ≤ counted number store.old.objects }
+    ensures objects { store.new.objects ≡ release_all words.now store.old.objects }
+    ensures room { store.new.room ≡ store.old.room }
+{
+    for word in words {
+        release(store, *word);
     }
 }
 

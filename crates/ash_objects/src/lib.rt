@@ -1,10 +1,12 @@
 //! The objects of a host: those that live, by their numbers and with their counts; the boxes of the embedding program
 //! that are free; its services. It stands on `ash_host` alone, for words and host objects, and on a slab, in which each
 //! object has a slot while it lives. It promises that a table is a map from numbers to objects, in which a count is the
-//! number of fields that hold the object and one for each hold that was not undone.
+//! number of fields that hold the object and one for each hold that was not undone, and that a sweep takes away what no
+//! hold and no object that stays leads to.
 //!
-//! In reading order: `words` and `body` (what an object is), `objects` (the table and its calls), `counting` (how
-//! counts follow words), `store` and `entry` (objects in slots, found by their numbers).
+//! In reading order: `words` and `body` (what an object is), `objects` (the table, and its calls on fields and holds),
+//! `making` (new objects), `host_calls` (calls of host objects and services), `sweeping` (the sweep), `counting` and
+//! `calling` (what these do in a slot), `store` and `entry` (objects in slots, found by their numbers).
 #![tactic(auto)]
 
 mod body;
@@ -15,6 +17,7 @@ mod host_calls;
 mod making;
 mod objects;
 mod store;
+mod sweeping;
 mod words;
 
 pub use body::{Body, Script};

@@ -1,9 +1,9 @@
 //! Objects in slots, found by their numbers.
-ghost use Rattle.std.specs.Prelude.{◌≡◌, ◌≤◌, ◌+◌, ℕ, [], true, false, length, option_map, nat_eq, IsSomeAnd, IfSome, IfNone, OnSome, IfOk, IfErr, OnErr, Some, None};
+ghost use Rattle.std.specs.Prelude.{◌≡◌, ◌≤◌, ◌+◌, ◌↔◌, IsTrue, ℕ, [], true, false, length, option_map, nat_eq, IsSomeAnd, IfSome, IfNone, OnSome, IfOk, IfErr, OnErr, Some, None};
 ghost use Rattle.std.specs.Map.{remove_entry};
-ghost use Rattle.ash_host.specs.Objects.{object_at, with_at};
+ghost use Rattle.ash_host.specs.Objects.{object_at, with_at, IsInOrder};
 ghost use Rattle.std.specs.Borrow.{sem};
-ghost use Rattle.ash_objects.specs.Store.{IsIn, IsOccupied, AreStored, NoneWaits, change_in, with_waiting};
+ghost use Rattle.ash_objects.specs.Store.{IsIn, IsOccupied, AreStored, IsIdle, NoneWaits, change_in, with_waiting};
 
 use crate::entry::{Entry, Item};
 use slab::Slab;
@@ -102,6 +102,16 @@ impl<B> Store<B> {
         entry.number
     }
 
+    /// Whether the object in a slot is counted nowhere. The slot may be empty.
+    pub fn is_idle(&self, slot: usize) -> bool
+        ensures { IsTrue result ↔ IsIdle slot self.now.objects }
+    {
+        match self.entries.get(slot) {
+            Some(entry) => entry.item.count == 0,
+            None => false,
+        }
+    }
+
     /// Has the next sweep look at a slot.
     pub fn await_sweep(&mut self, slot: usize)
         requires { IsOccupied slot self.old.objects }
@@ -126,6 +136,8 @@ impl<B> Store<B> {
         ensures room { self.new.room ≡ self.old.room }
         ensures same { IfNone result (self.new ≡ self.old) }
         ensures none { IfNone result (NoneWaits self.old.objects) }
+        ensures fits { self.old.pending ≤ self.old.room }
+        ensures stored { AreStored self.old.objects }
     {
         let Some(slot) = self.idle.pop() else {
             return None;
@@ -171,6 +183,7 @@ impl<B> Store<B> {
         ensures number { IsIn result.number slot self.old.objects }
         ensures item { IsSomeAnd (object_at result.number self.old.objects) (λ object. object.item ≡ result.item) }
         ensures objects { self.new.objects ≡ remove_entry (nat_eq result.number) self.old.objects }
+        ensures in_order { IsInOrder self.new.objects }
         ensures room { self.new.room ≡ self.old.room }
         ensures pending { self.new.pending ≡ self.old.pending }
     {

@@ -4,7 +4,7 @@ use Rattle.std.specs.List.{Contains}
 use Rattle.std.specs.Option.{option_copied_mut}
 use Rattle.slab.specs.Slab.{get}
 use Rattle.ash_objects.specs.Store.{with_waiting}
-use Rattle.ash_objects.proofs.Placing.{none_waits}
+use Rattle.ash_objects.proofs.Placing.{none_waits, are_stored}
 use Rattle.ash_objects.proofs.Moving.{nothing_in}
 use Rattle.ash_objects.proofs.Writing.{popped_stored, popped_empty, change_empty, writes_value, written_in}
 use Rattle.ash_objects.proofs.store.Store.next_waiting.Goals as goal
@@ -30,3 +30,12 @@ invariant_of-self-2 g c =
 pub returns-clause-objects : goal.returns-clause-objects
 returns-clause-objects g c =
     rw (← c.self.view_is) (written_in (writes_value c.self.inside.entries c.in-Some.slot c.in-Some-get_mut.entry.now _ (sym c.get_mut.ensures.value ∙ ap option_copied_mut c.in-Some-get_mut.is) refl) (with_waiting false) (λ s. refl) c.self.inside.index.entries)
+
+pub returns-in_default-clause-stored : goal.returns-in_default-clause-stored
+returns-in_default-clause-stored g c = rw (← c.self.view_is) (are_stored c.self.inside.entries c.self.inside.index.entries c.self.invariant.in_order c.self.invariant.placed)
+
+pub returns-in_default-get_mut-clause-stored : goal.returns-in_default-get_mut-clause-stored
+returns-in_default-get_mut-clause-stored g c = rw (← c.self.view_is) (are_stored c.self.inside.entries c.self.inside.index.entries c.self.invariant.in_order c.self.invariant.placed)
+
+pub returns-clause-stored : goal.returns-clause-stored
+returns-clause-stored g c = rw (← c.self.view_is) (are_stored c.self.inside.entries c.self.inside.index.entries c.self.invariant.in_order c.self.invariant.placed)

@@ -1,8 +1,9 @@
-use Rattle.std.proofs.Common.{sym, ◌∙◌, refl, subst, Option}
+use Rattle.std.proofs.Common.{sym, ◌∙◌, refl, subst, Option, List, ℕ}
 use Rattle.std.specs.Prelude.{IsSome}
 use Rattle.std.proofs.lemmas.Map.Keys.{IsStrictlyIncreasing-from_sorted}
 use Rattle.ash_objects.specs.declared.entry.Entry.{Entry}
-use Rattle.ash_objects.proofs.Placing.{item_in, entry_in}
+use Rattle.ash_objects.specs.Store.{ArePlaced}
+use Rattle.ash_objects.proofs.Placing.{item_in, entry_in, numbers-placed}
 use Rattle.ash_objects.proofs.Moving.{SameBut, removed_in, removed_stored, removed_by_number}
 use Rattle.ash_objects.proofs.store.Store.remove.Goals as goal
 
@@ -34,3 +35,11 @@ pub returns-clause-objects : goal.returns-clause-objects
 returns-clause-objects g c =
     let others : SameBut c.self.inside.entries c.remove-entry.new.self c.args.slot = record { same = c.remove-entry.ensures.updates.others } in
     rw (← c.self.view_is, c.remove.ensures.entries, removed_by_number c.remove-entry.result.number c.self.inside.index.entries) (removed_in others c.remove-entry.result.number c.remove-entry.result c.remove-entry.ensures.value refl c.self.inside.index.entries c.self.invariant.in_order c.self.invariant.placed).0
+
+pub returns-clause-in_order : goal.returns-clause-in_order
+returns-clause-in_order g c =
+    let others : SameBut c.self.inside.entries c.remove-entry.new.self c.args.slot = record { same = c.remove-entry.ensures.updates.others } in
+    let placed = (removed_in others c.remove-entry.result.number c.remove-entry.result c.remove-entry.ensures.value refl c.self.inside.index.entries c.self.invariant.in_order c.self.invariant.placed).1 in
+    let is = c.remove.ensures.entries ∙ removed_by_number c.remove-entry.result.number c.self.inside.index.entries in
+    let there = subst (λ (l : List (ℕ × ℕ)). ArePlaced c.remove-entry.new.self l) (sym is) placed in
+    rw (numbers-placed c.remove-entry.new.self c.remove.new.self.entries there) (IsStrictlyIncreasing-from_sorted _ c.remove.ensures.ordered)

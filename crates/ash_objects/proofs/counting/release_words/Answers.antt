@@ -1,0 +1,34 @@
+use Rattle.std.proofs.Common.{ℕ, List, ◌+◌, ap, sym, ◌∙◌, drop, get_or, false}
+use Rattle.ash_host.specs.declared.word.Word.{Word}
+use Rattle.ash_host.specs.declared.word.Word.TheVariants.{Bool}
+use Rattle.ash_objects.specs.Store.{Placed}
+use Rattle.ash_objects.specs.Counting.{release_all}
+use Rattle.ash_objects.proofs.Referring.{rest_got, rest_over}
+use Rattle.ash_objects.proofs.Releasing.{covers_first, covers_rest}
+use Rattle.ash_objects.proofs.counting.release_words.Goals as goal
+
+pub release-requires : goal.release-requires
+release-requires g c =
+    let k = c.loop-word.word-index in
+    let ws = c.args.words.now in
+    let next = rest_got ws k (Bool false) c.loop-word-test.true in
+    covers_first (get_or ws k (Bool false)) (drop (k + 1) ws) c.loop-word.store.objects (λ m. rw next at (c.loop-word.invariant.covers m))
+
+pub loop-word-preserved : goal.loop-word-preserved
+loop-word-preserved g c =
+    let k = c.loop-word.word-index in
+    let ws = c.args.words.now in
+    let next = rest_got ws k (Bool false) c.loop-word-test.true in
+    record {
+      rest =
+          ap (λ (l : List (ℕ × Placed _)). release_all (drop (k + 1) ws) l) c.release.ensures.objects
+          ∙ sym (ap (λ (vs : List Word). release_all vs c.loop-word.store.objects) next)
+          ∙ c.loop-word.invariant.rest;
+      covers = λ m. rw c.release.ensures.objects (covers_rest (get_or ws k (Bool false)) (drop (k + 1) ws) c.loop-word.store.objects (λ j. rw next at (c.loop-word.invariant.covers j)) m);
+      room = c.release.ensures.room ∙ c.loop-word.invariant.room;
+    }
+
+pub returns-clause-objects : goal.returns-clause-objects
+returns-clause-objects g c =
+    let over = rest_over c.args.words.now c.loop-word.word-index c.loop-word-test.false in
+    sym (ap (λ (vs : List Word). release_all vs c.loop-word.store.objects) over) ∙ c.loop-word.invariant.rest

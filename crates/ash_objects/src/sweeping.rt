@@ -1,0 +1,98 @@
+//! The sweep: what no hold and no object that stays leads to goes.
+ghost use Rattle.std.specs.Prelude.{◌≡◌, ◌<◌, ◌≤◌, ◌+◌, ◌++◌, ℕ, Bool, List, [], length, map, nat_eq, IsSomeAnd, OnOk, OnErr, vec_len, vec_capacity};
+ghost use Rattle.std.specs.Map.{remove_entry};
+ghost use Rattle.ash_host.specs.Objects.{object_at, IsInOrder};
+ghost use Rattle.ash_objects.specs.Bodies.{words_of};
+ghost use Rattle.ash_objects.specs.Store.{IsIn, IsIdle, AreStored, NoneWaits};
+ghost use Rattle.ash_objects.specs.Counting.{fields_in, counted, release_all, AreCounted};
+ghost use Rattle.ash_objects.specs.Collecting.{HaveGone, AreInOrder, entry_mark, marked_since, marked_drops};
+ghost use Rattle.ash_objects.specs.Sweeping.{Collects, RanksFall, LeavesReachable, gone_from, drops};
+
+use crate::counting::release_words;
+use crate::entry::Entry;
+use crate::objects::Objects;
+use crate::store::Store;
+use ash_host::{Event, HostObject, NoMemory};
+
+// Takes an object that is counted nowhere out of its slot, and the handles among its words out of the counts.
+fn take_idle<B>(store: &mut Store<B>, slot: usize) -> Entry<B>
+    requires idle { IsIdle slot store.old.objects }
+    requires stored { AreStored store.old.objects }
+    requires covered { (number : ℕ) → fields_in number store.old.objects ≤ counted number store.old.objects }
+    ensures number { IsIn result.number slot store.old.objects }
+    ensures item { IsSomeAnd (object_at result.number store.old.objects) (λ object. object.item ≡ result.item) }
+    ensures objects { store.new.objects
+        ≡ release_all (words_of (result.item).body) (remove_entry (nat_eq result.number) store.old.objects) }
+    ensures stays_in_order { IsInOrder (remove_entry (nat_eq result.number) store.old.objects) }
+    ensures room { store.new.room ≡ store.old.room }
+{
+    let entry = store.remove(slot);
+    release_words(store, entry.item.body.words());
+    entry
+}
+
+// Takes out what nothing counts, until all that is left is counted.
+fn collect<B>(store: &mut Store<B>, taken: &mut Vec<Entry<B>>)
+    requires in_order { IsInOrder store.old.objects }
+    requires counted { AreCounted store.old.objects }
+    requires empty { taken.old.items ≡ [] }
+    requires room { length store.old.objects ≤ vec_capacity taken.old }
+    ensures gone { HaveGone store.old.objects store.new.objects taken.new.items }
+    ensures done { NoneWaits store.new.objects }
+{
+    while let Some(slot) = store.next_waiting() {
+        if store.is_idle(slot) {
+            taken.push_reserved(take_idle(store, slot));
+        }
+    }
+}
+
+// Sorts what was taken out by ascending number.
+fn sort_taken<B>(taken: &mut Vec<Entry<B>>)
+    ensures len { vec_len taken.new ≡ vec_len taken.old }
+    ensures order { (went : List (ℕ × Bool)) → AreInOrder taken.old.items went → map entry_mark taken.new.items ≡ went }
+{
+    taken.sort_unstable_by_key(|entry| entry.number);
+}
+
+// Appends the numbers of those that had been given when the marks were cleared, and an event for each host object.
+fn report<B>(taken: &[Entry<B>], settled: u64, gone: &mut Vec<u64>, events: &mut Vec<Event>)
+    requires numbers_fit { vec_len gone.old + length taken.now ≤ vec_capacity gone.old }
+    requires events_fit { vec_len events.old + length taken.now ≤ vec_capacity events.old }
+    ensures gone { gone.new.items ≡ gone.old.items ++ marked_since settled (map entry_mark taken.now) }
+    ensures events { events.new.items ≡ events.old.items ++ marked_drops (map entry_mark taken.now) }
+{
+    for entry in taken {
+        if entry.number <= settled {
+            gone.push_reserved(entry.number);
+        }
+        if entry.item.body.is_host() {
+            events.push_reserved(Event::Dropped(entry.number));
+        }
+    }
+}
+
+impl<B: HostObject> Objects<B> {
+    /// Takes away what no hold and no object that stays leads to: gives its boxes up, and appends `Dropped` for each, by
+    /// ascending number. Where memory is refused nothing is taken.
+    pub fn sweep(&mut self, events: &mut Vec<Event>) -> Result<(), NoMemory>
+        ensures collected { OnOk result (Collects self.old self.new) }
+        ensures dropped { OnOk result (events.new.items ≡ events.old.items ++ drops (gone_from self.old.objects self.new.objects)) }
+        ensures reachable { OnOk result ((rank : ℕ → ℕ) (top : ℕ) → RanksFall rank top self.old → LeavesReachable self.old self.new) }
+        ensures unchanged { OnErr result (self.new ≡ self.old) }
+        ensures no_event { OnErr result (events.new.items ≡ events.old.items) }
+    {
+        let living = self.store.len();
+        let mut taken = Vec::new(*self.gone.allocator());
+        if taken.reserve(living).is_err()
+            || self.gone.reserve(living).is_err()
+            || events.reserve(living).is_err()
+        {
+            return Err(NoMemory);
+        }
+        collect(&mut self.store, &mut taken);
+        sort_taken(&mut taken);
+        report(&taken, self.settled, &mut self.gone, events);
+        Ok(())
+    }
+}
