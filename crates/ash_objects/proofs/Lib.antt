@@ -11,6 +11,7 @@ pub mod Referring
 pub mod Releasing
 pub mod Sorting
 pub mod Marks
+pub mod Touching
 pub mod Collecting
 pub mod Collected
 pub mod Newcomers

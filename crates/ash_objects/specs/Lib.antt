@@ -7,3 +7,4 @@ pub mod Responses
 pub mod Making
 pub mod Sweeping
 pub mod Collecting
+pub mod Marking

@@ -1,5 +1,6 @@
 -- Objects in their slots, as a list by ascending number.
-use Rattle.std.specs.Prelude.{◌≡◌, ℕ, ◌+◌, ◌≤◌, Bool, true, false, not, List, [], ◌∷◌, length, Option, None, Some, IfSome, IsSomeAnd, Contains, nat_eq, count_by, if◌then◌else◌}
+use Rattle.std.specs.Prelude.{◌≡◌, ℕ, ◌+◌, ◌≤◌, Bool, true, false, not, List, [], ◌∷◌, length, Option, None, Some, IfSome, IsSomeAnd, Contains, nat_eq, count_by, filter, if◌then◌else◌}
+use Rattle.std.specs.Map.{keys_of}
 use Rattle.slab.specs.Slab.{Slab, get}
 use Rattle.ash_host.specs.Objects.{object_at, IsInOrder}
 use Rattle.ash_objects.specs.declared.entry.Item.{Item}
@@ -84,3 +85,11 @@ module _ {B : Type 0} where
   -- an object that waits for the sweep, or doesn't
   abbrev pub with_waiting : Bool → Placed B → Placed B
   with_waiting waiting object = record object { waiting = waiting }
+
+  -- the numbers of those that were made or changed since the marks were cleared
+  abbrev pub marked_in : List (ℕ × Placed B) → List ℕ
+  marked_in objects = keys_of (filter (λ e. (e.1.item).touched) objects)
+
+  -- an object without its mark
+  abbrev pub unmarked : Placed B → Placed B
+  unmarked object = record object { item = record object.item { touched = false } }

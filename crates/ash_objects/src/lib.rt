@@ -5,8 +5,8 @@
 //! hold and no object that stays leads to.
 //!
 //! In reading order: `words` and `body` (what an object is), `objects` (the table, and its calls on fields and holds),
-//! `making` (new objects), `host_calls` (calls of host objects and services), `sweeping` (the sweep), `counting` and
-//! `calling` (what these do in a slot), `store` and `entry` (objects in slots, found by their numbers).
+//! `making` (new objects), `host_calls` (calls of host objects and services), `sweeping` (the sweep), `marking` (what
+//! was made, changed or taken away), `counting` and `calling` (what these do in a slot), `store` and `entry` (objects in slots, found by their numbers).
 #![tactic(auto)]
 
 mod body;
@@ -15,6 +15,7 @@ mod counting;
 mod entry;
 mod host_calls;
 mod making;
+mod marking;
 mod objects;
 mod store;
 mod sweeping;
@@ -22,5 +23,6 @@ mod words;
 
 pub use body::{Body, Script};
 pub use making::{MAX_OBJECTS, MakeFault};
+pub use marking::Touched;
 pub use objects::Objects;
 pub use words::Words;

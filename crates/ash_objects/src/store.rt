@@ -1,9 +1,9 @@
 //! Objects in slots, found by their numbers.
-ghost use Rattle.std.specs.Prelude.{◌≡◌, ◌≤◌, ◌+◌, ◌↔◌, IsTrue, ℕ, [], true, false, length, option_map, nat_eq, IsSomeAnd, IfSome, IfNone, OnSome, IfOk, IfErr, OnErr, Some, None};
+ghost use Rattle.std.specs.Prelude.{◌≡◌, ◌≤◌, ◌+◌, ◌↔◌, ◌++◌, vec_len, vec_capacity, IsTrue, ℕ, [], true, false, length, option_map, nat_eq, IsSomeAnd, IfSome, IfNone, OnSome, IfOk, IfErr, OnErr, Some, None};
 ghost use Rattle.std.specs.Map.{remove_entry};
 ghost use Rattle.ash_host.specs.Objects.{object_at, with_at, IsInOrder};
 ghost use Rattle.std.specs.Borrow.{sem};
-ghost use Rattle.ash_objects.specs.Store.{IsIn, IsOccupied, AreStored, IsIdle, NoneWaits, change_in, with_waiting};
+ghost use Rattle.ash_objects.specs.Store.{IsIn, IsOccupied, AreStored, IsIdle, NoneWaits, marked_in, change_in, with_waiting};
 
 use crate::entry::{Entry, Item};
 use slab::Slab;
@@ -109,6 +109,21 @@ impl<B> Store<B> {
         match self.entries.get(slot) {
             Some(entry) => entry.item.count == 0,
             None => false,
+        }
+    }
+
+    /// Appends the numbers of the objects that were made or changed since the marks were cleared.
+    pub fn append_marked(&self, numbers: &mut Vec<u64>)
+        requires { vec_len numbers.old + length self.now.objects ≤ vec_capacity numbers.old }
+        ensures { numbers.new.items ≡ numbers.old.items ++ marked_in self.now.objects }
+    {
+        for (number, slot) in &self.index {
+            let Some(entry) = self.entries.get(*slot) else {
+                unreachable!()
+            };
+            if entry.item.touched {
+                numbers.push_reserved(*number);
+            }
         }
     }
 

@@ -1,0 +1,23 @@
+-- The marks of objects that were made or changed.
+use Rattle.std.specs.Prelude.{ℕ, false, List, [], ◌∷◌, filter, map}
+use Rattle.std.specs.Map.{keys_of}
+use Rattle.ash_objects.specs.Store.{Placed, unmarked}
+use Rattle.ash_objects.specs.Table.{Living, Table, change_at}
+
+module _ {B : Type 0} where
+  -- the objects that were made or changed since the marks were cleared, by ascending number
+  abbrev pub marked_of : Table B → List ℕ
+  marked_of table = keys_of (filter (λ e. (e.1).touched) table.objects)
+
+  -- an object without its mark
+  abbrev pub settled_object : Living B → Living B
+  settled_object object = record object { touched = false }
+
+  -- the table once the marks were cleared
+  abbrev pub without_marks : Table B → Table B
+  without_marks table = record table { objects = map (λ e. (e.0, settled_object e.1)) table.objects; settled = table.last; gone = [] }
+
+  -- the objects, these without their marks
+  abbrev pub unmark_all : List ℕ → List (ℕ × Placed B) → List (ℕ × Placed B)
+  unmark_all [] objects = objects
+  unmark_all (number ∷ numbers) objects = unmark_all numbers (change_at number unmarked objects)
