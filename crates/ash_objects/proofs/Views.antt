@@ -4,6 +4,7 @@ use Rattle.std.specs.Prelude.{IsSomeAnd, IsSome, IfSome, slice_get}
 use Rattle.std.specs.Option.{option_map, option_map_or, option_and_then}
 use Rattle.ash_host.specs.declared.word.Word.{Word}
 use Rattle.ash_host.specs.Objects.{object_at, Lives, handle}
+use Rattle.ash_objects.specs.declared.entry.Item.{Item}
 use Rattle.ash_objects.specs.Bodies.{words_of}
 use Rattle.ash_objects.specs.Store.{Placed, IsIn}
 use Rattle.ash_objects.specs.Table.{Living, change_at, fields_holding}
@@ -25,6 +26,21 @@ module _ {B : Type 0} where
       go : (v : Option (Placed B)) → option_map (λ object. object.slot) (option_map (living (fields_in n l)) v) ≡ option_map (λ object. object.slot) v
       go None = refl
       go (Some p) = refl
+
+  -- what an object is
+  pub body_view : (n : ℕ) (l : List (ℕ × Placed B)) → option_map (λ object. object.body) (object_at n (living_in l)) ≡ option_map (λ object. (object.item).body) (object_at n l)
+  body_view n l = ap (λ (v : Option (Living B)). option_map (λ object. object.body) v) (object_at-living n l l) ∙ go (object_at n l)
+    where
+      go : (v : Option (Placed B)) → option_map (λ object. object.body) (option_map (living (fields_in n l)) v) ≡ option_map (λ object. (object.item).body) v
+      go None = refl
+      go (Some p) = refl
+
+  pub body_item : (n : ℕ) (l : List (ℕ × Placed B)) (it : Item B) → IsSomeAnd (object_at n l) (λ object. object.item ≡ it) → option_map (λ object. (object.item).body) (object_at n l) ≡ Some it.body
+  body_item n l it h = go (object_at n l) h
+    where
+      go : (v : Option (Placed B)) → IsSomeAnd v (λ object. object.item ≡ it) → option_map (λ object. (object.item).body) v ≡ Some it.body
+      go None h = absurd h
+      go (Some p) h = ap (λ (i : Item B). Some i.body) h
 
   -- the slot that a contract sees is the one
   pub slot_seen : (n : ℕ) (l : List (ℕ × Placed B)) → option_map (λ object. object.slot) (object_at n l) ≡ option_map (λ object. object.slot) (object_at n (living_in l))

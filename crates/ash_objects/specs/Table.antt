@@ -47,6 +47,10 @@ module _ {B : Type 0} where
   abbrev pub slot_of : ℕ → Table B → Option ℕ
   slot_of number table = option_map (λ object. object.slot) (object_at number table.objects)
 
+  -- what an object is
+  abbrev pub body_of : ℕ → Table B → Option (Body B)
+  body_of number table = option_map (λ object. object.body) (object_at number table.objects)
+
   -- an object lives in a slot
   abbrev pub IsInUse : ℕ → Table B → Type 0
   IsInUse slot table = (number : ℕ) × (slot_of number table ≡ Some slot)

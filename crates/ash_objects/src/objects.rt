@@ -1,8 +1,10 @@
 //! The table of objects.
 ghost use Rattle.std.specs.Prelude.{◌≡◌, ◌<◌, ◌≤◌, ◌+◌, ◌^◌, ℕ, [], Some, IsSome, IfSome};
+ghost use Rattle.std.specs.Option.{option_copied};
 ghost use Rattle.ash_host.specs.Objects.{Lives};
-ghost use Rattle.ash_objects.specs.Table.{slot_of, count_of, holds_of, field_of, IsInUse, IsAlive, held, unheld, with_object, with_field};
+ghost use Rattle.ash_objects.specs.Table.{slot_of, body_of, count_of, holds_of, field_of, IsInUse, IsAlive, held, unheld, with_object, with_field};
 
+use crate::body::Body;
 use crate::counting::{count_less, count_more, read_word, refer, release, write_word};
 use crate::store::Store;
 use ash_host::{HostObject, Word};
@@ -74,6 +76,16 @@ impl<B> Objects<B> {
         ensures { (number : ℕ) → slot_of number self.now ≡ Some slot → result ≡ number }
     {
         self.store.number(slot)
+    }
+
+    /// What an object is, if it lives. It takes no memory.
+    pub fn body(&self, number: u64) -> Option<&Body<B>>
+        ensures { option_copied result ≡ body_of number self.now }
+    {
+        match self.store.slot(number) {
+            Some(slot) => Some(&self.store.item(slot).body),
+            None => None,
+        }
     }
 
     /// The count of an object: the fields and elements that hold it, and one for each `hold` that was not undone. It
