@@ -1,0 +1,15 @@
+//! Tests of the table of objects, with memory that is ample: sequences of its calls with the events that they leave, a
+//! kind whose boxes report that they are given up, and a table at its limits. It has tests alone, so that the crate with
+//! the code is proved once.
+#![tactic(auto)]
+
+#[cfg(test)]
+mod limits;
+#[cfg(test)]
+mod marks;
+#[cfg(test)]
+mod reporter;
+#[cfg(test)]
+mod sequences;
+#[cfg(test)]
+mod table;

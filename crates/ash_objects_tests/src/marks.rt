@@ -1,0 +1,32 @@
+//! What is named as made, changed or taken away.
+
+use crate::table::{draw, hold, invoke, make, new_table, set_field};
+use ash_host::Word;
+use std::test::Fail;
+
+#[test]
+fn what_changed_is_named_once(rt: HostRuntime) -> Result<(), Fail> {
+    let (mut objects, _log) = new_table(rt.alloc(), 2)?;
+    let mut events = Vec::new(rt.alloc());
+    make(rt.alloc(), &mut objects, 1)?.ok();
+    make(rt.alloc(), &mut objects, 1)?.ok();
+    draw(&mut objects, 1, &mut events)?;
+    set_field(&mut objects, 1, 0, Word::Object(3))?;
+    hold(&mut objects, 1)?;
+    let first = objects.touched()?;
+    assert_eq!(rt; first.living.as_slice(), [1, 2, 3].as_slice());
+    assert!(rt; first.gone.is_empty());
+
+    // Only what a call changed, or a sweep took; what was made and went is not named.
+    invoke(&mut objects, 3, 1, 1, &mut events)?;
+    draw(&mut objects, 1, &mut events)?;
+    objects.sweep(&mut events)?;
+    let second = objects.touched()?;
+    assert_eq!(rt; second.living.as_slice(), [3].as_slice());
+    assert_eq!(rt; second.gone.as_slice(), [2].as_slice());
+
+    let third = objects.touched()?;
+    assert!(rt; third.living.is_empty());
+    assert!(rt; third.gone.is_empty());
+    Ok(())
+}

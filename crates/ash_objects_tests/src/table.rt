@@ -1,0 +1,140 @@
+//! A table of counters that report, and its calls where a test has seen that they may be made.
+ghost use Rattle.std.specs.Prelude.{◌≡◌, ◌≤◌, IsTrue, IsSome};
+ghost use Rattle.ash_host.specs.Objects.{Lives};
+ghost use Rattle.ash_objects.specs.Table.{IsAlive, field_of};
+ghost use Rattle.ash_objects.specs.Responses.{box_at};
+
+use crate::reporter::{Log, Reporter};
+use ash_host::{Counter, Event, HostAnswer, Word};
+use ash_objects::{MakeFault, Objects, Script, Words};
+use std::alloc::Global;
+use std::cell::RefCell;
+use std::rc::Rc;
+use std::test::Fail;
+
+pub type Table = Objects<Reporter>;
+
+/// A table with so many free counters, and what they report to.
+pub fn new_table(alloc: Global, counters: usize) -> Result<(Table, Log), Fail> {
+    let log = Rc::new(alloc, RefCell::new(Vec::new(alloc)))?;
+    let mut pool = Vec::new(alloc);
+    for _ in 0..counters {
+        let counter = Counter::new();
+        let log = log.clone()?;
+        pool.push(Reporter { counter, log })?;
+    }
+    Ok((Objects::new(alloc, pool, Vec::new(alloc)), log))
+}
+
+fn lives(objects: &Table, number: u64) -> bool
+    ensures { IsTrue result → Lives objects.now.objects number }
+{
+    objects.slot(number).is_some()
+}
+
+fn is_alive(objects: &Table, word: Word) -> bool
+    ensures { IsTrue result → IsAlive word objects.now }
+{
+    match word {
+        Word::Object(number) => lives(objects, number),
+        _ => true,
+    }
+}
+
+fn has_field(objects: &Table, number: u64, place: usize) -> bool
+    ensures { IsTrue result → IsSome (field_of number place objects.now) }
+{
+    match objects.body(number) {
+        Some(body) => place < body.words().len(),
+        None => false,
+    }
+}
+
+fn is_host(objects: &Table, number: u64) -> bool
+    ensures { IsTrue result → IsSome (box_at number objects.now) }
+{
+    match objects.body(number) {
+        Some(body) => body.is_host(),
+        None => false,
+    }
+}
+
+/// Makes an object of a script's class with so many fields, each null.
+pub fn make(
+    alloc: Global,
+    objects: &mut Table,
+    fields: usize,
+) -> Result<Result<u64, MakeFault>, Fail>
+    requires { fields ≤ 32 }
+{
+    let mut words = Vec::new(alloc);
+    words.resize(fields, Word::Null)?;
+    let script = Script {
+        module: 0,
+        class: 0,
+        fields: Words::new(words),
+    };
+    Ok(objects.new_script(script))
+}
+
+/// Draws a counter and starts it with a number.
+pub fn draw(objects: &mut Table, start: i32, events: &mut Vec<Event>) -> Result<u64, Fail> {
+    let number = objects.draw(1, events)?;
+    if !is_host(objects, number) {
+        return Err("no host object was drawn")?;
+    }
+    objects.start(number, &[Word::Int(start)]);
+    Ok(number)
+}
+
+/// Runs a method at one number.
+pub fn invoke(
+    objects: &mut Table,
+    number: u64,
+    method: u16,
+    argument: i32,
+    events: &mut Vec<Event>,
+) -> Result<HostAnswer, Fail> {
+    if !is_host(objects, number) {
+        return Err("no host object")?;
+    }
+    Ok(objects.invoke(number, method, &[Word::Int(argument)], events)?)
+}
+
+/// Writes a field.
+pub fn set_field(objects: &mut Table, number: u64, place: usize, word: Word) -> Result<(), Fail> {
+    if !has_field(objects, number, place) {
+        return Err("no such field")?;
+    }
+    if !is_alive(objects, word) {
+        return Err("no such object")?;
+    }
+    objects.set_field(number, place, word);
+    Ok(())
+}
+
+/// Holds an object once more.
+pub fn hold(objects: &mut Table, number: u64) -> Result<(), Fail> {
+    if !lives(objects, number) {
+        return Err("no such object")?;
+    }
+    if objects.count(number) > 4096 {
+        return Err("held too often")?;
+    }
+    objects.hold(number);
+    Ok(())
+}
+
+/// Sweeps while an object is held.
+pub fn sweep_but(objects: &mut Table, number: u64, events: &mut Vec<Event>) -> Result<(), Fail> {
+    if !lives(objects, number) {
+        return Err("no such object")?;
+    }
+    if objects.count(number) > 4096 {
+        return Err("held too often")?;
+    }
+    objects.hold(number);
+    objects.sweep(events)?;
+    objects.unhold(number);
+    Ok(())
+}
