@@ -44,12 +44,32 @@ enum Damage {
     Cut(usize),
     /// This byte stands at place 35.
     Byte(u8),
+    /// This word stands in the place of the global's.
+    Word(&'static [u8]),
+}
+
+/// The file with another word in the place of its global's, which is an `int`.
+fn with_word(alloc: Global, file: &[u8], word: &[u8]) -> Result<Vec<u8>, Fail> {
+    // The five bytes of the word stand before the number of objects and the gate.
+    let at = file.len().saturating_sub(10);
+    let behind = file.get(at.saturating_add(5)..).unwrap_or(&[]);
+    let mut changed = Vec::from_slice(alloc, file)?;
+    changed.truncate(at);
+    changed.extend_from_slice(word)?;
+    changed.extend_from_slice(behind)?;
+    // The length of the image.
+    let length = u8::try_from(word.len()).unwrap_or(0);
+    if let Some(old) = changed.get_mut(17) {
+        *old = old.wrapping_add(length).wrapping_sub(5);
+    }
+    Ok(changed)
 }
 
 fn damaged(alloc: Global, file: &[u8], damage: Damage) -> Result<Vec<u8>, Fail> {
     let mut changed = Vec::from_slice(alloc, file)?;
     match damage {
         Damage::None => {}
+        Damage::Word(word) => return with_word(alloc, file, word),
         Damage::Cut(length) => changed.truncate(length),
         Damage::Byte(byte) => {
             if let Some(old) = changed.get_mut(35) {
@@ -62,7 +82,11 @@ fn damaged(alloc: Global, file: &[u8], damage: Damage) -> Result<Vec<u8>, Fail> 
 
 type Row = (Damage, &'static str, Option<StoreFault>);
 
-static ROWS: [Row; 7] = [
+const OBJECT_9: &[u8] = &[6, 9, 0, 0, 0, 0, 0, 0, 0];
+
+const NULL: &[u8] = &[5];
+
+static ROWS: [Row; 11] = [
     (Damage::None, "Tall", None),
     (Damage::None, "Tale", Some(StoreFault::OtherInterface)),
     // Cut short, the file is damaged for every registry.
@@ -71,6 +95,12 @@ static ROWS: [Row; 7] = [
     // With the text `type Tale 1` its source declares what is registered, which that registry alone can find.
     (Damage::Byte(b'e'), "Tale", Some(StoreFault::Damaged(0))),
     (Damage::Byte(b'e'), "Tall", Some(StoreFault::OtherInterface)),
+    // Object 9 is none of the image's, whatever is registered.
+    (Damage::Word(OBJECT_9), "Tall", Some(StoreFault::Damaged(0))),
+    (Damage::Word(OBJECT_9), "Tale", Some(StoreFault::Damaged(0))),
+    // Null is a word of a store, and none of an `int`.
+    (Damage::Word(NULL), "Tall", Some(StoreFault::Damaged(0))),
+    (Damage::Word(NULL), "Tale", Some(StoreFault::OtherInterface)),
     // A text that isn't UTF-8.
     (Damage::Byte(0xff), "Tall", Some(StoreFault::Damaged(0))),
 ];

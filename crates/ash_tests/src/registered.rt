@@ -152,44 +152,6 @@ static TAKEN: [&str; 3] = [
 ];
 
 #[test]
-fn a_handle_to_no_object_before_the_interface(rt: HostRuntime) -> Result<(), Fail> {
-    let alloc = rt.alloc();
-    let mut host = made(alloc, one_type(alloc, "Tall")?)?;
-    host.load("m", b"int n = 2;", 1000)?;
-    let (first, _) = host.close();
-    let file = first.bytes();
-    // The word of the global, before the number of objects and the gate.
-    let at = file.len() - 10;
-    assert_eq!(rt; &file[at..at + 5], [1, 2, 0, 0, 0].as_slice());
-    let other = Some(StoreFault::OtherInterface);
-    let damaged = Some(StoreFault::Damaged(0));
-    // Object 9 is none of the image's, whatever is registered.
-    let object = with_word(alloc, file, at, file[17] + 4, &[6, 9, 0, 0, 0, 0, 0, 0, 0])?;
-    assert_eq!(rt; refusal(alloc, &object, one_type(alloc, "Tall")?)?, damaged);
-    assert_eq!(rt; refusal(alloc, &object, one_type(alloc, "Tale")?)?, damaged);
-    // Null is a word of a store, and none of an `int`.
-    let null = with_word(alloc, file, at, file[17] - 4, &[5])?;
-    assert_eq!(rt; refusal(alloc, &null, one_type(alloc, "Tall")?)?, damaged);
-    assert_eq!(rt; refusal(alloc, &null, one_type(alloc, "Tale")?)?, other);
-    Ok(())
-}
-
-/// A file with another word in the place of an `int`, and another length of its image.
-fn with_word(
-    alloc: Global,
-    file: &[u8],
-    at: usize,
-    length: u8,
-    word: &[u8],
-) -> Result<Vec<u8>, AllocError> {
-    let mut changed = with_byte(alloc, file, 17, length)?;
-    changed.truncate(at);
-    changed.extend_from_slice(word)?;
-    changed.extend_from_slice(&file[at + 5..])?;
-    Ok(changed)
-}
-
-#[test]
 fn a_registered_name_is_taken(rt: HostRuntime) -> Result<(), Fail> {
     let mut host = made(rt.alloc())?;
     for source in &TAKEN {
