@@ -222,6 +222,61 @@ fn greater_sign(after: &[u8]) -> Sign
     }
 }
 
+/// The longest sign that begins with `+`.
+fn plus_sign(after: &[u8]) -> Sign
+    ensures { Some result ≡ first_sign (43 ∷ after.now) }
+{
+    match after {
+        [b'+', ..] => Sign::Increment,
+        [b'=', ..] => Sign::PlusAssign,
+        _ => Sign::Plus,
+    }
+}
+
+/// The longest sign that begins with `-`.
+fn minus_sign(after: &[u8]) -> Sign
+    ensures { Some result ≡ first_sign (45 ∷ after.now) }
+{
+    match after {
+        [b'-', ..] => Sign::Decrement,
+        [b'=', ..] => Sign::MinusAssign,
+        _ => Sign::Minus,
+    }
+}
+
+/// The longest sign that begins with `*`.
+fn star_sign(after: &[u8]) -> Sign
+    ensures { Some result ≡ first_sign (42 ∷ after.now) }
+{
+    match after {
+        [b'=', ..] => Sign::StarAssign,
+        [b'*', ..] => Sign::Power,
+        _ => Sign::Star,
+    }
+}
+
+/// The longest sign that begins with `&`.
+fn and_sign(after: &[u8]) -> Sign
+    ensures { Some result ≡ first_sign (38 ∷ after.now) }
+{
+    match after {
+        [b'&', ..] => Sign::LogicalAnd,
+        [b'=', ..] => Sign::BitAndAssign,
+        _ => Sign::BitAnd,
+    }
+}
+
+/// The longest sign that begins with `|`.
+fn or_sign(after: &[u8]) -> Sign
+    ensures { Some result ≡ first_sign (124 ∷ after.now) }
+{
+    match after {
+        [b'|', ..] => Sign::LogicalOr,
+        [b'=', ..] => Sign::BitOrAssign,
+        _ => Sign::BitOr,
+    }
+}
+
 /// The longest sign of a byte and what stands after it.
 fn sign_from(first: u8, after: &[u8]) -> Option<Sign>
     ensures { result ≡ first_sign (first ∷ after.now) }
@@ -250,21 +305,9 @@ fn sign_from(first: u8, after: &[u8]) -> Option<Sign>
             [b'=', ..] => Sign::Equal,
             _ => Sign::Assign,
         },
-        b'+' => match after {
-            [b'+', ..] => Sign::Increment,
-            [b'=', ..] => Sign::PlusAssign,
-            _ => Sign::Plus,
-        },
-        b'-' => match after {
-            [b'-', ..] => Sign::Decrement,
-            [b'=', ..] => Sign::MinusAssign,
-            _ => Sign::Minus,
-        },
-        b'*' => match after {
-            [b'=', ..] => Sign::StarAssign,
-            [b'*', ..] => Sign::Power,
-            _ => Sign::Star,
-        },
+        b'+' => plus_sign(after),
+        b'-' => minus_sign(after),
+        b'*' => star_sign(after),
         b'/' => match after {
             [b'=', ..] => Sign::SlashAssign,
             _ => Sign::Slash,
@@ -273,16 +316,8 @@ fn sign_from(first: u8, after: &[u8]) -> Option<Sign>
             [b'=', ..] => Sign::PercentAssign,
             _ => Sign::Percent,
         },
-        b'&' => match after {
-            [b'&', ..] => Sign::LogicalAnd,
-            [b'=', ..] => Sign::BitAndAssign,
-            _ => Sign::BitAnd,
-        },
-        b'|' => match after {
-            [b'|', ..] => Sign::LogicalOr,
-            [b'=', ..] => Sign::BitOrAssign,
-            _ => Sign::BitOr,
-        },
+        b'&' => and_sign(after),
+        b'|' => or_sign(after),
         b'^' => match after {
             [b'^', ..] => Sign::LogicalXor,
             [b'=', ..] => Sign::BitXorAssign,
