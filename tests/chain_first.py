@@ -3,8 +3,9 @@
 
 The crates stand on each other in one long chain, and `rt ci` shares the processors evenly among all tasks that are ready,
 the tests and edits of crates that have none among them. So the crate that all others wait for would be proved at one job.
-Here a task that has nothing to do takes no share, and of the others the one with most behind it gets all processors that
-are idle but one, on which another runs beside it.
+Here a task that has nothing to do takes no share. The task at the head of the longest chain that is left begins at once
+on all processors but one, even where others still have some of these, since all wait for it; any other task gets the
+processors that are idle, but one where another is ready.
 Only the order of the work is another one: what is proved, tried and run, and the verdict, are those of `rt ci`. Under a
 toolchain that was not tried with this, plain `rt ci` runs.
 """
@@ -22,6 +23,8 @@ MOST_JOBS = 4
 # What each further job of a check adds to its memory, and how much of the free memory is given out.
 MEMORY_OF_A_JOB = 0.6
 MEMORY_GIVEN_OUT = 0.85
+# A chain is the longest by far where every other has less than this share of its lines.
+NEAR = 0.7
 
 
 def load_rt():
@@ -43,9 +46,10 @@ def behind(tasks):
     return lines
 
 
-def jobs_for(idle, others, needs, room):
-    """How many jobs a task gets: the idle processors, but one where another task is ready, as far as memory goes."""
-    by_processors = max(idle - min(others, 1), 1)
+def jobs_for(idle, others, needs, room, least):
+    """How many jobs a task gets: the idle processors, but one where another task is ready, and no fewer than the least, as
+    far as memory goes."""
+    by_processors = max(idle - min(others, 1), least)
     by_memory = 1 + int((room / needs - 1) / MEMORY_OF_A_JOB)
     return max(1, min(MOST_JOBS, by_processors, by_memory))
 
@@ -68,9 +72,12 @@ def in_lanes(tasks, processors, memory):
                 _, _, needs, call = tasks[key]
                 idle = processors - sum(jobs for _, _, jobs in running.values())
                 room = memory - sum(taken for _, taken, _ in running.values())
-                if idle > 0 and (needs <= room or not running):
+                rivals = [*ready, *(it for it, _, _ in running.values())]
+                is_head = all(order[it] < NEAR * order[key] for it in rivals if it != key)
+                if (idle > 0 or is_head) and (needs <= room or not running):
+                    least = processors - 1 if is_head else 1
                     # an edit's check takes one job
-                    jobs = 1 if key[1] == "edits" else jobs_for(idle, len(ready) - number, needs, room)
+                    jobs = 1 if key[1] == "edits" else jobs_for(idle, len(ready) - number, needs, room, least)
                     taken = needs * (1 + MEMORY_OF_A_JOB * (jobs - 1))
                     left.remove(key)
                     running[pool.submit(call, given, jobs)] = key, taken, jobs
