@@ -78,3 +78,19 @@ for number in $(seq 1 1000); do
     verdict "what is found after allocation $number was refused: $found" $?
 done
 verdict "a run over a store that no refusal meets" $untouched
+
+# A discard takes no memory but for its commit.
+asks 'load m 0\n\ndiscard m\nget m n\nseq\nquit\n'
+untouched=1
+for number in $(seq 1 1000); do
+    refused "$number" try --budget 1000 --counters 2
+    case $end in
+        "1/ashd: 509 NoMemory/" | "1/ashd: 507 DeviceFailed/") verdict "allocation $number refused, before the discard's run" 0 ;;
+        "0//refused 509 NoMemory;refused 401 NoModule;refused 401 NoModule;ok 0;ok;") verdict "allocation $number refused, in the load before a discard" 0 ;;
+        "0//refused 50"[79]" "*";refused 508 Reopen;refused 508 Reopen;ok 0;ok;") verdict "allocation $number refused, in the commit before a discard" 0 ;;
+        "0//ok seq 1;refused 50"[79]" "*";refused 508 Reopen;ok 1;ok;") verdict "allocation $number refused, in the discard's commit" 0 ;;
+        "0//ok seq 1;ok seq 2;refused 401 NoModule;ok 2;ok;") untouched=0; break ;;
+        *) verdict "allocation $number refused in a discard: $end" 1 ;;
+    esac
+done
+verdict "a discard that no refusal meets" $untouched

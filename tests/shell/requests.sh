@@ -4,6 +4,10 @@ asks 'seq\nseq'
 ends "a request cut by the end" 1 "ashd: 603 Truncated" try --budget 1 --counters 0
 holds "the reply before the cut request" "ok 0"
 
+asks 'load m 10\nint n = 7;\ndiscard m\nget m n\ndiscard m\ndiscard\ndiscard m n\nseq\n'
+ends "a discard" 0 "" try --budget 1 --counters 0
+holds "what a discard leaves" $'ok seq 1\nok seq 2\nrefused 401 NoModule\nrefused 401 NoModule\nrefused 601 BadRequest\nrefused 601 BadRequest\nok 2'
+
 asks 'seq\nquit\nseq\n'
 ends "quit" 0 "" try --budget 1 --counters 0
 holds "nothing is answered after quit" $'ok 0\nok'

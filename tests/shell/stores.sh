@@ -34,6 +34,14 @@ keep "$store" "$scratch/before"
 ends "create over a store that was used" 1 "ashd: 502 AlreadyThere" create "$store"
 same "a create over a used store changes nothing" "$store" "$scratch/before"
 
+asks 'load b 10\nint n = 1;\nload a 10\nint n = 2;\nload c 10\nint n = 3;\ndiscard b\ndiscard z\n'
+keep "$store" "$scratch/other"
+ends "serve several modules" 0 "" serve "$scratch/other" --budget 1000 --counters 0
+holds "several modules" $'ok seq 3\nok seq 4\nok seq 5\nok seq 6\nrefused 401 NoModule'
+asks 'get m n\nget a n\nget b n\nget c n\nseq\n'
+ends "serve several modules again" 0 "" serve "$scratch/other" --budget 1000 --counters 0
+holds "several modules that are found" $'ok 7\nok 2\nrefused 401 NoModule\nok 3\nok 6'
+
 asks 'call m f 1\n'
 keep "$store" "$scratch/other"
 ends "serve without ticks" 0 "" serve "$scratch/other" --budget 0 --counters 4096

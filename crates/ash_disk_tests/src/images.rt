@@ -33,6 +33,25 @@ const ONE_MODULE: [u8; 65] = [
     0x00,
 ];
 
+/// The file of a module `B` of the source `y`, whose one global holds 7, and a module `a` with no source, whose globals
+/// hold -1 and 256, after four requests.
+const TWO_MODULES: [u8; 83] = [
+    0x01, 0x41, 0x53, 0x48, 0x4f, 0x53, 0x54, 0x30, 0x31, 0x01, 0x00, 0x00, 0x00, 0x00, 0x00, 0x00,
+    0x00, 0x3d, 0x00, 0x00, 0x00, 0x01, 0x00, 0x00, 0x00, 0x00, 0x00, 0x04, 0x00, 0x00, 0x00, 0x00,
+    0x00, 0x00, 0x00, 0x00, 0x00, 0x00, 0x00, 0x00, 0x00, 0x00, 0x00, 0x00, 0x00, 0x02, 0x01, 0x42,
+    0x01, 0x00, 0x00, 0x00, 0x79, 0x01, 0x00, 0x01, 0x07, 0x00, 0x00, 0x00, 0x01, 0x61, 0x00, 0x00,
+    0x00, 0x00, 0x02, 0x00, 0x01, 0xff, 0xff, 0xff, 0xff, 0x01, 0x00, 0x01, 0x00, 0x00, 0x00, 0x00,
+    0x00, 0x00, 0x00,
+];
+
+/// The same two modules with `a` first, which are no image.
+const EXCHANGED: [u8; 61] = [
+    0x01, 0x00, 0x00, 0x00, 0x00, 0x00, 0x04, 0x00, 0x00, 0x00, 0x00, 0x00, 0x00, 0x00, 0x00, 0x00,
+    0x00, 0x00, 0x00, 0x00, 0x00, 0x00, 0x00, 0x00, 0x02, 0x01, 0x61, 0x00, 0x00, 0x00, 0x00, 0x02,
+    0x00, 0x01, 0xff, 0xff, 0xff, 0xff, 0x01, 0x00, 0x01, 0x00, 0x00, 0x01, 0x42, 0x01, 0x00, 0x00,
+    0x00, 0x79, 0x01, 0x00, 0x01, 0x07, 0x00, 0x00, 0x00, 0x00, 0x00, 0x00, 0x00,
+];
+
 /// The image of a module `_a9` with no source, whose globals hold one word of each type but a handle to an object, after
 /// 258 requests.
 const EACH_WORD: [u8; 70] = [
@@ -62,6 +81,14 @@ fn one_service() -> &'static [u8] {
 
 fn one_module() -> &'static [u8] {
     &ONE_MODULE
+}
+
+fn two_modules() -> &'static [u8] {
+    &TWO_MODULES
+}
+
+fn exchanged_image() -> &'static [u8] {
+    &EXCHANGED
 }
 
 fn each_word_image() -> &'static [u8] {
@@ -118,7 +145,7 @@ fn cut(file: &[u8], length: usize) -> &[u8] {
 }
 
 fn empty_file(alloc: Global) -> Result<Vec<u8>, AllocError> {
-    write_file(alloc, "", None, 0)
+    write_file(alloc, "", &[], 0)
 }
 
 #[test]
@@ -128,12 +155,12 @@ fn an_empty_state(rt: HostRuntime) -> Result<(), Fail> {
     let stored = held(rt.alloc(), empty())?;
     check_text(&rt, stored.registered.as_str(), "", "the text");
     check_number(&rt, stored.seq, 0, "the sequence number");
-    check_true(&rt, stored.module.is_none(), "no module");
+    check_true(&rt, stored.modules.is_empty(), "no module");
     Ok(())
 }
 
 fn service_file(alloc: Global) -> Result<Vec<u8>, AllocError> {
-    write_file(alloc, "service 2\n", None, 0)
+    write_file(alloc, "service 2\n", &[], 0)
 }
 
 #[test]
@@ -199,7 +226,7 @@ fn module_file(alloc: Global) -> Result<Vec<u8>, AllocError> {
         source: b"x",
         globals: &globals,
     };
-    write_file(alloc, "", Some(parts), 3)
+    write_file(alloc, "", &[parts], 3)
 }
 
 #[test]
@@ -208,11 +235,79 @@ fn a_module(rt: HostRuntime) -> Result<(), Fail> {
     check_bytes(&rt, file.as_slice(), one_module(), "the file");
     let stored = held(rt.alloc(), one_module())?;
     check_number(&rt, stored.seq, 3, "the sequence number");
-    let module = stored.module.ok_or("the state has a module")?;
+    let [module] = stored.modules.as_slice() else {
+        return Err(Fail::from("the state has one module"));
+    };
     check_text(&rt, module.name.as_str(), "m", "the name");
     check_bytes(&rt, module.source.as_slice(), b"x", "the source");
     let is_global = matches!(module.globals.as_slice(), [Word::Int(-2)]);
     check_true(&rt, is_global, "the global");
+    Ok(())
+}
+
+fn two_modules_file(alloc: Global) -> Result<Vec<u8>, AllocError> {
+    let first = ModuleParts {
+        name: "B",
+        source: b"y",
+        globals: &[Word::Int(7)],
+    };
+    let second = ModuleParts {
+        name: "a",
+        source: b"",
+        globals: &[Word::Int(-1), Word::Int(256)],
+    };
+    write_file(alloc, "", &[first, second], 4)
+}
+
+#[test]
+fn two_modules_by_name(rt: HostRuntime) -> Result<(), Fail> {
+    let file = two_modules_file(rt.alloc())?;
+    check_bytes(&rt, file.as_slice(), two_modules(), "the file");
+    let stored = held(rt.alloc(), two_modules())?;
+    check_number(&rt, stored.seq, 4, "the sequence number");
+    let [first, second] = stored.modules.as_slice() else {
+        return Err(Fail::from("the state has two modules"));
+    };
+    check_text(&rt, first.name.as_str(), "B", "the first name");
+    check_bytes(&rt, first.source.as_slice(), b"y", "the first source");
+    check_text(&rt, second.name.as_str(), "a", "the second name");
+    let is_found = matches!(first.globals.as_slice(), [Word::Int(7)]);
+    check_true(&rt, is_found, "the first global");
+    let is_found = matches!(second.globals.as_slice(), [Word::Int(-1), Word::Int(256)]);
+    check_true(&rt, is_found, "the second globals");
+    Ok(())
+}
+
+#[test]
+fn modules_out_of_order(rt: HostRuntime) -> Result<(), Fail> {
+    let alloc = rt.alloc();
+    check_true(&rt, !is_image(alloc, exchanged_image())?, "`a` before `B`");
+    // Both names are `a`, and then the first is `C`, which comes before `a`.
+    let file = changed(alloc, two_modules(), 47, 0x61)?;
+    check_true(&rt, is_damaged(alloc, &file)?, "one name twice");
+    let file = changed(alloc, two_modules(), 47, 0x43)?;
+    check_true(&rt, !is_damaged(alloc, &file)?, "`C` before `a`");
+    Ok(())
+}
+
+/// The image of so many modules of one letter each, from `A` on, with no source and no globals.
+fn with_modules(alloc: Global, count: u8) -> Result<Vec<u8>, AllocError> {
+    let mut image = Vec::from_slice(alloc, &[1, 0])?;
+    image.extend_from_slice(&[0; 22])?;
+    image.push(count)?;
+    for place in 0..count {
+        image.extend_from_slice(&[1, b'A'.wrapping_add(place), 0, 0, 0, 0, 0, 0])?;
+    }
+    image.extend_from_slice(&[0; 4])?;
+    Ok(image)
+}
+
+#[test]
+fn as_many_modules_as_a_host_has(rt: HostRuntime) -> Result<(), Fail> {
+    let alloc = rt.alloc();
+    let stored = depicted(alloc, &with_modules(alloc, 16)?)?.ok_or("16 modules are an image")?;
+    check_true(&rt, stored.modules.len() == 16, "16 modules");
+    check_true(&rt, !is_image(alloc, &with_modules(alloc, 17)?)?, "17 modules");
     Ok(())
 }
 
@@ -235,7 +330,9 @@ fn is_each_word(words: &[Word]) -> bool {
 fn each_word(rt: HostRuntime) -> Result<(), Fail> {
     let stored = depicted(rt.alloc(), each_word_image())?.ok_or("the bytes depict a state")?;
     check_number(&rt, stored.seq, 258, "the sequence number");
-    let module = stored.module.ok_or("the state has a module")?;
+    let [module] = stored.modules.as_slice() else {
+        return Err(Fail::from("the state has one module"));
+    };
     check_text(&rt, module.name.as_str(), "_a9", "the name");
     check_bytes(&rt, module.source.as_slice(), b"", "the source");
     let is_found = is_each_word(module.globals.as_slice());
@@ -265,7 +362,7 @@ fn an_older_file_after_it(rt: HostRuntime) -> Result<(), Fail> {
     let mut file = Vec::from_slice(alloc, empty())?;
     file.extend_from_slice(one_module())?;
     let stored = held(alloc, &file)?;
-    check_true(&rt, stored.module.is_none(), "no module");
+    check_true(&rt, stored.modules.is_empty(), "no module");
     let file = changed(alloc, empty(), 50, 1)?;
     check_true(&rt, is_damaged(alloc, &file)?, "the next gate is open");
     Ok(())

@@ -1,15 +1,69 @@
--- What a request comes to, and what keeping its answer leaves.
+-- What a request comes to.
 use Rattle.std.proofs.Common.{◌≡◌, inl, inr, ℕ, Bool, true, false, cond, List, length, nat_le, not, Option, Some, None, Ok, Err, is_some, refl, sym, ap, subst}
 use Rattle.ash_host.specs.declared.word.Word.{Word}
 use Rattle.ash_registry.specs.Calls.{Call as Registration}
 use Rattle.ash_meaning.specs.Refusals.{Refusal}
 use Rattle.ash_meaning.specs.Refusals as refusals
 use Rattle.ash_meaning.specs.declared.request.Argument.{Argument}
+use Rattle.ash_meaning.specs.Meaning.{End}
 use Rattle.ash_meaning.specs.Tree.{Function}
-use Rattle.ash_meaning.specs.State.{State, Script, Request, Load, Call, Global, Seq, Reply, Answered, Refused}
-use Rattle.ash_meaning.specs.Step.{Steps, step, is_spent, is_module_name, find_script, find_function, tree_of, most_modules, load_read, call_in, call_function, call_with, words_for, value_in, told, word_named}
+use Rattle.ash_meaning.specs.State.{State, Script, Request, Load, Call, Discard, Global, Seq, Reply, Answered, Value, Number, Refused}
+use Rattle.ash_meaning.specs.Step.{Demand, Task, Initialize, Run, Remove, Read, Count, Steps, task_of, perform, unless_refused, is_spent, is_module_name, find_script, find_function, tree_of, max_modules, load_of, call_in, call_of, call_with, words_for, read_in, read_of, word_named}
 use Rattle.ash_meaning.specs.Reading.{Reading, read_source}
 use Rattle.ash_meaning.proofs.ReadingLaws.{IsTold, read_source-told}
+use Rattle.ash_durable.specs.Hosting.{IsAnswer, Commits}
+
+-- No request is refused by the definition for a device or because the host must be reopened.
+abbrev NotByHost : Demand → Type 0
+NotByHost (Err refusals.DeviceFailed) = ⊥
+NotByHost (Err refusals.Reopen) = ⊥
+NotByHost _ = Unit {0}
+
+by_cond : (b : Bool) (x y : Demand) → NotByHost x → NotByHost y → NotByHost (cond b x y)
+by_cond true x y one other = one
+by_cond false x y one other = other
+
+refusal-fine : (refusal : Refusal) → IsTold refusal → NotByHost (Err refusal)
+refusal-fine refusals.DeviceFailed read = absurd read
+refusal-fine refusals.Reopen read = absurd read
+refusal-fine _ read = tt
+
+load_of-fine : (name source : List ℕ) (reading : Reading) → ((refusal : Refusal) → reading ≡ Err refusal → IsTold refusal) → NotByHost (load_of name source reading)
+load_of-fine name source (Err refusal) read = refusal-fine refusal (read refusal refl)
+load_of-fine name source (Ok tree) read = tt
+
+call_with-fine : (script : Script) (function : Function) (words : Option (List Word)) → NotByHost (call_with script function words)
+call_with-fine script function None = tt
+call_with-fine script function (Some words) = tt
+
+call_of-fine : (script : Script) (function : Option Function) (arguments : List Argument) → NotByHost (call_of script function arguments)
+call_of-fine script None arguments = tt
+call_of-fine script (Some function) arguments = call_with-fine script function (words_for function.parameters arguments)
+
+call_in-fine : (registered : List Registration) (script : Option Script) (name : List ℕ) (arguments : List Argument) → NotByHost (call_in registered script name arguments)
+call_in-fine registered None name arguments = tt
+call_in-fine registered (Some script) name arguments = call_of-fine script (find_function name (tree_of registered script)) arguments
+
+read_of-fine : (word : Option Word) → NotByHost (read_of word)
+read_of-fine None = tt
+read_of-fine (Some word) = tt
+
+read_in-fine : (registered : List Registration) (script : Option Script) (name : List ℕ) → NotByHost (read_in registered script name)
+read_in-fine registered None name = tt
+read_in-fine registered (Some script) name = read_of-fine (word_named name (tree_of registered script) script.globals)
+
+task_of-fine : (request : Request) (old : State) → NotByHost (task_of request old)
+task_of-fine (Load name source) old =
+    by_cond (is_spent old) _ _ tt
+    (by_cond (not (is_module_name name)) _ _ tt
+    (by_cond (is_some (find_script name old)) _ _ tt
+    (by_cond (nat_le max_modules (length old.modules)) _ _ tt
+    (load_of-fine name source (read_source old.registered source) (read_source-told old.registered source)))))
+task_of-fine (Call script function arguments) old =
+    by_cond (is_spent old) _ _ tt (call_in-fine old.registered (find_script script old) function arguments)
+task_of-fine (Discard name) old = by_cond (is_spent old) _ _ tt (by_cond (is_some (find_script name old)) _ _ tt tt)
+task_of-fine (Global script name) old = read_in-fine old.registered (find_script script old) name
+task_of-fine Seq old = tt
 
 -- What isn't an answer leaves the state, and no step is refused for a device or a reopening.
 abbrev pub LeavesState : State → Reply → State → Type 0
@@ -22,56 +76,56 @@ LeavesState old _ new = new ≡ old
 abbrev Fine : State → Reply × State → Type 0
 Fine old x = LeavesState old x.0 x.1 × (x.1.registered ≡ old.registered)
 
-by_cond : (old : State) (b : Bool) (x y : Reply × State) → Fine old x → Fine old y → Fine old (cond b x y)
-by_cond old true x y one other = one
-by_cond old false x y one other = other
+perform-fine : (budget : ℕ) (task : Task) (old : State) → Fine old (perform budget task old)
+perform-fine budget (Initialize name source tree) old = (tt, refl)
+perform-fine budget (Run script function words) old = (tt, refl)
+perform-fine budget (Remove name) old = (tt, refl)
+perform-fine budget (Read word) old = (refl, refl)
+perform-fine budget Count old = (refl, refl)
 
-refusal-fine : (refusal : Refusal) (old : State) → IsTold refusal → LeavesState old (Refused refusal) old
-refusal-fine refusals.DeviceFailed old told = absurd told
-refusal-fine refusals.Reopen old told = absurd told
-refusal-fine _ old told = refl
+refused-fine : (refusal : Refusal) (old : State) → NotByHost (Err refusal) → LeavesState old (Refused refusal) old
+refused-fine refusals.DeviceFailed old fine = absurd fine
+refused-fine refusals.Reopen old fine = absurd fine
+refused-fine _ old fine = refl
 
-load_read-fine : (budget : ℕ) (name source : List ℕ) (reading : Reading) (old : State) → ((refusal : Refusal) → reading ≡ Err refusal → IsTold refusal) → Fine old (load_read budget name source reading old)
-load_read-fine budget name source (Err refusal) old told = (refusal-fine refusal old (told refusal refl), refl)
-load_read-fine budget name source (Ok tree) old told = (tt, refl)
+unless_refused-fine : (budget : ℕ) (demand : Demand) (old : State) → NotByHost demand → Fine old (unless_refused budget demand old)
+unless_refused-fine budget (Err refusal) old fine = (refused-fine refusal old fine, refl)
+unless_refused-fine budget (Ok task) old fine = perform-fine budget task old
 
-call_with-fine : (budget : ℕ) (script : Script) (function : Function) (words : Option (List Word)) (old : State) → Fine old (call_with budget script function words old)
-call_with-fine budget script function None old = (refl, refl)
-call_with-fine budget script function (Some words) old = (tt, refl)
-
-call_function-fine : (budget : ℕ) (script : Script) (function : Option Function) (arguments : List Argument) (old : State) → Fine old (call_function budget script function arguments old)
-call_function-fine budget script None arguments old = (refl, refl)
-call_function-fine budget script (Some function) arguments old = call_with-fine budget script function (words_for function.parameters arguments) old
-
-call_in-fine : (budget : ℕ) (script : Option Script) (name : List ℕ) (arguments : List Argument) (old : State) → Fine old (call_in budget script name arguments old)
-call_in-fine budget None name arguments old = (refl, refl)
-call_in-fine budget (Some script) name arguments old = call_function-fine budget script (find_function name (tree_of old.registered script)) arguments old
-
-told-fine : (word : Option Word) (old : State) → LeavesState old (told word) old
-told-fine None old = refl
-told-fine (Some word) old = refl
-
-value_in-fine : (registered : List Registration) (script : Option Script) (name : List ℕ) (old : State) → LeavesState old (value_in registered script name) old
-value_in-fine registered None name old = refl
-value_in-fine registered (Some script) name old = told-fine (word_named name (tree_of registered script) script.globals) old
-
-step-fine : (budget : ℕ) (request : Request) (old : State) → Fine old (step budget request old)
-step-fine budget (Load name source) old =
-    by_cond old (is_spent old) _ _ (refl, refl)
-    (by_cond old (not (is_module_name name)) _ _ (refl, refl)
-    (by_cond old (is_some (find_script name old)) _ _ (refl, refl)
-    (by_cond old (nat_le most_modules (length old.modules)) _ _ (refl, refl)
-    (load_read-fine budget name source (read_source old.registered source) old (read_source-told old.registered source)))))
-step-fine budget (Call script function arguments) old =
-    by_cond old (is_spent old) _ _ (refl, refl) (call_in-fine budget (find_script script old) function arguments old)
-step-fine budget (Global script name) old = (value_in-fine old.registered (find_script script old) name old, refl)
-step-fine budget Seq old = (refl, refl)
+step-fine : (budget : ℕ) (request : Request) (old : State) → Fine old (unless_refused budget (task_of request old) old)
+step-fine budget request old = unless_refused-fine budget (task_of request old) old (task_of-fine request old)
 
 pub steps-fine : (budget : ℕ) (request : Request) (old new : State) (reply : Reply) → Steps budget request old reply new → LeavesState old reply new
 steps-fine budget request old new reply (inl taken) = (subst (Fine old) taken (step-fine budget request old)).0
-steps-fine budget request old new reply (inr refused) = subst (λ (r : Reply). LeavesState old r new) (sym refused.0) refused.1
+steps-fine budget request old new reply (inr out) = subst (λ (r : Reply). LeavesState old r new) (sym out.reply_is) out.unchanged
 
 -- no request changes what is registered
 pub steps-registered : (budget : ℕ) (request : Request) (old new : State) (reply : Reply) → Steps budget request old reply new → new.registered ≡ old.registered
 steps-registered budget request old new reply (inl taken) = (subst (Fine old) taken (step-fine budget request old)).1
-steps-registered budget request old new reply (inr refused) = ap (λ (s : State). s.registered) refused.1
+steps-registered budget request old new reply (inr out) = ap (λ (s : State). s.registered) out.unchanged
+
+-- ---- what is answered
+
+commits_by : (budget : ℕ) (demand : Demand) (old new : State) (end : End) (seq : ℕ) → unless_refused budget demand old ≡ (Answered end seq, new) → Commits demand
+commits_by budget (Err refusal) old new end seq is = let h : Refused refusal ≡ Answered end seq = ap (λ (x : Reply × State). x.0) is in absurd (cc)
+commits_by budget (Ok (Initialize name source tree)) old new end seq is = tt
+commits_by budget (Ok (Run script function words)) old new end seq is = tt
+commits_by budget (Ok (Remove name)) old new end seq is = tt
+commits_by budget (Ok (Read word)) old new end seq is = let h : Value word ≡ Answered end seq = ap (λ (x : Reply × State). x.0) is in absurd (cc)
+commits_by budget (Ok Count) old new end seq is = let h : Number old.seq ≡ Answered end seq = ap (λ (x : Reply × State). x.0) is in absurd (cc)
+
+-- where a request is answered, its task is one that is
+pub answer_commits : (budget : ℕ) (request : Request) (old new : State) (end : End) (seq : ℕ) → Steps budget request old (Answered end seq) new → Commits (task_of request old)
+answer_commits budget request old new end seq (inl taken) = commits_by budget (task_of request old) old new end seq taken
+answer_commits budget request old new end seq (inr out) = let h : Answered end seq ≡ Refused refusals.NoMemory = out.reply_is in absurd (cc)
+
+commits_answer_by : (budget : ℕ) (demand : Demand) (old : State) → Commits demand → IsAnswer (unless_refused budget demand old).0
+commits_answer_by budget (Err refusal) old commits = absurd commits
+commits_answer_by budget (Ok (Initialize name source tree)) old commits = tt
+commits_answer_by budget (Ok (Run script function words)) old commits = tt
+commits_answer_by budget (Ok (Remove name)) old commits = tt
+commits_answer_by budget (Ok (Read word)) old commits = absurd commits
+commits_answer_by budget (Ok Count) old commits = absurd commits
+
+pub commits_answer : (budget : ℕ) (request : Request) (old : State) → Commits (task_of request old) → IsAnswer (unless_refused budget (task_of request old) old).0
+commits_answer budget request old commits = commits_answer_by budget (task_of request old) old commits

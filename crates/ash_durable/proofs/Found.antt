@@ -1,13 +1,14 @@
 -- What reading two disks finds.
-use Rattle.std.proofs.Common.{◌≡◌, ◌⊎◌, inl, inr, ℕ, ◌≤◌, ◌↔◌, true, false, List, length, Some, Result, Ok, Err, refl, sym, ◌∙◌, ap, subst, arith}
-use Rattle.std.specs.Prelude.{slice_index, string_bytes, IfSome}
+use Rattle.std.proofs.Common.{◌≡◌, ◌⊎◌, inl, inr, ℕ, ◌↔◌, true, false, List, [], ◌∷◌, Some, Result, Ok, Err, refl, sym, ◌∙◌, subst, arith}
+use Rattle.std.specs.Prelude.{string_bytes, IfSome}
 use Rattle.std.specs.Bool.{IsTrue}
 use Rattle.std.proofs.lemmas.Bool.{cases_lt}
 use Rattle.ash_disk.specs.Device.{Device, IsOnlyRead}
 use Rattle.ash_disk.specs.Failures.{Rose}
 use Rattle.ash_disk.proofs.DeviceLaws.{read_on}
 use Rattle.ash_disk.proofs.MomentLaws.{at_end}
-use Rattle.ash_image.specs.Image.{Snapshot, IsFile, IsClosed, held, snapshot_read}
+use Rattle.ash_image.specs.Image.{Snapshot, IsFile, held, snapshot_read}
+use Rattle.ash_journal.specs.Layout.{IsClosed}
 use Rattle.ash_image.specs.declared.image.FileContent.{FileContent}
 use Rattle.ash_image.specs.declared.image.FileContent.TheVariants as contents
 use Rattle.ash_image.specs.declared.image.Stored.{Stored}
@@ -31,36 +32,29 @@ pub file_held : (bytes : List ℕ) (content : FileContent) (stored : Stored) →
 file_held bytes content stored is file = rw is at file
 
 -- the state that was stored under the text of what is registered
-pub is_state : (registered : List Call) (bytes : List ℕ) (stored : Stored) → string_bytes stored.registered ≡ text_of registered → IsFile bytes (snapshot_read stored) → IsStateOf registered bytes (state_of registered stored.module stored.seq)
+pub is_state : (registered : List Call) (bytes : List ℕ) (stored : Stored) → string_bytes stored.registered ≡ text_of registered → IsFile bytes (snapshot_read stored) → IsStateOf registered bytes (state_of registered stored.modules.items stored.seq)
 is_state registered bytes stored text file = record {
   registered_is = refl;
-  file = subst (λ (t : List ℕ). IsFile bytes (record { registered = t; modules = scripts_of stored.module; seq = stored.seq })) text file;
+  file = subst (λ (t : List ℕ). IsFile bytes (record { registered = t; modules = scripts_of stored.modules.items; seq = stored.seq })) text file;
 }
 
-pub restores : (registered : List Call) (bytes : List ℕ) (stored : Stored) (state : State) → string_bytes stored.registered ≡ text_of registered → IsFile bytes (snapshot_read stored) → Admits (state_of registered stored.module stored.seq) × (state ≡ state_of registered stored.module stored.seq) → Admits state × IsStateOf registered bytes state
+pub restores : (registered : List Call) (bytes : List ℕ) (stored : Stored) (state : State) → string_bytes stored.registered ≡ text_of registered → IsFile bytes (snapshot_read stored) → Admits (state_of registered stored.modules.items stored.seq) × (state ≡ state_of registered stored.modules.items stored.seq) → Admits state × IsStateOf registered bytes state
 restores registered bytes stored state text file restored =
     subst (λ (s : State). Admits s × IsStateOf registered bytes s) (sym restored.1) (restored.0, is_state registered bytes stored text file)
 
-gate_or : (bytes : List ℕ) → IsClosed bytes ⊎ (IsClosed bytes → ⊥)
-gate_or bytes = elim (cases_lt (length bytes) 2) [
-  | inl short ↦ inl (inl short)
-  | inr long ↦ first (slice_index bytes 0) refl long
+by_gate : (gate : ℕ) → (gate ≡ 1) ⊎ (gate ≡ 1 → ⊥)
+by_gate gate = elim (cases_lt gate 1) [
+  | inl low ↦ inr (λ e. omega arith)
+  | inr high ↦ elim (cases_lt gate 2) [
+    | inl one ↦ inl (omega arith)
+    | inr more ↦ inr (λ e. omega arith)
+  ]
 ]
-  where
-    by_gate : (gate : ℕ) → (gate ≡ 1) ⊎ (gate ≡ 1 → ⊥)
-    by_gate gate = elim (cases_lt gate 1) [
-      | inl low ↦ inr (λ e. omega arith)
-      | inr high ↦ elim (cases_lt gate 2) [
-        | inl one ↦ inl (omega arith)
-        | inr more ↦ inr (λ e. omega arith)
-      ]
-    ]
 
-    first : (gate : ℕ) → slice_index bytes 0 ≡ gate → 2 ≤ length bytes → IsClosed bytes ⊎ (IsClosed bytes → ⊥)
-    first gate is long = elim (by_gate gate) [
-      | inl one ↦ inr (λ closed. elim closed [ inl short ↦ omega arith | inr shut ↦ shut (is ∙ one) ])
-      | inr shut ↦ inl (inr (λ e. shut (sym is ∙ e)))
-    ]
+gate_or : (bytes : List ℕ) → IsClosed bytes ⊎ (IsClosed bytes → ⊥)
+gate_or [] = inl tt
+gate_or (gate ∷ []) = inl tt
+gate_or (gate ∷ second ∷ rest) = elim (by_gate gate) [ inl one ↦ inr (λ closed. closed one) | inr shut ↦ inl shut ]
 
 -- a file that is not found open is closed
 pub closed_when : (bytes : List ℕ) → (IsTrue false ↔ (IsClosed bytes → ⊥)) → IsClosed bytes

@@ -3,6 +3,7 @@ pub mod Found
 pub mod Opened
 pub mod Answering
 pub mod Carrying
+pub mod Refusing
 pub mod Going_on
 pub mod LongSources
 pub mod Running

@@ -1,14 +1,14 @@
 -- A source that is too long is no module, and so is what begins it.
-use Rattle.std.proofs.Common.{◌≡◌, ◌⊎◌, inl, inr, ◌<◌, ◌≤◌, ℕ, nat_lt, Bool, true, false, List, length, take, refl, ap, ◌∙◌, subst, arith, Option, Some, None, Err}
+use Rattle.std.proofs.Common.{◌≡◌, inl, inr, ◌<◌, ◌≤◌, ℕ, nat_lt, Bool, true, false, List, length, take, refl, sym, ap, ◌∙◌, subst, arith, Option, Some, None, Err}
 use Rattle.std.proofs.lemmas.Bool.Decides.{nat_tests}
 use Rattle.std.proofs.lemmas.Grind.{common_steps}
 use Rattle.ash_disk.specs.Device.{Device}
-use Rattle.ash_meaning.specs.State.{State, Load, Reply, Refused}
-use Rattle.ash_meaning.specs.Step.{step, TakesMemory}
+use Rattle.ash_meaning.specs.State.{State, Load, Reply}
+use Rattle.ash_meaning.specs.Step.{Demand, TakesMemory, task_of, unless_refused}
 use Rattle.ash_meaning.specs.Refusals as refusals
 use Rattle.ash_meaning.specs.Reading.{read_source}
 use Rattle.ash_meaning.proofs.ReadingLaws.{read_source-long}
-use Rattle.ash_durable.specs.Hosting.{Hosted, IsAnswer, Replies, Carries}
+use Rattle.ash_durable.specs.Hosting.{Hosted, Commits, Replies, Carries}
 
 take-all : (n : ℕ) (xs : List ℕ) → length xs ≤ n → take n xs ≡ xs
 take-all n xs h = grind (arith, common_steps)
@@ -16,40 +16,48 @@ take-all n xs h = grind (arith, common_steps)
 length-most : (n : ℕ) (xs : List ℕ) → n ≤ length xs → length (take n xs) ≡ n
 length-most n xs h = grind (arith, common_steps)
 
-long-step : (budget : ℕ) (name kept source : List ℕ) (state : State) → read_source state.registered kept ≡ Err refusals.SourceTooLong → read_source state.registered source ≡ Err refusals.SourceTooLong → step budget (Load name kept) state ≡ step budget (Load name source) state
-long-step budget name kept source state e f = rw (e, f) refl
+long-task : (name kept source : List ℕ) (state : State) → read_source state.registered kept ≡ Err refusals.SourceTooLong → read_source state.registered source ≡ Err refusals.SourceTooLong → task_of (Load name kept) state ≡ task_of (Load name source) state
+long-task name kept source state e f = rw (e, f) refl
 
-by-length : (budget : ℕ) (name source : List ℕ) (state : State) (t : Bool) → nat_lt 65536 (length source) ≡ t → step budget (Load name (take 65537 source)) state ≡ step budget (Load name source) state
-by-length budget name source state true e =
+by-length : (name source : List ℕ) (state : State) (t : Bool) → nat_lt 65536 (length source) ≡ t → task_of (Load name (take 65537 source)) state ≡ task_of (Load name source) state
+by-length name source state true e =
     let l : 65536 < length source = grind (arith, nat_tests, e) in
     let m = length-most 65537 source (omega arith) in
-    long-step budget name (take 65537 source) source state (read_source-long state.registered (take 65537 source) (omega (arith, m))) (read_source-long state.registered source l)
-by-length budget name source state false e =
+    long-task name (take 65537 source) source state (read_source-long state.registered (take 65537 source) (omega (arith, m))) (read_source-long state.registered source l)
+by-length name source state false e =
     let l : length source ≤ 65536 = grind (arith, nat_tests, e) in
-    ap (λ (x : List ℕ). step budget (Load name x) state) (take-all 65537 source (omega arith))
+    ap (λ (x : List ℕ). task_of (Load name x) state) (take-all 65537 source (omega arith))
 
--- a load of the first 65,537 bytes does what a load of the source does
-pub step_kept : (budget : ℕ) (name kept source : List ℕ) (state : State) → kept ≡ take 65537 source → step budget (Load name kept) state ≡ step budget (Load name source) state
-step_kept budget name kept source state e = ap (λ (x : List ℕ). step budget (Load name x) state) e ∙ by-length budget name source state (nat_lt 65536 (length source)) refl
+-- a load of the first 65,537 bytes asks for what a load of the source does
+pub task_kept : (name kept source : List ℕ) (state : State) → kept ≡ take 65537 source → task_of (Load name kept) state ≡ task_of (Load name source) state
+task_kept name kept source state e = ap (λ (x : List ℕ). task_of (Load name x) state) e ∙ by-length name source state (nat_lt 65536 (length source)) refl
 
 replies_kept : {D : Type 0} (budget : ℕ) (name kept source : List ℕ) (state : Option State) (old : Hosted D) (reply : Reply) (new : Hosted D) → kept ≡ take 65537 source → Replies budget (Load name kept) state old reply new → Replies budget (Load name source) state old reply new
 replies_kept budget name kept source None old reply new e h = h
-replies_kept budget name kept source (Some state) old reply new e (inl taken) =
-    let q = step_kept budget name kept source state e in
+replies_kept budget name kept source (Some state) old reply new e (inl h) =
     inl (record {
-      after = taken.after;
-      step = subst (λ (x : Reply × State). (x ≡ (reply, taken.after)) ⊎ ((reply ≡ Refused refusals.NoMemory) × (taken.after ≡ state) × TakesMemory x.0)) q taken.step;
-      running = taken.running;
-      untouched = taken.untouched;
+      after = h.after;
+      taken = ap (λ (d : Demand). unless_refused budget d state) (sym (task_kept name kept source state e)) ∙ h.taken;
+      running = h.running;
+      untouched = h.untouched;
     })
-replies_kept budget name kept source (Some state) old reply new e (inr lost) =
-    let q = step_kept budget name kept source state e in
-    inr (record {
-      answer = subst (λ (x : Reply × State). IsAnswer x.0) q lost.answer;
+replies_kept budget name kept source (Some state) old reply new e (inr (inl out)) =
+    inr (inl (record {
+      ran_out = record {
+        takes = subst TakesMemory (task_kept name kept source state e) out.ran_out.takes;
+        reply_is = out.ran_out.reply_is;
+        unchanged = out.ran_out.unchanged;
+      };
+      running = out.running;
+      unchanged = out.unchanged;
+    }))
+replies_kept budget name kept source (Some state) old reply new e (inr (inr lost)) =
+    inr (inr (record {
+      commits = subst Commits (task_kept name kept source state e) lost.commits;
       lost = lost.lost;
-      owed = lost.owed;
+      stopped = lost.stopped;
       seq_same = lost.seq_same;
-    })
+    }))
 
 -- and so does a host
 pub carries_kept : {D : Type 0} (device : Device D) (budget : ℕ) (name kept source : List ℕ) (old : Hosted D) (reply : Reply) (new : Hosted D) → kept ≡ take 65537 source → Carries device budget (Load name kept) old reply new → Carries device budget (Load name source) old reply new

@@ -3,9 +3,9 @@ use Rattle.std.proofs.Common.{◌≡◌, inl, inr, ℕ, List, Some, Result, Ok, 
 use Rattle.std.specs.Bool.{IsTrue}
 use Rattle.ash_disk.specs.Device.{Device, IsOnlyRead}
 use Rattle.ash_image.specs.Image.{Snapshot, IsFile}
-use Rattle.ash_image.proofs.Image_laws.{file_of_one, is_open}
+use Rattle.ash_image.proofs.File_laws.{file_of_one, is_open}
 use Rattle.ash_meaning.specs.Kept.{Admits}
-use Rattle.ash_meaning.specs.State.{Script, State, empty}
+use Rattle.ash_meaning.specs.State.{State, empty}
 use Rattle.ash_registry.specs.Calls.{Call}
 use Rattle.ash_registry.specs.Text.{text_of}
 use Rattle.ash_durable.specs.Hosting.{Hosted, IsRunning, IsSaved, LeavesFilesOf, LeavesClosed, snapshot_of}

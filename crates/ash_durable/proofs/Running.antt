@@ -5,6 +5,7 @@ use Rattle.ash_meaning.specs.Refusals as refusals
 use Rattle.ash_meaning.specs.State.{State, Request, Reply, Refused}
 use Rattle.ash_meaning.specs.Step.{Steps}
 use Rattle.ash_durable.specs.Hosting.{Hosted, IsRunning, WasLost, WasNotKept, Replies, CarriesAll, reply_owed}
+use Rattle.ash_durable.proofs.Answering.{commits_answer}
 use Rattle.ash_durable.specs.Running.{replies_until_reopened, IsFailure, RunsThrough, RunsUntilFailure, RunsToFailure}
 
 is_failure : {D : Type 0} (old : D) (reply : Reply) (new : D) → WasLost old reply new → IsFailure reply
@@ -43,15 +44,16 @@ one_step budget request reply state next requests replies new step (inr until) =
   requests_are = ap (λ (more : List Request). request ∷ more) until.requests_are;
   replies_are = ap (λ (more : List Reply). reply ∷ more) until.replies_are;
   run = (next, step, until.run);
+  commits = until.commits;
   answer = until.answer;
   is_failure = until.is_failure;
   stopped = until.stopped;
   seq_is = until.seq_is;
 })
 
-failed_first : {D : Type 0} (device : Device D) (budget : ℕ) (request : Request) (reply : Reply) (state : State) (old next : Hosted D) (requests : List Request) (replies : List Reply) (new : Hosted D) → IsRunning state old → WasNotKept budget request state old reply next → CarriesAll device budget next requests replies new → RunsUntilFailure budget state (request ∷ requests) (reply ∷ replies) new
+failed_first : {D : Type 0} (device : Device D) (budget : ℕ) (request : Request) (reply : Reply) (state : State) (old next : Hosted D) (requests : List Request) (replies : List Reply) (new : Hosted D) → IsRunning state old → WasNotKept request state old reply next → CarriesAll device budget next requests replies new → RunsUntilFailure budget state (request ∷ requests) (reply ∷ replies) new
 failed_first {D} device budget request reply state old next requests replies new runs lost all =
-    let after = while_stopped device budget next requests replies new lost.owed all in
+    let after = while_stopped device budget next requests replies new lost.stopped all in
     let seq : next.seq ≡ state.seq = lost.seq_same ∙ runs.seq_is in
     record {
       before = [];
@@ -63,9 +65,10 @@ failed_first {D} device budget request reply state old next requests replies new
       requests_are = refl;
       replies_are = ap (λ (more : List Reply). reply ∷ more) (after.0 ∙ ap (λ (n : ℕ). replies_until_reopened requests n) seq);
       run = refl;
-      answer = lost.answer;
+      commits = lost.commits;
+      answer = commits_answer budget request state lost.commits;
       is_failure = is_failure old.first reply next.first lost.lost;
-      stopped = ap (λ (host : Hosted D). host.state) after.1 ∙ lost.owed;
+      stopped = ap (λ (host : Hosted D). host.state) after.1 ∙ lost.stopped;
       seq_is = ap (λ (host : Hosted D). host.seq) after.1 ∙ seq;
     }
 
@@ -74,8 +77,9 @@ while_running {D} device budget state old [] [] new runs all = inl (record { las
 while_running device budget state old (request ∷ requests) (reply ∷ replies) new runs all =
     let one : Replies budget request (Some state) old reply all.0 = subst (λ (s : Option State). Replies budget request s old reply all.0) runs.state_is all.1.replies in
     elim one [
-      | inl taken ↦ one_step budget request reply state taken.after requests replies new taken.step (while_running device budget taken.after all.0 requests replies new taken.running all.2)
-      | inr lost ↦ inr (failed_first device budget request reply state old all.0 requests replies new runs lost all.2)
+      | inl taken ↦ one_step budget request reply state taken.after requests replies new (inl taken.taken) (while_running device budget taken.after all.0 requests replies new taken.running all.2)
+      | inr (inl out) ↦ one_step budget request reply state state requests replies new (inr out.ran_out) (while_running device budget state all.0 requests replies new out.running all.2)
+      | inr (inr lost) ↦ inr (failed_first device budget request reply state old all.0 requests replies new runs lost all.2)
     ]
 while_running device budget state old [] (reply ∷ replies) new runs all = absurd all
 while_running device budget state old (request ∷ requests) [] new runs all = absurd all

@@ -4,18 +4,21 @@ use Rattle.std.specs.Bool.{IsTrue}
 use Rattle.ash_disk.specs.Device.{Device}
 use Rattle.ash_disk.specs.Failures.{Rose}
 use Rattle.ash_disk.specs.Image.{after_write}
-use Rattle.ash_image.specs.Image.{Snapshot, IsFile, IsClosed, file_of}
+use Rattle.ash_image.specs.Image.{Snapshot, IsFile, file_of}
+use Rattle.ash_journal.specs.Layout.{IsClosed}
 use Rattle.ash_registry.specs.Calls.{Call}
 use Rattle.ash_registry.specs.Text.{text_of}
 use Rattle.ash_meaning.specs.declared.refusal.Refusal.{Refusal}
 use Rattle.ash_meaning.specs.declared.refusal.Refusal.TheVariants as saving
+use Rattle.ash_meaning.specs.Refusals.{Refusal as Cause}
 use Rattle.ash_meaning.specs.Refusals as refusals
+use Rattle.ash_meaning.specs.Checking.{TakesToTell}
 use Rattle.ash_meaning.specs.Kept.{Admits}
 use Rattle.ash_meaning.specs.State.{State, Request, Seq, Reply, Answered, Number, Refused}
-use Rattle.ash_meaning.specs.Step.{Steps, step}
+use Rattle.ash_meaning.specs.Step.{Demand, Initialize, Run, Remove, RanOut, task_of, first_refusal, step}
 
--- A host: what is registered; its state, or none where it is owed a reopening; the number after the last request that
--- was answered; its two disks.
+-- A host: what is registered; its state, or none where it must be reopened; the number after the last request that was
+-- answered; its two disks.
 pub record Hosted (D : Type 0) : Type 0 where
   pub registered : List Call
   pub state : Option State
@@ -23,7 +26,7 @@ pub record Hosted (D : Type 0) : Type 0 where
   pub first : D
   pub second : D
 
--- the state of a host: none where it is owed a reopening, of which the number after the last answer is kept
+-- the state of a host: none where it must be reopened, of which the number after the last answer is kept
 abbrev pub state_unless : Option ℕ → State → Option State
 state_unless None state = Some state
 state_unless (Some seq) state = None
@@ -73,22 +76,35 @@ abbrev pub TellsFailures : {D : Type 0} → Device D → D → Reply → D → T
 TellsFailures device old (Refused refusals.DeviceFailed) new = (device.failures old ≤ device.failures new) × Rose (device.failures old) (device.failures new)
 TellsFailures device old _ new = device.failures new ≡ device.failures old
 
+-- The request is not refused, and its task is one that is answered: the answer is to be kept on the disks.
+abbrev pub Commits : Demand → Type 0
+Commits (Ok (Initialize name source tree)) = Unit {0}
+Commits (Ok (Run script function words)) = Unit {0}
+Commits (Ok (Remove name)) = Unit {0}
+Commits _ = ⊥
+
 -- The step of a request was taken. What is not an answer touches no disk.
 pub record WasTaken {D : Type 0} (budget : ℕ) (request : Request) (state : State) (old : Hosted D) (reply : Reply) (new : Hosted D) : Type 0 where
   pub after : State
-  pub step : Steps budget request state reply after
+  pub taken : step budget request state ≡ (reply, after)
   pub running : IsRunning after new
   pub untouched : (IsAnswer reply → ⊥) → new ≡ old
 
--- There was an answer, and it could not be kept. From now on a reopening is owed, and the sequence number is that
--- of the last request that was answered.
-pub record WasNotKept {D : Type 0} (budget : ℕ) (request : Request) (state : State) (old : Hosted D) (reply : Reply) (new : Hosted D) : Type 0 where
-  pub answer : IsAnswer (step budget request state).0
+-- Memory was refused where the request takes it, and the host is as it was.
+pub record WasOutOfMemory {D : Type 0} (request : Request) (state : State) (old : Hosted D) (reply : Reply) (new : Hosted D) : Type 0 where
+  pub ran_out : RanOut request state reply state
+  pub running : IsRunning state new
+  pub unchanged : new ≡ old
+
+-- A request that is not refused had an answer, and it could not be kept. From now on the host must be reopened, and the
+-- sequence number is that of the last request that was answered.
+pub record WasNotKept {D : Type 0} (request : Request) (state : State) (old : Hosted D) (reply : Reply) (new : Hosted D) : Type 0 where
+  pub commits : Commits (task_of request state)
   pub lost : WasLost old.first reply new.first
-  pub owed : new.state ≡ None
+  pub stopped : new.state ≡ None
   pub seq_same : new.seq ≡ old.seq
 
--- the reply of a host that is owed a reopening
+-- the reply of a host that must be reopened
 abbrev pub reply_owed : Request → ℕ → Reply
 reply_owed Seq seq = Number seq
 reply_owed _ seq = Refused refusals.Reopen
@@ -96,8 +112,18 @@ reply_owed _ seq = Refused refusals.Reopen
 -- What a request is replied, and what it leaves.
 abbrev pub Replies : {D : Type 0} → ℕ → Request → Option State → Hosted D → Reply → Hosted D → Type 0
 Replies budget request (Some state) old reply new =
-    WasTaken budget request state old reply new ⊎ WasNotKept budget request state old reply new
+    WasTaken budget request state old reply new ⊎ (WasOutOfMemory request state old reply new ⊎ WasNotKept request state old reply new)
 Replies budget request None old reply new = (reply ≡ reply_owed request old.seq) × (new ≡ old)
+
+-- A request is refused for this cause, or because memory was refused where its source was read, and nothing of the host
+-- changes.
+pub record Refuses {D : Type 0} (cause : Cause) (old : Hosted D) (reply : Reply) (new : Hosted D) : Type 0 where
+  pub reply_is : (reply ≡ Refused cause) ⊎ ((reply ≡ Refused refusals.NoMemory) × TakesToTell cause)
+  pub unchanged : new ≡ old
+
+-- A host that runs refuses each request for which there is a cause, and for the first cause.
+abbrev pub RefusesFirst : {D : Type 0} → Request → Hosted D → Reply → Hosted D → Type 0
+RefusesFirst request old reply new = (state : State) (cause : Cause) → IsRunning state old → first_refusal request state ≡ Some cause → Refuses cause old reply new
 
 -- An answer is kept, unless a disk fails, which its count shows, or memory is refused.
 abbrev pub KeepsWith : {D T : Type 0} → Device D → D → Result T Refusal → D → Type 0

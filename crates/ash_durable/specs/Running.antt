@@ -2,8 +2,8 @@
 use Rattle.std.specs.Prelude.{◌≡◌, ◌⊎◌, ℕ, List, ◌∷◌, ◌++◌, map, None}
 use Rattle.ash_meaning.specs.Refusals as refusals
 use Rattle.ash_meaning.specs.State.{State, Request, Reply, Refused}
-use Rattle.ash_meaning.specs.Step.{Runs, step}
-use Rattle.ash_durable.specs.Hosting.{Hosted, IsRunning, IsAnswer, reply_owed}
+use Rattle.ash_meaning.specs.Step.{Runs, step, task_of}
+use Rattle.ash_durable.specs.Hosting.{Hosted, IsRunning, IsAnswer, Commits, reply_owed}
 
 -- The replies of a host that must be reopened: its number is that of the last answer.
 abbrev pub replies_until_reopened : List Request → ℕ → List Reply
@@ -21,8 +21,8 @@ pub record RunsThrough {D : Type 0} (budget : ℕ) (state : State) (requests : L
   pub run : Runs budget state requests replies last
   pub running : IsRunning last new
 
--- The requests before one are a run of the definition. That one has an answer in the state that the run leads to, and
--- it failed. From then on the host must be reopened: its number is that of the run's last state, and each later reply
+-- The requests before one are a run of the definition. That one is not refused in the state that the run leads to, and
+-- its answer was lost. From then on the host must be reopened: its number is that of the run's last state, and each later reply
 -- is that of such a host.
 pub record RunsUntilFailure {D : Type 0} (budget : ℕ) (state : State) (requests : List Request) (replies : List Reply) (new : Hosted D) : Type 0 where
   pub before : List Request
@@ -34,6 +34,7 @@ pub record RunsUntilFailure {D : Type 0} (budget : ℕ) (state : State) (request
   pub requests_are : requests ≡ before ++ failed ∷ later
   pub replies_are : replies ≡ replied ++ failure ∷ replies_until_reopened later last.seq
   pub run : Runs budget state before replied last
+  pub commits : Commits (task_of failed last)
   pub answer : IsAnswer (step budget failed last).0
   pub is_failure : IsFailure failure
   pub stopped : new.state ≡ None

@@ -4,7 +4,8 @@ use Rattle.std.specs.Bool.{IsTrue}
 use Rattle.ash_disk.specs.Device.{Device, IsOnlyRead}
 use Rattle.ash_disk.specs.Failures.{Rose}
 use Rattle.ash_disk.specs.Image.{after_write}
-use Rattle.ash_image.specs.Image.{Snapshot, IsFile, IsClosed, file_of, shut_gate}
+use Rattle.ash_image.specs.Image.{Snapshot, IsFile, file_of}
+use Rattle.ash_journal.specs.Layout.{IsClosed}
 use Rattle.ash_meaning.specs.Kept.{Admits}
 use Rattle.ash_meaning.specs.State.{State, empty}
 use Rattle.ash_registry.specs.Calls.{Call}
@@ -14,6 +15,10 @@ use Rattle.ash_durable.specs.declared.fault.OpenRefused.{OpenRefused}
 use Rattle.ash_durable.specs.declared.fault.StoreFault.{StoreFault}
 use Rattle.ash_durable.specs.declared.fault.StoreFault.TheVariants as faults
 use Rattle.ash_durable.specs.declared.front.Front.{Front}
+
+-- the gate of a file in which nothing counts
+abbrev pub shut_gate : ℕ
+shut_gate = 0
 
 -- how a file begins: its length, and its first byte, which is 0 where there is none
 pub record IsFront (front : Front) (bytes : List ℕ) : Type 0 where

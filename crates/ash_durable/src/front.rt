@@ -4,9 +4,9 @@ ghost use Rattle.std.specs.Prelude.{◌≡◌, ◌↔◌, ℕ, List, ◌∷◌, 
 ghost use Rattle.ash_disk.specs.Device.{IsOnlyRead};
 ghost use Rattle.ash_disk.specs.Failures.{CountsFailure};
 ghost use Rattle.ash_disk.specs.Image.{after_write};
-ghost use Rattle.ash_image.specs.Image.{IsClosed, shut_gate};
+ghost use Rattle.ash_journal.specs.Layout.{IsClosed};
 ghost use Rattle.ash_durable.specs.Hosting.{LeavesClosed};
-ghost use Rattle.ash_durable.specs.Store.{IsFront};
+ghost use Rattle.ash_durable.specs.Store.{IsFront, shut_gate};
 
 use ash_disk::{DeviceFailed, Disk, write_durably};
 

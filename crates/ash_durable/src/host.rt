@@ -1,9 +1,10 @@
 // The host.
 
 ghost use Rattle.std.specs.Prelude.{◌≡◌, ℕ, map, None, IfOk, OnErr};
-ghost use Rattle.ash_meaning.specs.State.{State, Load, Call, Global as LookUp, Seq, Number, answer_of, word_of, request_of, reply_of};
+ghost use Rattle.ash_meaning.specs.State.{State, Load, Call, Discard, Global as LookUp, Seq, Number};
+ghost use Rattle.ash_meaning.specs.State.{answer_of, word_of, request_of, reply_of};
 ghost use Rattle.ash_registry.specs.Registered.{registered};
-ghost use Rattle.ash_durable.specs.Hosting.{Carries, CarriesAll, IsRunning, Keeps};
+ghost use Rattle.ash_durable.specs.Hosting.{Carries, CarriesAll, IsRunning, Keeps, RefusesFirst};
 ghost use Rattle.ash_durable.specs.Running.{RunsToFailure};
 ghost use Rattle.ash_durable.specs.Store.{Creates, Opens, OpensAgain};
 
@@ -19,16 +20,17 @@ use ash_registry::Registry;
 use std::alloc::{AllocError, Global};
 use std::marker::Model;
 
-/// A host for script modules whose state stands on two disks. It has a registry of its own, whose text is in the file
-/// of each state. Each call is one request. Every answer to a `load` or a `call` but a refusal raises the sequence
-/// number by one, and before it is given the whole file of the new state is written to the first disk, by one write and
-/// one sync. Where that fails, or finds no memory for the file, the answer is lost and a reopening is owed: every call
-/// but `seq`, `close` and `reopen` is from then on refused by `Refusal::Reopen`. Any other refusal changes nothing.
+/// A host for script modules whose state is on two disks. It has a registry of its own, whose text is in the file of
+/// each state. Each call is one request. Every answer to a `load`, a `call` or a `discard` but a refusal raises the
+/// sequence number by one, and before it is given the whole file of the new state is written to the first disk, by one
+/// write and one sync. Where that fails, or finds no memory for the file, the answer is lost and the host must be
+/// reopened: every call but `seq`, `close` and `reopen` is from then on refused with `Refusal::Reopen`. Any other
+/// refusal changes nothing.
 #[derive(Drop)]
 pub struct Host<D> {
     alloc: Global,
     state: PlainState,
-    /// Where a reopening is owed, the number after the last request that was answered.
+    /// Where the host must be reopened, the number after the last request that was answered.
     owed: Option<u64>,
     first: D,
     second: D,
@@ -48,7 +50,7 @@ impl<D: Disk> Host<D> {
     /// and each request that is answered are from then on kept in the file `a`; the file `b` is shut.
     ///
     /// Faults, the first that holds: `DeviceFailed`, `AlreadyThere`, `NoMemory`. Nothing is written where one of the
-    /// last two is told, nor where a file of the store is open already, whatever fails.
+    /// last two is returned, nor where a file of the store is open already, whatever fails.
     pub fn create(
         alloc: Global,
         mut a: D,
@@ -112,10 +114,10 @@ impl<D: Disk> Host<D> {
         (self.state.into_registry(), self.first, self.second)
     }
 
-    /// Closes the host and opens its store again with the same registry, as a host needs that is owed a reopening. A host
-    /// that was not owed one is then in the state in which it was.
+    /// Closes the host and opens its store again with the same registry, as a host needs that must be reopened. A host
+    /// that ran is then in the state in which it was.
     ///
-    /// It is what `open` gives of the disks that are handed back, whether a reopening was owed or not.
+    /// It is what `open` gives of the disks that are handed back, whether the host ran or not.
     ///
     /// Faults are those of `open`.
     pub fn reopen(self) -> Result<Host<D>, OpenRefused<D>>
@@ -128,7 +130,7 @@ impl<D: Disk> Host<D> {
     }
 
     /// Keeps what a request has changed, before it is answered. `seq` is the number of the last answer before it, which
-    /// stays where this is not kept: from then on a reopening is owed.
+    /// stays where this is not kept: from then on the host must be reopened.
     fn keep(&mut self, seq: u64, answer: Answer) -> Result<Answer, Refusal>
         ensures kept { IfOk result (λ kept. (kept ≡ answer) × (self.new.state ≡ self.old.state) × (self.new.seq ≡ self.old.seq)) }
         ensures owed { OnErr result ((self.new.state ≡ None) × (self.new.seq ≡ seq)) }
@@ -148,11 +150,12 @@ impl<D: Disk> Host<D> {
     /// Loads a source as a module of this name: reads it and runs its initializers, with a budget in ticks. The
     /// module is kept where they finish.
     ///
-    /// Refusals, the first that holds: `Reopen`, `SequenceSpent`, `BadName`, `ModuleTaken`, `TooManyModules`, those that
-    /// `check_source` tells of a source, `NotYet`.
-    /// At `DeviceFailed`, and at `NoMemory` where the answer could not be kept, a reopening is owed from then on.
+    /// Refusals, the first that holds: `Reopen`, `SequenceSpent`, `BadName`, `ModuleTaken`, `TooManyModules`, those
+    /// that `check_source` returns of a source, `NotYet`; `NoMemory` where the reading or the run finds no memory. At
+    /// `DeviceFailed`, and at `NoMemory` where the answer could not be kept, the host must be reopened from then on.
     pub fn load(&mut self, name: &str, source: &[u8], budget: u64) -> Result<Answer, Refusal>
-        ensures { Carries D.Disk budget (Load name.now source.now) self.old (answer_of result) self.new }
+        ensures carries { Carries D.Disk budget (Load name.now source.now) self.old (answer_of result) self.new }
+        ensures refused { RefusesFirst (Load name.now source.now) self.old (answer_of result) self.new }
     {
         if self.owed.is_some() {
             return Err(Refusal::Reopen);
@@ -166,8 +169,9 @@ impl<D: Disk> Host<D> {
 
     /// Calls a function of a module, with a budget in ticks.
     ///
-    /// Refusals, the first that holds: `Reopen`, `SequenceSpent`, `NoModule`, `NoFunction`, `BadArguments`. At
-    /// `DeviceFailed`, and at `NoMemory` where the answer could not be kept, a reopening is owed from then on.
+    /// Refusals, the first that holds: `Reopen`, `SequenceSpent`, `NoModule`, `NoFunction`, `BadArguments`; `NoMemory`
+    /// where the run finds no memory. At `DeviceFailed`, and at `NoMemory` where the answer could not be kept, the host
+    /// must be reopened from then on.
     pub fn call(
         &mut self,
         script: &str,
@@ -175,13 +179,34 @@ impl<D: Disk> Host<D> {
         arguments: &[Argument],
         budget: u64,
     ) -> Result<Answer, Refusal>
-        ensures { Carries D.Disk budget (Call script.now function.now arguments.now) self.old (answer_of result) self.new }
+        ensures carries { Carries D.Disk budget
+            (Call script.now function.now arguments.now) self.old (answer_of result) self.new }
+        ensures refused { RefusesFirst
+            (Call script.now function.now arguments.now) self.old (answer_of result) self.new }
     {
         if self.owed.is_some() {
             return Err(Refusal::Reopen);
         }
         let seq = self.state.seq();
         match self.state.call(script, function, arguments, budget) {
+            Ok(answer) => self.keep(seq, answer),
+            Err(refusal) => Err(refusal),
+        }
+    }
+
+    /// Takes a module away, with its globals.
+    ///
+    /// Refusals, the first that holds: `Reopen`, `SequenceSpent`, `NoModule`. At `DeviceFailed`, and at `NoMemory`, the
+    /// answer could not be kept, and the host must be reopened from then on.
+    pub fn discard(&mut self, name: &str) -> Result<Answer, Refusal>
+        ensures carries { (budget : ℕ) → Carries D.Disk budget (Discard name.now) self.old (answer_of result) self.new }
+        ensures refused { RefusesFirst (Discard name.now) self.old (answer_of result) self.new }
+    {
+        if self.owed.is_some() {
+            return Err(Refusal::Reopen);
+        }
+        let seq = self.state.seq();
+        match self.state.discard(name) {
             Ok(answer) => self.keep(seq, answer),
             Err(refusal) => Err(refusal),
         }
@@ -207,9 +232,13 @@ impl<D: Disk> Host<D> {
         self.owed.unwrap_or(self.state.seq())
     }
 
-    /// Carries out one request, with a budget in ticks.
+    /// Carries out one request, with a budget in ticks. A host that runs refuses each request for which there is a
+    /// cause, with the first cause or out of memory on the way to it, and is as it was.
+    ///
+    /// Refusals are those of `load`, `call`, `discard` and `global`, in their order.
     pub fn carry_out(&mut self, request: &Request, budget: u64) -> Reply
-        ensures { Carries D.Disk budget (request_of request.now) self.old (reply_of result) self.new }
+        ensures carries { Carries D.Disk budget (request_of request.now) self.old (reply_of result) self.new }
+        ensures refused { RefusesFirst (request_of request.now) self.old (reply_of result) self.new }
     {
         match *request {
             Request::Load { name, source } => self.load(name, source, budget).into(),
@@ -218,6 +247,7 @@ impl<D: Disk> Host<D> {
                 function,
                 arguments,
             } => self.call(module, function, arguments, budget).into(),
+            Request::Discard { name } => self.discard(name).into(),
             Request::Global { module, name } => match self.global(module, name) {
                 Ok(word) => Reply::Value(word),
                 Err(refusal) => Reply::Refused(refusal),

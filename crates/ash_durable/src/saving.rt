@@ -18,7 +18,8 @@ pub fn file_of(alloc: Global, state: &PlainState) -> Result<Vec<u8>, AllocError>
     ensures admitted { Admits state.now }
 {
     let registered = state.registry().text();
-    write_file(alloc, registered, state.parts(), state.seq())
+    let parts = state.parts(alloc)?;
+    write_file(alloc, registered, &parts, state.seq())
 }
 
 /// Writes the file of a state over the file on a disk, by one write and one sync.

@@ -55,7 +55,7 @@ fn state_in(alloc: Global, registry: Registry, bytes: &[u8]) -> Result<PlainStat
     if stored.registered.as_str() != registry.text() {
         return Err(StoreFault::OtherInterface);
     }
-    match PlainState::restored(alloc, registry, stored.seq, stored.module)? {
+    match PlainState::restored(alloc, registry, stored.seq, stored.modules)? {
         Some(state) => Ok(state),
         None => Err(StoreFault::Damaged(0)),
     }

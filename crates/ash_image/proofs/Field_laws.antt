@@ -9,7 +9,7 @@ use Rattle.std.proofs.lemmas.List.{append-nil, nil_from_length, take_at, drop_at
 use Rattle.std.proofs.lemmas.Slice.Eq.{bytes_eq-Decides}
 use Rattle.byteorder.specs.Endian.{little_number, little_from}
 use Rattle.byteorder.specs.Numbers.{little_from-lt, little_number-reads_back, length-bytes_low_first}
-use Rattle.ash_image.specs.Fields.{number, text, items, ◌>>=◌, as_at, checked_at, pair_at, number_at, front_at, text_at, past_number, past_bytes, after_number, before_number, after_bytes, times_at, items_at, whole, within_at}
+use Rattle.ash_image.specs.Fields.{number, text, items, ◌>>=◌, as_at, checked_at, pair_at, number_at, front_at, text_at, past_number, past_bytes, after_number, before_number, times_at, items_at, whole}
 use Rattle.ash_image.proofs.Numbers.{IsBytes, bytes_back}
 
 IsBytes-drop : (n : ℕ) (bytes : List ℕ) → IsBytes bytes → IsBytes (drop n bytes)
@@ -21,6 +21,12 @@ IsBytes-take n bytes h i =
       | inl lt ↦ rw (get_or-take n bytes i 0 lt) (h i)
       | inr le ↦ rw (get_or_past (take n bytes) i 0 (omega (arith, length-take n bytes))) (omega arith)
     ]
+
+-- what is in bytes is bytes
+pub IsBytes-middle : (before middle after bytes : List ℕ) → bytes ≡ before ++ (middle ++ after) → IsBytes bytes → IsBytes middle
+IsBytes-middle before middle after bytes is h =
+    let rest : IsBytes (middle ++ after) = subst IsBytes (drop_at before (middle ++ after) (length before) refl) (IsBytes-drop (length before) (before ++ (middle ++ after)) (subst IsBytes is h)) in
+    subst IsBytes (take_at middle after (length middle) refl) (IsBytes-take (length middle) (middle ++ after) rest)
 
 -- the value of a step that gave one
 pub bind_some : {A B : Type 0} (o : Option A) (f : A → Option B) (y : B) → (o >>= f) ≡ Some y → (x : A) × (o ≡ Some x) × (f x ≡ Some y)
@@ -68,30 +74,30 @@ number_field size = record {
       rw (long, take_at (number size value) rest size len, drop_at (number size value) rest size len, back) refl;
 }
 
-pub front_takes : (count : ℕ) (bytes : List ℕ) (x : List ℕ × List ℕ) → IsBytes bytes → front_at count bytes ≡ Some x → Takes bytes x.0 x.1 × (length x.0 ≡ count) × IsBytes x.0
+front_takes : (count : ℕ) (bytes : List ℕ) (x : List ℕ × List ℕ) → IsBytes bytes → front_at count bytes ≡ Some x → Takes bytes x.0 x.1 × (length x.0 ≡ count)
 front_takes count bytes x fits e =
     let g = not_refused (ltb (length bytes) count) (take count bytes, drop count bytes) x e in
     let long : count ≤ length bytes = ltb-false _ _ g.0 in
-    subst (λ (y : List ℕ × List ℕ). Takes bytes y.0 y.1 × (length y.0 ≡ count) × IsBytes y.0) g.1
-    (record { parts = sym (take-append-drop count bytes); rest_fits = IsBytes-drop count bytes fits }, omega (arith, length-take count bytes), IsBytes-take count bytes fits)
+    subst (λ (y : List ℕ × List ℕ). Takes bytes y.0 y.1 × (length y.0 ≡ count)) g.1
+    (record { parts = sym (take-append-drop count bytes); rest_fits = IsBytes-drop count bytes fits }, omega (arith, length-take count bytes))
 
 front_again : (bytes rest : List ℕ) → front_at (length bytes) (bytes ++ rest) ≡ Some (bytes, rest)
 front_again bytes rest =
     let long : ltb (length (bytes ++ rest)) (length bytes) ≡ false = le-ltb _ _ (omega (arith, length-append bytes rest)) in
     rw (long, take_at bytes rest (length bytes) refl, drop_at bytes rest (length bytes) refl) refl
 
-pub text_takes : (size : ℕ) (bytes : List ℕ) (x : List ℕ × List ℕ) → IsBytes bytes → text_at size bytes ≡ Some x → (Takes bytes (text size x.0) x.1 × (length x.0 < 256 ^ size)) × IsBytes x.0
+text_takes : (size : ℕ) (bytes : List ℕ) (x : List ℕ × List ℕ) → IsBytes bytes → text_at size bytes ≡ Some x → Takes bytes (text size x.0) x.1 × (length x.0 < 256 ^ size)
 text_takes size bytes x fits e =
     let a = bind_some (number_at size bytes) (λ count. front_at count.0 count.1) x e in
     let t = (number_field size).takes bytes a.0 fits a.1 in
     let u = front_takes a.0.0 a.0.1 x t.0.rest_fits a.2 in
     let both = Takes-then bytes (number size a.0.0) a.0.1 x.0 x.1 t.0 u.0 in
     let spelled : Takes bytes (text size x.0) x.1 = subst (λ (k : ℕ). Takes bytes (number size k ++ x.0) x.1) (sym u.1) both in
-    ((spelled, omega (arith, t.1, u.1)), u.2)
+    (spelled, omega (arith, t.1, u.1))
 
 pub text_field : (size : ℕ) → IsField (text size) (λ bytes. length bytes < 256 ^ size) (text_at size)
 text_field size = record {
-  takes = λ bytes x fits e. (text_takes size bytes x fits e).0;
+  takes = text_takes size;
   again = λ value rest lt.
       ap (text_at size) (append_assoc (number size (length value)) value rest)
       ∙ ap (λ (o : Option (ℕ × List ℕ)). o >>= λ count. front_at count.0 count.1) ((number_field size).again (length value) (value ++ rest) lt)
@@ -157,20 +163,6 @@ before_number-field {A} {spell} {fits} {read} size value lt field = record {
       ap (before_number size value read) (append_assoc (spell x) (number size value) rest)
       ∙ ap (λ (o : Option (A × List ℕ)). o >>= λ y. past_number size value y.1 >>= λ r. Some (y.0, r)) (field.again x (number size value ++ rest) h)
       ∙ ap (λ (o : Option (List ℕ)). o >>= λ r. Some (x, r)) (past_number-again size value rest lt);
-}
-
-pub after_bytes-field : {A : Type 0} {spell : A → List ℕ} {fits : A → Type 0} {read : List ℕ → Option (A × List ℕ)}
-    → (mark : List ℕ) → IsField spell fits read → IsField (λ x. mark ++ spell x) fits (after_bytes mark read)
-after_bytes-field {A} {spell} {fits} {read} mark field = record {
-  takes = λ bytes x ok e.
-      let a = bind_some (past_bytes mark bytes) (λ rest. read rest) x e in
-      let t = past_bytes-takes mark bytes a.0 ok a.1 in
-      let u = field.takes a.0 x t.rest_fits a.2 in
-      (Takes-then bytes mark a.0 (spell x.0) x.1 t u.0, u.1);
-  again = λ x rest h.
-      ap (after_bytes mark read) (append_assoc mark (spell x) rest)
-      ∙ ap (λ (o : Option (List ℕ)). o >>= λ r. read r) (past_bytes-again mark (spell x ++ rest))
-      ∙ field.again x rest h;
 }
 
 -- ---- fields from fields
@@ -282,22 +274,6 @@ pub whole_again : {A : Type 0} {spell : A → List ℕ} {fits : A → Type 0} {r
 whole_again {A} {spell} {fits} {read} field x h =
     ap (whole read) (sym (append-nil (spell x)))
     ∙ ap (λ (o : Option (A × List ℕ)). o >>= λ y. cond (eqb (length y.1) 0) (Some y.0) None) (field.again x [] h)
-
-pub within_field : {A : Type 0} {spell : A → List ℕ} {fits : A → Type 0} {read : List ℕ → Option (A × List ℕ)}
-    → (size : ℕ) → IsField spell fits read → IsField (λ x. text size (spell x)) (λ x. fits x × (length (spell x) < 256 ^ size)) (within_at size read)
-within_field {A} {spell} {fits} {read} size field = record {
-  takes = λ bytes x ok e.
-      let a = bind_some (text_at size bytes) (λ inner. whole read inner.0 >>= λ y. Some (y, inner.1)) x e in
-      let b = bind_some (whole read a.0.0) (λ y. Some (y, a.0.1)) x a.2 in
-      let t = text_takes size bytes a.0 ok a.1 in
-      let u = whole_takes field a.0.0 b.0 t.1 b.1 in
-      let inner : Takes bytes (text size (spell b.0)) a.0.1 × (length (spell b.0) < 256 ^ size) = subst (λ (s : List ℕ). Takes bytes (text size s) a.0.1 × (length s < 256 ^ size)) u.1 t.0 in
-      let made : A × List ℕ = (b.0, a.0.1) in
-      subst (λ (y : A × List ℕ). Takes bytes (text size (spell y.0)) y.1 × (fits y.0 × (length (spell y.0) < 256 ^ size))) (some_is made x b.2) (inner.0, (u.0, inner.1));
-  again = λ x rest h.
-      ap (λ (o : Option (List ℕ × List ℕ)). o >>= λ inner. whole read inner.0 >>= λ y. Some (y, inner.1)) ((text_field size).again (spell x) rest h.1)
-      ∙ ap (λ (o : Option A). o >>= λ y. Some (y, rest)) (whole_again field x h.0);
-}
 
 -- the same field with another name for what fits
 pub refit_field : {A : Type 0} {spell : A → List ℕ} {fits : A → Type 0} {read : List ℕ → Option (A × List ℕ)}

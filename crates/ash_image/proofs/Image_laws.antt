@@ -1,5 +1,5 @@
 -- The two laws of an image and of its file: what is read is depicted, and what is depicted is read.
-use Rattle.std.proofs.Common.{◌≡◌, ℕ, zero, suc, ◌^◌, ◌<◌, true, false, ltb, leb, eqb, List, [], ◌∷◌, ◌++◌, length, get_or, Option, Some, None, refl, sym, ap, subst, ◌∙◌, append_assoc, arith, inl, inr}
+use Rattle.std.proofs.Common.{◌≡◌, ℕ, zero, suc, ◌^◌, ◌<◌, true, false, ltb, leb, eqb, List, [], ◌∷◌, ◌++◌, length, Option, Some, refl, sym, ap, subst, ◌∙◌, append_assoc, arith}
 use Rattle.std.specs.Bool.{IsTrue}
 use Rattle.std.specs.Int.{w32, w64, cast_signed, cast_unsigned}
 use Rattle.std.specs.List.{AllByRecursion}
@@ -9,14 +9,14 @@ use Rattle.std.proofs.Math.Facts.{sfits_to_z, Fits-of_z}
 use Rattle.ash_host.specs.declared.word.Word.{Word}
 use Rattle.ash_host.specs.declared.word.Word.TheVariants as words
 use Rattle.ash_meaning.specs.State.{Script}
-use Rattle.ash_meaning.specs.Step.{is_module_name, most_modules}
+use Rattle.ash_meaning.specs.Step.{is_module_name, max_modules, are_ascending, names_of_scripts}
 use Rattle.ash_image.specs.Fields.{number, text, items, ◌>>=◌, as_at, number_at, whole}
-use Rattle.ash_image.specs.Image.{Snapshot, word, script, image_of, FitsWord, NamesObject, NameNoObject, FitsModule, FitsText, Fits, Depicts, version, most_text, most_source, most_globals, open_gate, shut_gate, magic, generation, file_of, FitsFile, IsFile, IsClosed}
-use Rattle.ash_image.specs.ImageReading.{value_at, word_at, name_at, source_at, count_at, globals_at, module_at, modules_at, is_text, registered_at, image_at, file_at}
+use Rattle.ash_image.specs.Image.{Snapshot, word, script, image_of, FitsWord, NamesObject, NameNoObject, FitsModule, FitsText, Fits, Depicts, version, max_source, max_globals}
+use Rattle.ash_image.specs.ImageReading.{value_at, word_at, name_at, source_at, count_at, globals_at, module_at, module_count_at, modules_at, is_text, registered_at, image_at}
 use Rattle.ash_image.proofs.Numbers.{IsBytes}
 use Rattle.ash_image.proofs.Names.{name_short}
 use Rattle.ash_image.proofs.Texts.{text_fits, some_text}
-use Rattle.ash_image.proofs.Field_laws.{bind_some, some_is, Takes, Takes-then, IsField, number_field, text_field, checked_field, pair_field, as_field, refit_field, after_number-field, before_number-field, after_bytes-field, items_field, within_field, whole_takes, whole_again}
+use Rattle.ash_image.proofs.Field_laws.{bind_some, some_is, Takes, Takes-then, IsField, number_field, text_field, checked_field, pair_field, as_field, refit_field, after_number-field, before_number-field, items_field, whole_takes, whole_again}
 
 -- ---- words
 
@@ -109,15 +109,15 @@ name_field : IsField (text 1) (λ name. (length name < 256 ^ 1) × IsTrue (is_mo
 unfolding name_at
 name_field = checked_field is_module_name (text_field 1)
 
-source_field : IsField (text 4) (λ source. (length source < 256 ^ 4) × IsTrue (leb (length source) most_source)) source_at
+source_field : IsField (text 4) (λ source. (length source < 256 ^ 4) × IsTrue (leb (length source) max_source)) source_at
 unfolding source_at
-source_field = checked_field (λ source. leb (length source) most_source) (text_field 4)
+source_field = checked_field (λ source. leb (length source) max_source) (text_field 4)
 
-count_field : IsField (number 2) (λ n. (n < 256 ^ 2) × IsTrue (leb n most_globals)) count_at
+count_field : IsField (number 2) (λ n. (n < 256 ^ 2) × IsTrue (leb n max_globals)) count_at
 unfolding count_at
-count_field = checked_field (λ n. leb n most_globals) (number_field 2)
+count_field = checked_field (λ n. leb n max_globals) (number_field 2)
 
-globals_field : IsField (items 2 word) (λ globals. ((length globals < 256 ^ 2) × IsTrue (leb (length globals) most_globals)) × AllByRecursion FitsWord globals) globals_at
+globals_field : IsField (items 2 word) (λ globals. ((length globals < 256 ^ 2) × IsTrue (leb (length globals) max_globals)) × AllByRecursion FitsWord globals) globals_at
 unfolding globals_at
 globals_field = items_field 2 count_field word_field
 
@@ -132,9 +132,13 @@ module_field =
     (λ x h. record { limits = record { name = h.0.1; source = leb-true _ _ h.1.0.1; globals = leb-true _ _ h.1.1.0.1; handles = name_none x.1.1 h.1.1.1 }; words = h.1.1.1 })
     (λ m h. ((omega (arith, name_short m.name h.limits.name), h.limits.name), ((omega (arith, h.limits.source), le-leb _ _ h.limits.source), ((omega (arith, h.limits.globals), le-leb _ _ h.limits.globals), h.words))))
 
-modules_field : IsField (items 1 script) (λ modules. ((length modules < 256 ^ 1) × IsTrue (leb (length modules) most_modules)) × AllByRecursion FitsModule modules) modules_at
+module_count_field : IsField (number 1) (λ n. (n < 256 ^ 1) × IsTrue (leb n max_modules)) module_count_at
+unfolding module_count_at
+module_count_field = checked_field (λ n. leb n max_modules) (number_field 1)
+
+modules_field : IsField (items 1 script) (λ modules. (((length modules < 256 ^ 1) × IsTrue (leb (length modules) max_modules)) × AllByRecursion FitsModule modules) × IsTrue (are_ascending (names_of_scripts modules))) modules_at
 unfolding modules_at
-modules_field = items_field 1 (checked_field (λ n. leb n most_modules) (number_field 1)) module_field
+modules_field = checked_field (λ modules. are_ascending (names_of_scripts modules)) (items_field 1 module_count_field module_field)
 
 registered_field : IsField (text 4) FitsText registered_at
 unfolding registered_at
@@ -152,18 +156,8 @@ image_field =
     (λ (x : List ℕ × (ℕ × List Script)). record { registered = x.0; modules = x.1.1; seq = x.1.0 }) (λ (s : Snapshot). (s.registered, (s.seq, s.modules))) image_of Fits
     (λ s h. refl)
     (λ x h. refl)
-    (λ x h. record { registered = h.0; seq = h.1.0; count = leb-true _ _ h.1.1.0.1; modules = h.1.1.1 })
-    (λ s h. (h.registered, (h.seq, ((omega (arith, h.count), le-leb _ _ h.count), h.modules))))
-
-pub file_field : IsField file_of FitsFile file_at
-unfolding file_at
-file_field =
-    refit_field
-    (after_number-field 1 open_gate (omega arith) (after_bytes-field magic (after_number-field 8 generation (omega arith) (before_number-field 1 shut_gate (omega arith) (within_field 4 image_field)))))
-    file_of FitsFile
-    (λ s. refl)
-    (λ s h. record { image = h.0; room = h.1 })
-    (λ s h. (h.image, h.room))
+    (λ x h. record { registered = h.0; seq = h.1.0; count = leb-true _ _ h.1.1.0.0.1; order = h.1.1.1; modules = h.1.1.0.1 })
+    (λ s h. (h.registered, (h.seq, (((omega (arith, h.count), le-leb _ _ h.count), h.modules), h.order))))
 
 -- ---- what the readers promise
 
@@ -173,41 +167,6 @@ is_depicted bytes s ok e = whole_takes image_field bytes s ok e
 pub is_read : (bytes : List ℕ) (s : Snapshot) → Depicts bytes s → whole image_at bytes ≡ Some s
 is_read bytes s h = ap (whole image_at) h.1 ∙ whole_again image_field s h.0
 
-pub not_some : {A : Type 0} (x : A) → None ≡ Some x → ⊥
-not_some x e = absurd cc
-
 -- bytes depict one snapshot
 pub depicts_one : (bytes : List ℕ) (a b : Snapshot) → Depicts bytes a → Depicts bytes b → a ≡ b
 depicts_one bytes a b h g = some_is a b (sym (is_read bytes a h) ∙ is_read bytes b g)
-
-pub is_file : (bytes : List ℕ) (x : Snapshot × List ℕ) → IsBytes bytes → file_at bytes ≡ Some x → IsFile bytes x.0
-is_file bytes x ok e =
-    let t = file_field.takes bytes x ok e in
-    (t.1, x.1, t.0.parts)
-
-pub is_file_read : (bytes : List ℕ) (s : Snapshot) (h : IsFile bytes s) → file_at bytes ≡ Some (s, h.1)
-is_file_read bytes s h = ap file_at h.2 ∙ file_field.again s h.1 h.0
-
--- bytes are the file of one snapshot
-pub file_of_one : (bytes : List ℕ) (a b : Snapshot) → IsFile bytes a → IsFile bytes b → a ≡ b
-file_of_one bytes a b h g =
-    let same = some_is (a, h.1) (b, g.1) (sym (is_file_read bytes a h) ∙ is_file_read bytes b g) in
-    ap (λ (x : Snapshot × List ℕ). x.0) same
-
--- a file of a snapshot is open
-pub is_open : (bytes : List ℕ) (s : Snapshot) → IsFile bytes s → IsClosed bytes → ⊥
-is_open bytes s h (inl short) = omega (arith, ap length h.2)
-is_open bytes s h (inr other) = other (ap (λ (bs : List ℕ). get_or bs 0 0) h.2)
-
--- what is not read is no snapshot's file
-pub is_damaged : (bytes : List ℕ) → file_at bytes ≡ None → (s : Snapshot) → IsFile bytes s → ⊥
-is_damaged bytes none s h = not_some (s, h.1) (sym none ∙ is_file_read bytes s h)
-
--- a file that is read is open
-pub is_read_open : (bytes : List ℕ) (x : Snapshot × List ℕ) → IsBytes bytes → file_at bytes ≡ Some x → IsClosed bytes → ⊥
-is_read_open bytes x ok e = is_open bytes x.0 (is_file bytes x ok e)
-
-pub only_file : (bytes : List ℕ) (x : Snapshot × List ℕ) → file_at bytes ≡ Some x → (s : Snapshot) → IsFile bytes s → Some x.0 ≡ Some s
-only_file bytes x e s h =
-    let same = some_is x (s, h.1) (sym e ∙ is_file_read bytes s h) in
-    ap (λ (y : Snapshot × List ℕ). Some y.0) same

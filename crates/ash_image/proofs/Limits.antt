@@ -1,12 +1,12 @@
--- A module that a host may keep is within its limits.
-use Rattle.std.proofs.Common.{ℕ, List, [], ◌∷◌, Option, Some, None}
-use Rattle.std.specs.Prelude.{IfSome}
+-- Modules that a host may keep are within its limits.
+use Rattle.std.proofs.Common.{ℕ, zero, suc, ◌<◌, List, [], ◌∷◌, length, get_or, arith}
 use Rattle.std.specs.List.{AllByRecursion}
 use Rattle.ash_host.specs.declared.word.Word.{Word}
 use Rattle.ash_host.specs.declared.word.Word.TheVariants as words
 use Rattle.ash_registry.specs.Calls.{Call}
-use Rattle.ash_image.specs.Image.{IsWithinLimits, NamesObject, NameNoObject}
-use Rattle.ash_meaning.specs.Kept.{Admits, IsInt, script_in, state_in}
+use Rattle.ash_image.specs.Image.{AreWithinLimits, IsWithinLimits, NamesObject, NameNoObject}
+use Rattle.ash_meaning.specs.Kept.{Admits, IsAdmitted, IsInt, script_in, scripts_in, state_in}
+use Rattle.ash_meaning.specs.State.{Script}
 use Rattle.ash_meaning.specs.declared.kept.ModuleParts.{ModuleParts}
 use Rattle.ash_meaning.proofs.Admitted.{admitted-source, admitted-globals}
 
@@ -19,11 +19,23 @@ no_handles : (globals : List Word) → AllByRecursion IsInt globals → NameNoOb
 no_handles [] ints = tt
 no_handles (w ∷ more) ints = (is_no_handle w ints.0, no_handles more ints.1)
 
-pub within_limits : (registered : List Call) (parts : Option ModuleParts) (seq : ℕ) → Admits (state_in registered parts seq) → IfSome parts (λ m. IsWithinLimits (script_in m))
-within_limits registered None seq h = tt
-within_limits registered (Some m) seq h = record {
-  name = h.modules.0.name;
-  source = admitted-source registered (script_in m) h.modules.0;
-  globals = admitted-globals registered (script_in m) h.modules.0;
-  handles = no_handles m.globals.now h.modules.0.ints;
+script_within : (registered : List Call) (m : Script) → IsAdmitted registered m → IsWithinLimits m
+script_within registered m h = record {
+  name = h.name;
+  source = admitted-source registered m h;
+  globals = admitted-globals registered m h;
+  handles = no_handles m.globals h.ints;
 }
+
+scripts_within : (registered : List Call) (scripts : List Script) → AllByRecursion (IsAdmitted registered) scripts → AllByRecursion IsWithinLimits scripts
+scripts_within registered [] h = tt
+scripts_within registered (m ∷ more) h = (script_within registered m h.0, scripts_within registered more h.1)
+
+pub within_limits : (registered : List Call) (parts : List ModuleParts) (seq : ℕ) → Admits (state_in registered parts seq) → AreWithinLimits (scripts_in parts)
+within_limits registered parts seq h = record { count = h.count; order = h.order; each = scripts_within registered (scripts_in parts) h.modules }
+
+-- each of the modules that are written is within its limits
+pub within_at : (parts : List ModuleParts) (i : ℕ) (d : ModuleParts) → AllByRecursion IsWithinLimits (scripts_in parts) → i < length parts → IsWithinLimits (script_in (get_or parts i d))
+within_at [] i d all within = absurd (omega arith)
+within_at (m ∷ more) zero d all within = all.0
+within_at (m ∷ more) (suc i) d all within = within_at more i d all.1 (omega arith)

@@ -68,10 +68,6 @@ after_number size value read bytes = past_number size value bytes >>= λ rest. r
 abbrev pub before_number : {A : Type 0} → ℕ → ℕ → (List ℕ → Option (A × List ℕ)) → List ℕ → Option (A × List ℕ)
 before_number size value read bytes = read bytes >>= λ x. past_number size value x.1 >>= λ rest. Some (x.0, rest)
 
--- what stands behind bytes that are always these
-abbrev pub after_bytes : {A : Type 0} → List ℕ → (List ℕ → Option (A × List ℕ)) → List ℕ → Option (A × List ℕ)
-after_bytes mark read bytes = past_bytes mark bytes >>= λ rest. read rest
-
 -- so many items, one after the other
 unfoldable pub times_at : {A : Type 0} → (List ℕ → Option (A × List ℕ)) → ℕ → List ℕ → Option (List A × List ℕ)
 times_at read zero bytes = Some ([], bytes)
@@ -84,10 +80,6 @@ items_at count read bytes = count bytes >>= λ x. times_at read x.0 x.1
 -- what the whole of the bytes is
 abbrev pub whole : {A : Type 0} → (List ℕ → Option (A × List ℕ)) → List ℕ → Option A
 whole read bytes = read bytes >>= λ x. if length x.1 == 0 then Some x.0 else None
-
--- a length in so many bytes, and what the whole of that many bytes is
-abbrev pub within_at : {A : Type 0} → ℕ → (List ℕ → Option (A × List ℕ)) → List ℕ → Option (A × List ℕ)
-within_at size read bytes = text_at size bytes >>= λ inner. whole read inner.0 >>= λ x. Some (x, inner.1)
 
 -- ---- what the code answers
 

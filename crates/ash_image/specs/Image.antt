@@ -1,15 +1,17 @@
--- The image of a host's state with the text of what is registered, byte for byte, and the file round it.
-use Rattle.std.specs.Prelude.{◌≡◌, ◌⊎◌, ℕ, ◌<◌, ◌≤◌, ◌^◌, Bool, true, false, List, ◌++◌, length, string_bytes, Option, Some, None, slice_index, codes, ⊤, FitsSigned}
+-- The image of a host's state with the text of what is registered, byte for byte, and the file around it.
+use Rattle.std.specs.Prelude.{◌≡◌, ℕ, ◌<◌, ◌≤◌, ◌^◌, Bool, true, false, List, [], ◌∷◌, ◌++◌, length, string_bytes, Option, Some, None, ⊤, FitsSigned}
 use Rattle.std.specs.Bool.{IsTrue}
 use Rattle.std.specs.Str.{IsUtf8}
 use Rattle.std.specs.Int.{w32, w64, cast_unsigned}
 use Rattle.std.specs.List.{AllByRecursion}
 use Rattle.ash_host.specs.declared.word.Word.{Word}
 use Rattle.ash_host.specs.declared.word.Word.TheVariants as words
+use Rattle.ash_journal.specs.Layout.{solid}
+use Rattle.ash_journal.specs.Layout as layout
 use Rattle.ash_meaning.specs.Kept.{scripts_in, scripts_of}
 use Rattle.ash_meaning.specs.State.{Script}
 use Rattle.ash_meaning.specs.declared.kept.ModuleParts.{ModuleParts}
-use Rattle.ash_meaning.specs.Step.{is_module_name, most_modules}
+use Rattle.ash_meaning.specs.Step.{is_module_name, max_modules, are_ascending, names_of_scripts}
 use Rattle.ash_image.specs.declared.image.Stored.{Stored}
 use Rattle.ash_image.specs.declared.image.FileContent.{FileContent}
 use Rattle.ash_image.specs.declared.image.FileContent.TheVariants as contents
@@ -76,21 +78,21 @@ FitsWord (words.Object value) = ⊥
 FitsWord _ = ⊤
 
 -- the most bytes of the text of what is registered
-abbrev pub most_text : ℕ
-most_text = 1048576
+abbrev pub max_text : ℕ
+max_text = 1048576
 
 -- the most bytes of a source
-abbrev pub most_source : ℕ
-most_source = 65536
+abbrev pub max_source : ℕ
+max_source = 65536
 
 -- the most globals of a module
-abbrev pub most_globals : ℕ
-most_globals = 256
+abbrev pub max_globals : ℕ
+max_globals = 256
 
 -- a text of what is registered that is text, and within its limit
 pub record FitsText (registered : List ℕ) : Type 0 where
   pub utf8 : IsUtf8 registered
-  pub short : length registered ≤ most_text
+  pub short : length registered ≤ max_text
 
 -- the word is a handle to an object
 abbrev pub NamesObject : Word → Type 0
@@ -104,8 +106,8 @@ NameNoObject list = AllByRecursion (λ (w : Word). NamesObject w → ⊥) list
 -- A module whose name is one, within the limits of a host. Its globals name no object, since no host has one.
 pub record IsWithinLimits (m : Script) : Type 0 where
   pub name : IsTrue (is_module_name m.name)
-  pub source : length m.source ≤ most_source
-  pub globals : length m.globals ≤ most_globals
+  pub source : length m.source ≤ max_source
+  pub globals : length m.globals ≤ max_globals
   pub handles : NameNoObject m.globals
 
 -- a module that has a spelling
@@ -113,11 +115,18 @@ pub record FitsModule (m : Script) : Type 0 where
   pub limits : IsWithinLimits m
   pub words : AllByRecursion FitsWord m.globals
 
--- a snapshot that has a spelling: one module at the most
+-- Modules that a host may keep: not too many, by ascending name, and each within its limits.
+pub record AreWithinLimits (modules : List Script) : Type 0 where
+  pub count : length modules ≤ max_modules
+  pub order : IsTrue (are_ascending (names_of_scripts modules))
+  pub each : AllByRecursion IsWithinLimits modules
+
+-- A snapshot that has a spelling. Its modules stand by ascending name: the same modules in another order have none.
 pub record Fits (s : Snapshot) : Type 0 where
   pub registered : FitsText s.registered
   pub seq : s.seq < 2 ^ 64
-  pub count : length s.modules ≤ most_modules
+  pub count : length s.modules ≤ max_modules
+  pub order : IsTrue (are_ascending (names_of_scripts s.modules))
   pub modules : AllByRecursion FitsModule s.modules
 
 -- The bytes are the one spelling of a snapshot.
@@ -126,48 +135,38 @@ Depicts bytes snapshot = Fits snapshot × (bytes ≡ image_of snapshot)
 
 -- ---- the file
 
--- the gate of a file, or of a record in it, that counts
-abbrev pub open_gate : ℕ
-open_gate = 1
-
--- the gate where nothing follows that counts
-abbrev pub shut_gate : ℕ
-shut_gate = 0
-
--- the bytes by which such a file is known
-abbrev pub magic : List ℕ
-magic = codes "ASHOST01"
-
--- the number of the file among those that its store has had
+-- the generation of the one file of a store
 abbrev pub generation : ℕ
 generation = 1
 
--- the gate, what the file is known by, its generation, the image and its length, and the next gate
+-- the file of a snapshot: its image with no record, and after it a gate that is 0
 abbrev pub file_of : Snapshot → List ℕ
-file_of snapshot = number 1 open_gate ++ (magic ++ (number 8 generation ++ (text 4 (image_of snapshot) ++ number 1 shut_gate)))
+file_of snapshot = solid generation (image_of snapshot) [] ++ 0 ∷ []
 
--- a snapshot whose image has a length that fits
+-- The bytes are a file with this image and no record, and the gate after the image is 0. Anything may stand after that:
+-- an older file's bytes may be left there.
+pub record HasImage (bytes image : List ℕ) : Type 0 where
+  pub file : layout.IsFile generation image [] bytes
+  pub gate_is : file.gate ≡ 0
+
+-- The bytes are the file of a snapshot, and after it anything.
+abbrev pub IsFile : List ℕ → Snapshot → Type 0
+IsFile bytes snapshot = Fits snapshot × HasImage bytes (image_of snapshot)
+
+-- a snapshot that has a file
 pub record FitsFile (snapshot : Snapshot) : Type 0 where
   pub image : Fits snapshot
-  pub room : length (image_of snapshot) < 2 ^ 32
-
--- The file of a snapshot, and after it anything: an older file's bytes may stay behind.
-abbrev pub IsFile : List ℕ → Snapshot → Type 0
-IsFile bytes snapshot = FitsFile snapshot × (rest : List ℕ) × (bytes ≡ file_of snapshot ++ rest)
-
--- The first gate isn't open, or the file ends right behind it.
-abbrev pub IsClosed : List ℕ → Type 0
-IsClosed bytes = (length bytes < 2) ⊎ (slice_index bytes 0 ≡ open_gate → ⊥)
+  pub file : layout.Fits generation (image_of snapshot) []
 
 -- ---- what the code's types stand for
 
 -- what was read
 abbrev pub snapshot_read : Stored → Snapshot
-snapshot_read s = record { registered = string_bytes s.registered; modules = scripts_of s.module; seq = s.seq }
+snapshot_read s = record { registered = string_bytes s.registered; modules = scripts_of s.modules.items; seq = s.seq }
 
 -- what is written, by its parts
-abbrev pub snapshot_in : List ℕ → Option ModuleParts → ℕ → Snapshot
-snapshot_in registered m seq = record { registered = registered; modules = scripts_in m; seq = seq }
+abbrev pub snapshot_in : List ℕ → List ModuleParts → ℕ → Snapshot
+snapshot_in registered parts seq = record { registered = registered; modules = scripts_in parts; seq = seq }
 
 -- what a file holds
 abbrev pub held : FileContent → Option Snapshot

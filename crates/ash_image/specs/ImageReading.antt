@@ -1,13 +1,13 @@
--- Reading an image and its file, from the front.
+-- Reading an image, from the front.
 use Rattle.std.specs.Prelude.{ℕ, zero, suc, ◌==◌, ◌&&◌, nat_le, nat_lt, Bool, List, length, Option, Some, None}
 use Rattle.std.specs.Str.{is_utf8}
 use Rattle.std.specs.Int.{w32, w64, cast_signed}
 use Rattle.ash_host.specs.declared.word.Word.{Word}
 use Rattle.ash_host.specs.declared.word.Word.TheVariants as words
 use Rattle.ash_meaning.specs.State.{Script}
-use Rattle.ash_meaning.specs.Step.{is_module_name, most_modules}
-use Rattle.ash_image.specs.Fields.{◌>>=◌, as_at, checked_at, pair_at, number_at, text_at, after_number, before_number, after_bytes, items_at, within_at}
-use Rattle.ash_image.specs.Image.{Snapshot, version, most_text, most_source, most_globals, open_gate, shut_gate, magic, generation}
+use Rattle.ash_meaning.specs.Step.{is_module_name, max_modules, are_ascending, names_of_scripts}
+use Rattle.ash_image.specs.Fields.{◌>>=◌, as_at, checked_at, pair_at, number_at, text_at, after_number, before_number, items_at}
+use Rattle.ash_image.specs.Image.{Snapshot, version, max_text, max_source, max_globals}
 
 -- the value of a word with this tag; a handle names an object, of which there is none
 unfoldable pub value_at : ℕ → List ℕ → Option (Word × List ℕ)
@@ -29,11 +29,11 @@ name_at = checked_at is_module_name (text_at 1)
 
 -- a source, within its limit
 unfoldable pub source_at : List ℕ → Option (List ℕ × List ℕ)
-source_at = checked_at (λ source. nat_le (length source) most_source) (text_at 4)
+source_at = checked_at (λ source. nat_le (length source) max_source) (text_at 4)
 
 -- a count that globals may have
 unfoldable pub count_at : List ℕ → Option (ℕ × List ℕ)
-count_at = checked_at (λ n. nat_le n most_globals) (number_at 2)
+count_at = checked_at (λ n. nat_le n max_globals) (number_at 2)
 
 -- what globals hold
 unfoldable pub globals_at : List ℕ → Option (List Word × List ℕ)
@@ -43,13 +43,17 @@ globals_at = items_at count_at word_at
 unfoldable pub module_at : List ℕ → Option (Script × List ℕ)
 module_at = as_at (λ (x : List ℕ × (List ℕ × List Word)). record { name = x.0; source = x.1.0; globals = x.1.1 }) (pair_at name_at (pair_at source_at globals_at))
 
--- a count that modules may have, and that many
+-- a count that modules may have
+unfoldable pub module_count_at : List ℕ → Option (ℕ × List ℕ)
+module_count_at = checked_at (λ n. nat_le n max_modules) (number_at 1)
+
+-- a count, and that many modules, by ascending name
 unfoldable pub modules_at : List ℕ → Option (List Script × List ℕ)
-modules_at = items_at (checked_at (λ n. nat_le n most_modules) (number_at 1)) module_at
+modules_at = checked_at (λ modules. are_ascending (names_of_scripts modules)) (items_at module_count_at module_at)
 
 -- the bytes are a text, and within the limit of what is registered
 abbrev pub is_text : List ℕ → Bool
-is_text bytes = nat_le (length bytes) most_text && is_utf8 bytes
+is_text bytes = nat_le (length bytes) max_text && is_utf8 bytes
 
 -- the text of what is registered
 unfoldable pub registered_at : List ℕ → Option (List ℕ × List ℕ)
@@ -59,7 +63,3 @@ registered_at = checked_at is_text (text_at 4)
 unfoldable pub image_at : List ℕ → Option (Snapshot × List ℕ)
 image_at = as_at (λ (x : List ℕ × (ℕ × List Script)). record { registered = x.0; modules = x.1.1; seq = x.1.0 })
     (after_number 2 version (pair_at registered_at (pair_at (number_at 8) (after_number 8 0 (after_number 2 0 (before_number 4 0 modules_at))))))
-
--- the snapshot of the file at the front
-unfoldable pub file_at : List ℕ → Option (Snapshot × List ℕ)
-file_at = after_number 1 open_gate (after_bytes magic (after_number 8 generation (before_number 1 shut_gate (within_at 4 image_at))))

@@ -1,4 +1,4 @@
-// The image of a host's state with the text of what is registered, and the file round it.
+// The image of a host's state with the text of what is registered, and the file around it.
 //
 // An image, every number with its lowest byte first:
 //
@@ -7,7 +7,7 @@
 //     seq            u64    how many requests have been answered
 //     last number    u64    0, no object has been made
 //     services       u16    0, whatever is registered
-//     modules        u8     0 or 1, and each:
+//     modules        u8     how many, 16 at most, by ascending name, and each:
 //         name       u8     its length, and the bytes
 //         source     u32    its length, 65,536 at most, and the bytes
 //         globals    u16    how many, 256 at most, and each a word
@@ -29,17 +29,20 @@
 //     magic                 ASHOST01
 //     generation     u64    1
 //     image          u32    its length, and the image
-//     gate           u8     0, nothing behind it counts
+//     gate           u8     0, nothing after it counts
 //
-// What stands behind the last gate may be left from an older file, and is never read.
+// Names ascend byte by byte, so no two modules have one name, and a state has one spelling. The file is one of
+// `ash_journal`, with no record. What stands after its last gate may be left from an older file, and is never read.
 
 mod fields;
 mod reading;
 mod writing;
 
 ghost use Rattle.std.specs.Prelude.{◌≡◌, ◌≤◌, ◌↔◌, length, IsTrue, IfOk, OnOk, IfSome, Some, option_map};
-ghost use Rattle.ash_image.specs.Image.{Depicts, FitsFile, IsClosed, IsFile, IsWithinLimits, Snapshot, file_of, held, most_text, snapshot_in, snapshot_read};
-ghost use Rattle.ash_meaning.specs.Kept.{script_in};
+ghost use Rattle.ash_journal.specs.Layout.{IsClosed};
+ghost use Rattle.ash_image.specs.Image.{AreWithinLimits, Depicts, FitsFile, IsFile, Snapshot, file_of, held, max_text};
+ghost use Rattle.ash_image.specs.Image.{snapshot_in, snapshot_read};
+ghost use Rattle.ash_meaning.specs.Kept.{scripts_in};
 ghost use Rattle.ash_image.specs.declared.image.FileContent.TheVariants.{Closed, Damaged};
 
 use crate::image::fields::Unread;
@@ -48,14 +51,17 @@ use std::alloc::{AllocError, Global};
 
 const VERSION: u16 = 1;
 
-/// The most bytes of the text of what is registered.
-const MOST_TEXT: usize = 1_048_576;
+/// The greatest length of the text of what is registered, in bytes.
+const MAX_TEXT: usize = 1_048_576;
 
-/// The most bytes of a source.
-const MOST_SOURCE: usize = 65_536;
+/// The greatest length of a source, in bytes.
+const MAX_SOURCE: usize = 65_536;
 
-/// The most globals of a module.
-const MOST_GLOBALS: u16 = 256;
+/// How many globals a module has at the most.
+const MAX_GLOBALS: u16 = 256;
+
+/// How many modules a host has at the most.
+const MAX_MODULES: u8 = 16;
 
 const LAST_NUMBER: u64 = 0;
 
@@ -81,8 +87,8 @@ pub struct Stored {
     pub registered: String,
     /// How many requests have been answered.
     pub seq: u64,
-    /// The module that is kept.
-    pub module: Option<StoredModule>,
+    /// The modules that are kept, by ascending name.
+    pub modules: Vec<StoredModule>,
 }
 
 /// What a file is found to be.
@@ -120,7 +126,7 @@ fn is_closed(bytes: &[u8]) -> bool
     bytes.len() < 2 || bytes[0] != OPEN
 }
 
-/// What the bytes of a file are found to be. What stands behind the last gate isn't read.
+/// What the bytes of a file are found to be. What stands after the last gate isn't read.
 pub fn read_file(alloc: Global, bytes: &[u8]) -> Result<FileContent, AllocError>
     // Nothing counts where the gate isn't open.
     ensures closed { IfOk result (λ content. (content ≡ Closed) ↔ IsClosed bytes.now) }
@@ -128,7 +134,7 @@ pub fn read_file(alloc: Global, bytes: &[u8]) -> Result<FileContent, AllocError>
     ensures found { IfOk result (λ content. IfSome (held content) (IsFile bytes.now)) }
     // A file of a state is read, unless memory is refused.
     ensures only { (s : Snapshot) → IsFile bytes.now s → IfOk result (λ content. held content ≡ Some s) }
-    // Behind an open gate, what is no file of a state is damaged.
+    // After an open gate, what is no file of a state is damaged.
     ensures damaged { IfOk result (λ content. (content ≡ Damaged) ↔ ((IsClosed bytes.now → ⊥) × ((s : Snapshot) → IsFile bytes.now s → ⊥))) }
     // A file is of one state and one text.
     ensures one { (s t : Snapshot) → IsFile bytes.now s → IsFile bytes.now t → s ≡ t }
@@ -137,34 +143,34 @@ pub fn read_file(alloc: Global, bytes: &[u8]) -> Result<FileContent, AllocError>
         return Ok(FileContent::Closed);
     }
     match reading::file_of(alloc, bytes) {
-        Ok((stored, _)) => Ok(FileContent::Holds(stored)),
+        Ok(stored) => Ok(FileContent::Holds(stored)),
         Err(Unread::Damaged) => Ok(FileContent::Damaged),
         Err(Unread::Memory) => Err(AllocError),
     }
 }
 
-/// The file of a state, given the text of what is registered, the module that it keeps and how many requests have been
+/// The file of a state, given the text of what is registered, the modules that it keeps and how many requests have been
 /// answered, in one buffer that is made with its exact capacity.
 pub fn write_file(
     alloc: Global,
     registered: &str,
-    parts: Option<ModuleParts<'_>>,
+    modules: &[ModuleParts<'_>],
     seq: u64,
 ) -> Result<Vec<u8>, AllocError>
-    // The text is within its limit, and the module within those of a host.
-    requires text { length registered.now ≤ most_text }
-    requires limits { IfSome parts (λ m. IsWithinLimits (script_in m)) }
-    ensures written { IfOk result (λ file. file.items ≡ file_of (snapshot_in registered.now parts.entry seq)) }
+    // The text is within its limit, and the modules are within those of a host and stand by ascending name.
+    requires text { length registered.now ≤ max_text }
+    requires limits { AreWithinLimits (scripts_in modules.now) }
+    ensures written { IfOk result (λ file. file.items ≡ file_of (snapshot_in registered.now modules.now seq)) }
     // So it is read again.
-    ensures fits { OnOk result (FitsFile (snapshot_in registered.now parts.entry seq)) }
+    ensures fits { OnOk result (FitsFile (snapshot_in registered.now modules.now seq)) }
 {
-    let image = writing::image_length(registered, parts);
+    let image = writing::image_length(registered, modules);
     let mut file = Vec::with_capacity(alloc, HEADER + image + 1)?;
     writing::put_u8(&mut file, OPEN)?;
     file.extend_from_slice(MAGIC)?;
     writing::put_u64(&mut file, GENERATION)?;
     writing::put_u32(&mut file, image as u32)?;
-    writing::put_image(&mut file, registered, parts, seq)?;
+    writing::put_image(&mut file, registered, modules, seq)?;
     writing::put_u8(&mut file, SHUT)?;
     Ok(file)
 }

@@ -4,7 +4,7 @@ use Rattle.std.specs.List.{list_all}
 use Rattle.std.specs.Str.{bytes_eq}
 use Rattle.ash_meaning.specs.declared.request.Argument.{Argument}
 use Rattle.ash_meaning.specs.declared.request.Argument.TheVariants.{Truth, Number}
-use Rattle.ash_meaning.specs.State.{Request, Call, Global, Seq}
+use Rattle.ash_meaning.specs.State.{Request, Call, Discard, Global, Seq}
 use Rattle.ash_meaning.specs.State as state
 
 -- what one request asks: something of the host, or to end the run; or it is no request, or too long a line
@@ -122,6 +122,11 @@ abbrev pub get_spelling : List (List ℕ) → Spelling
 get_spelling (script ∷ name ∷ []) = Says (Asked (Global script name))
 get_spelling _ = Says BadRequest
 
+-- discard NAME
+abbrev pub discard_spelling : List (List ℕ) → Spelling
+discard_spelling (name ∷ []) = Says (Asked (Discard name))
+discard_spelling _ = Says BadRequest
+
 -- a request of one word
 abbrev pub lone_spelling : Line → List (List ℕ) → Spelling
 lone_spelling line [] = Says line
@@ -132,6 +137,7 @@ verb_spelling verb words =
     if bytes_eq verb (codes "load") then load_spelling words
     else if bytes_eq verb (codes "call") then call_spelling words
     else if bytes_eq verb (codes "get") then get_spelling words
+    else if bytes_eq verb (codes "discard") then discard_spelling words
     else if bytes_eq verb (codes "seq") then lone_spelling (Asked Seq) words
     else if bytes_eq verb (codes "quit") then lone_spelling Quit words
     else Says BadRequest

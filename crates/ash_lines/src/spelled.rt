@@ -3,9 +3,9 @@
 ghost use Rattle.std.specs.Prelude.{◌≡◌, ◌≤◌, ◌∷◌, [], true, Some, None, length, MatchOption, vec_capacity, if◌then◌else◌};
 ghost use Rattle.std.specs.List.{list_all};
 ghost use Rattle.ash_meaning.specs.declared.request.Argument.{Argument};
-ghost use Rattle.ash_lines.specs.Lines.{is_word, spelling, load_spelling, call_spelling, get_spelling, verb_spelling, arguments_of};
+ghost use Rattle.ash_lines.specs.Lines.{is_word, spelling, load_spelling, call_spelling, get_spelling, discard_spelling, verb_spelling, arguments_of};
 ghost use Rattle.ash_lines.specs.Words.{words_left};
-ghost use Rattle.ash_lines.specs.Spelled.{spelling_of, IsNoPair};
+ghost use Rattle.ash_lines.specs.Spelled.{spelling_of, IsNotSingle, IsNoPair};
 ghost use Rattle.std.specs.Prelude.{List};
 
 use crate::number::{argument, is_same, length};
@@ -22,6 +22,7 @@ pub enum Spelled<'a> {
     /// A source of so many bytes follows.
     Load { name: &'a str, length: u32 },
     Call { script: &'a str, function: &'a str },
+    Discard { name: &'a str },
     Global { script: &'a str, name: &'a str },
     Seq,
     Quit,
@@ -58,6 +59,8 @@ fn by_verb<'a>(verb: &[u8], words: Words<'a>, arguments: &mut Vec<Argument>) -> 
         call(words, arguments)
     } else if is_same(verb, b"get") {
         get(words)
+    } else if is_same(verb, b"discard") {
+        discard(words)
     } else if is_same(verb, b"seq") {
         if words.is_empty() {
             Spelled::Seq
@@ -95,6 +98,16 @@ fn get<'a>(words: Words<'a>) -> Spelled<'a>
     match pair(words) {
         None => Spelled::Bad,
         Some((script, name)) => Spelled::Global { script, name },
+    }
+}
+
+fn discard<'a>(words: Words<'a>) -> Spelled<'a>
+    requires { list_all is_word (words_left words.rest) ≡ true }
+    ensures { (arguments : List Argument) → spelling_of result arguments ≡ discard_spelling (words_left words.entry.rest) }
+{
+    match single(words) {
+        None => Spelled::Bad,
+        Some(name) => Spelled::Discard { name },
     }
 }
 
@@ -136,6 +149,19 @@ fn read_arguments(mut words: Words<'_>, arguments: &mut Vec<Argument>) -> bool
         }
     }
     true
+}
+
+/// One word, if that is all that is left.
+fn single<'a>(mut words: Words<'a>) -> Option<&'a str>
+    requires { list_all is_word (words_left words.rest) ≡ true }
+    ensures { MatchOption result (IsNotSingle (words_left words.entry.rest))
+        (λ word. words_left words.entry.rest ≡ word.now ∷ []) }
+{
+    let word = words.next()?;
+    match words.next() {
+        None => Some(text(word)),
+        Some(_) => None,
+    }
 }
 
 /// Two words, if that is all that is left.

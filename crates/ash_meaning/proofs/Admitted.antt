@@ -3,7 +3,7 @@ use Rattle.std.proofs.Common.{◌≡◌, ℕ, ◌≤◌, inl, inr, List, length,
 use Rattle.std.specs.Bool.{IsTrue}
 use Rattle.std.proofs.lemmas.Bool.{cases_lt}
 use Rattle.ash_registry.specs.Calls.{Call}
-use Rattle.ash_meaning.specs.declared.plain.Script as declared
+use Rattle.ash_meaning.specs.declared.script.Script as declared
 use Rattle.ash_meaning.specs.declared.request.Argument.{Argument}
 use Rattle.ash_meaning.specs.Kept.{IsAdmitted}
 use Rattle.ash_meaning.specs.Meaning.{End, call}

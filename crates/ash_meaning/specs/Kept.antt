@@ -1,8 +1,7 @@
 -- Which modules and states a host may keep, and what stands for them outside of a host.
-use Rattle.std.specs.Prelude.{◌≡◌, ℕ, ◌≤◌, List, length, Option, Some, option_map, string_bytes}
+use Rattle.std.specs.Prelude.{◌≡◌, ℕ, ◌≤◌, List, length, map, Option, Some, SomeIff, string_bytes}
 use Rattle.std.specs.Bool.{IsTrue}
 use Rattle.std.specs.List.{AllByRecursion}
-use Rattle.std.specs.Option.{option_to_list}
 use Rattle.ash_host.specs.declared.word.Word.{Word}
 use Rattle.ash_host.specs.declared.word.Word.TheVariants.{Int}
 use Rattle.ash_registry.specs.Calls.{Call as Registration}
@@ -10,7 +9,7 @@ use Rattle.ash_meaning.specs.declared.kept.StoredModule.{StoredModule}
 use Rattle.ash_meaning.specs.declared.kept.ModuleParts.{ModuleParts}
 use Rattle.ash_meaning.specs.Tree.{Module}
 use Rattle.ash_meaning.specs.State.{Script, State}
-use Rattle.ash_meaning.specs.Step.{is_module_name, most_modules}
+use Rattle.ash_meaning.specs.Step.{is_module_name, max_modules, are_ascending, names_of_scripts}
 use Rattle.ash_meaning.specs.Reading.{module_read}
 
 -- a word of the type `int`
@@ -27,9 +26,10 @@ pub record IsAdmitted (registered : List Registration) (script : Script) : Type 
   pub count : length script.globals ≡ length tree.globals
   pub ints : AllByRecursion IsInt script.globals
 
--- a state that a host may keep
+-- a state that a host may keep: its modules are few, stand by ascending name, and each may be kept
 pub record Admits (state : State) : Type 0 where
-  pub count : length state.modules ≤ most_modules
+  pub count : length state.modules ≤ max_modules
+  pub order : IsTrue (are_ascending (names_of_scripts state.modules))
   pub modules : AllByRecursion (IsAdmitted state.registered) state.modules
 
 -- a module that was stored
@@ -37,21 +37,25 @@ abbrev pub script_of : StoredModule → Script
 script_of m = record { name = string_bytes m.name; source = m.source.items; globals = m.globals.items }
 
 -- the modules that were stored
-abbrev pub scripts_of : Option StoredModule → List Script
-scripts_of m = option_to_list (option_map script_of m)
+abbrev pub scripts_of : List StoredModule → List Script
+scripts_of stored = map script_of stored
 
 -- a state that was stored
-abbrev pub state_of : List Registration → Option StoredModule → ℕ → State
-state_of registered m seq = record { registered = registered; modules = scripts_of m; seq = seq }
+abbrev pub state_of : List Registration → List StoredModule → ℕ → State
+state_of registered stored seq = record { registered = registered; modules = scripts_of stored; seq = seq }
+
+-- the state that was stored, if a host may keep it
+abbrev pub IsRestored : State → Option State → Type 0
+IsRestored state found = SomeIff found (Admits state) state
 
 -- a module by its parts
 abbrev pub script_in : ModuleParts → Script
 script_in m = record { name = m.name.now; source = m.source.now; globals = m.globals.now }
 
 -- the modules by their parts
-abbrev pub scripts_in : Option ModuleParts → List Script
-scripts_in m = option_to_list (option_map script_in m)
+abbrev pub scripts_in : List ModuleParts → List Script
+scripts_in parts = map script_in parts
 
 -- a state by its parts
-abbrev pub state_in : List Registration → Option ModuleParts → ℕ → State
-state_in registered m seq = record { registered = registered; modules = scripts_in m; seq = seq }
+abbrev pub state_in : List Registration → List ModuleParts → ℕ → State
+state_in registered parts seq = record { registered = registered; modules = scripts_in parts; seq = seq }

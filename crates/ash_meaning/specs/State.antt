@@ -20,8 +20,8 @@ pub record Script : Type 0 where
   pub source : List ℕ
   pub globals : List Word
 
--- what the embedding program has registered, which no request changes, the modules that are kept, and how many requests
--- have been answered
+-- what the embedding program has registered, which no request changes, the modules that are kept, by ascending name, and
+-- how many requests have been answered
 pub record State : Type 0 where
   pub registered : List Registration
   pub modules : List Script
@@ -34,6 +34,7 @@ empty registered = record { registered = registered; modules = []; seq = 0 }
 pub data Request : Type 0 where
   Load : (name : List ℕ) → (source : List ℕ) → Request
   Call : (script : List ℕ) → (function : List ℕ) → (arguments : List argument.Argument) → Request
+  Discard : (name : List ℕ) → Request
   Global : (script : List ℕ) → (name : List ℕ) → Request
   Seq : Request
 
@@ -48,6 +49,7 @@ pub data Reply : Type 0 where
 abbrev pub request_of : request.Request → Request
 request_of (requests.Load name source) = Load name.now source.now
 request_of (requests.Call script function arguments) = Call script.now function.now arguments.now
+request_of (requests.Discard name) = Discard name.now
 request_of (requests.Global script name) = Global script.now name.now
 request_of requests.Seq = Seq
 

@@ -1,6 +1,10 @@
 -- What a request does to the state, and what is replied.
-use Rattle.std.specs.Prelude.{◌≡◌, ◌⊎◌, ℕ, pos, negsuc, ◌+◌, ◌-◌, ◌^◌, ◌==◌, ◌&&◌, ◌||◌, nat_lt, nat_le, not, Bool, false, if◌then◌else◌, List, [], ◌∷◌, ◌++◌, length, map, slice_get, Option, Some, None, is_some, unwrap_or, Ok, Err}
+use Rattle.std.specs.Prelude.{◌≡◌, ◌⊎◌, ℕ, pos, negsuc, ◌+◌, ◌-◌, ◌^◌, ◌==◌, ◌&&◌, ◌||◌, nat_lt, nat_le, not, Bool, true, false, if◌then◌else◌, List, [], ◌∷◌, length, map, filter, slice_get, Option, Some, None, is_some, IsSome, unwrap_or, Result, Ok, Err}
+use Rattle.std.specs.Result.{result_err}
 use Rattle.std.specs.List.{list_all}
+use Rattle.std.specs.declared.cmp.Ordering.{Ordering}
+use Rattle.std.specs.Ordering.{is_lt, nat_cmp}
+use Rattle.std.specs.Cmp.Lexicographic.{slice_cmp}
 use Rattle.std.specs.Str.{bytes_eq}
 use Rattle.ash_host.specs.declared.word.Word.{Word}
 use Rattle.ash_host.specs.declared.word.Word.TheVariants.{Int}
@@ -11,7 +15,7 @@ use Rattle.ash_meaning.specs.Refusals.{Refusal}
 use Rattle.ash_meaning.specs.Refusals as refusals
 use Rattle.ash_meaning.specs.Tree.{Module, Function, Global as Variable}
 use Rattle.ash_meaning.specs.Meaning.{End, Finished, call, load_globals}
-use Rattle.ash_meaning.specs.State.{Script, State, Request, Load, Call, Global, Seq, Reply, Answered, Value, Number, Refused}
+use Rattle.ash_meaning.specs.State.{Script, State, Request, Load, Call, Discard, Global, Seq, Reply, Answered, Value, Number, Refused}
 use Rattle.ash_meaning.specs.Checking.{TakesToTell}
 use Rattle.ash_meaning.specs.Reading.{Reading, read_source, module_read}
 
@@ -41,41 +45,53 @@ is_name (code ∷ more) = is_name_start code && list_all is_name_part more
 abbrev pub is_module_name : List ℕ → Bool
 is_module_name name = is_name name && nat_le (length name) 64
 
--- as many modules as are kept
-abbrev pub most_modules : ℕ
-most_modules = 1
+-- as many modules as a host has at the most
+abbrev pub max_modules : ℕ
+max_modules = 16
 
 abbrev pub is_spent : State → Bool
 is_spent state = state.seq == 2 ^ 64 - 1
 
+-- Modules stand by ascending name.
+
+-- Names compare byte by byte, and a name comes before those that begin with it.
+abbrev pub compare_names : List ℕ → List ℕ → Ordering
+compare_names = slice_cmp nat_cmp
+
+-- each name comes before the next
+abbrev pub are_ascending : List (List ℕ) → Bool
+are_ascending [] = true
+are_ascending (name ∷ []) = true
+are_ascending (name ∷ next ∷ more) = is_lt (compare_names name next) && are_ascending (next ∷ more)
+
+abbrev pub names_of_scripts : List Script → List (List ℕ)
+names_of_scripts scripts = map (λ (script : Script). script.name) scripts
+
+abbrev pub has_name : List ℕ → Script → Bool
+has_name name script = bytes_eq script.name name
+
 abbrev pub find_script : List ℕ → State → Option Script
-find_script name state = first_where (λ script. bytes_eq script.name name) state.modules
+find_script name state = first_where (has_name name) state.modules
 
-abbrev pub refuse : Refusal → State → Reply × State
-refuse refusal state = (Refused refusal, state)
+-- the modules with one more, before the first whose name comes after its own
+abbrev pub with_script : Script → List Script → List Script
+with_script new [] = new ∷ []
+with_script new (script ∷ more) = if is_lt (compare_names new.name script.name) then new ∷ script ∷ more else script ∷ with_script new more
 
--- an answer raises the sequence number by one
-abbrev pub answer : End → List Script → State → Reply × State
-answer end modules state = (Answered end (state.seq + 1), record { registered = state.registered; modules = modules; seq = state.seq + 1 })
+-- the modules without the one of this name
+abbrev pub without_script : List ℕ → List Script → List Script
+without_script name scripts = filter (λ script. not (has_name name script)) scripts
 
--- A module is kept only where its initializers come to their end.
-abbrev pub kept : End → Script → List Script → List Script
-kept (Finished value) script modules = modules ++ script ∷ []
-kept _ script modules = modules
+-- the modules with what a run has left in the globals of the one of this name
+abbrev pub with_globals : List ℕ → List Word → List Script → List Script
+with_globals name globals scripts = map (λ (script : Script). if has_name name script then record script { globals = globals } else script) scripts
 
-abbrev pub load_read : ℕ → List ℕ → List ℕ → Reading → State → Reply × State
-load_read budget name source (Err refusal) state = refuse refusal state
-load_read budget name source (Ok tree) state =
-    let run = load_globals tree budget in
-    answer run.0 (kept run.0 (record { name = name; source = source; globals = run.1 }) state.modules) state
+-- the typed tree of a module that is kept
+abbrev pub tree_of : List Registration → Script → Module
+tree_of registered script = unwrap_or (module_read registered script.source) (record { globals = []; functions = [] })
 
-abbrev pub load : ℕ → List ℕ → List ℕ → State → Reply × State
-load budget name source state =
-    if is_spent state then refuse refusals.SequenceSpent state
-    else if not (is_module_name name) then refuse refusals.BadName state
-    else if is_some (find_script name state) then refuse refusals.ModuleTaken state
-    else if nat_le most_modules (length state.modules) then refuse refusals.TooManyModules state
-    else load_read budget name source (read_source state.registered source) state
+abbrev pub find_function : List ℕ → Module → Option Function
+find_function name tree = first_where (λ function. bytes_eq function.name name) tree.functions
 
 -- An argument becomes an `int` where it is a number in its range.
 abbrev pub int_argument : Argument → Option Word
@@ -95,31 +111,6 @@ int_arguments (argument ∷ more) = both (int_argument argument) (int_arguments 
 abbrev pub words_for : ℕ → List Argument → Option (List Word)
 words_for parameters arguments = if length arguments == parameters then int_arguments arguments else None
 
--- the typed tree of a module that is kept
-abbrev pub tree_of : List Registration → Script → Module
-tree_of registered script = unwrap_or (module_read registered script.source) (record { globals = []; functions = [] })
-
-abbrev pub find_function : List ℕ → Module → Option Function
-find_function name tree = first_where (λ function. bytes_eq function.name name) tree.functions
-
--- the modules with what a run has left in the globals of one of them
-abbrev pub with_globals : Script → List Word → List Script → List Script
-with_globals called globals modules = map (λ (script : Script). if bytes_eq script.name called.name then record script { globals = globals } else script) modules
-
-abbrev pub call_with : ℕ → Script → Function → Option (List Word) → State → Reply × State
-call_with budget script function None state = refuse refusals.BadArguments state
-call_with budget script function (Some words) state =
-    let run = call function words script.globals budget in
-    answer run.0 (with_globals script run.1 state.modules) state
-
-abbrev pub call_function : ℕ → Script → Option Function → List Argument → State → Reply × State
-call_function budget script None arguments state = refuse refusals.NoFunction state
-call_function budget script (Some function) arguments state = call_with budget script function (words_for function.parameters arguments) state
-
-abbrev pub call_in : ℕ → Option Script → List ℕ → List Argument → State → Reply × State
-call_in budget None name arguments state = refuse refusals.NoModule state
-call_in budget (Some script) name arguments state = call_function budget script (find_function name (tree_of state.registered script)) arguments state
-
 abbrev pub names_of : Module → List (List ℕ)
 names_of tree = map (λ (global : Variable). global.name) tree.globals
 
@@ -136,34 +127,131 @@ word_at words (Some place) = slice_get words place
 abbrev pub word_named : List ℕ → Module → List Word → Option Word
 word_named name tree words = word_at words (place_from 0 name (names_of tree))
 
-abbrev pub told : Option Word → Reply
-told None = Refused refusals.NoGlobal
-told (Some word) = Value word
+-- What a request asks for, once all that it names is found.
+pub data Task : Type 0 where
+  Initialize : (name : List ℕ) → (source : List ℕ) → (tree : Module) → Task
+  Run : (script : Script) → (function : Function) → (words : List Word) → Task
+  Remove : (name : List ℕ) → Task
+  Read : (word : Word) → Task
+  Count : Task
 
-abbrev pub value_in : List Registration → Option Script → List ℕ → Reply
-value_in registered None name = Refused refusals.NoModule
-value_in registered (Some script) name = told (word_named name (tree_of registered script) script.globals)
+-- a task, or why there is none
+abbrev pub Demand : Type 0
+Demand = Result Task Refusal
 
--- The step of one request. Refusals are tested in this order, and keep the state.
+-- ---- the refusals of each request, in the order in which they are tested
+
+abbrev pub load_of : List ℕ → List ℕ → Reading → Demand
+load_of name source (Err refusal) = Err refusal
+load_of name source (Ok tree) = Ok (Initialize name source tree)
+
+abbrev pub loading : List ℕ → List ℕ → State → Demand
+loading name source state =
+    if is_spent state then Err refusals.SequenceSpent
+    else if not (is_module_name name) then Err refusals.BadName
+    else if is_some (find_script name state) then Err refusals.ModuleTaken
+    else if nat_le max_modules (length state.modules) then Err refusals.TooManyModules
+    else load_of name source (read_source state.registered source)
+
+abbrev pub call_with : Script → Function → Option (List Word) → Demand
+call_with script function None = Err refusals.BadArguments
+call_with script function (Some words) = Ok (Run script function words)
+
+abbrev pub call_of : Script → Option Function → List Argument → Demand
+call_of script None arguments = Err refusals.NoFunction
+call_of script (Some function) arguments = call_with script function (words_for function.parameters arguments)
+
+abbrev pub call_in : List Registration → Option Script → List ℕ → List Argument → Demand
+call_in registered None name arguments = Err refusals.NoModule
+call_in registered (Some script) name arguments = call_of script (find_function name (tree_of registered script)) arguments
+
+abbrev pub calling : List ℕ → List ℕ → List Argument → State → Demand
+calling script function arguments state =
+    if is_spent state then Err refusals.SequenceSpent
+    else call_in state.registered (find_script script state) function arguments
+
+abbrev pub discarding : List ℕ → State → Demand
+discarding name state =
+    if is_spent state then Err refusals.SequenceSpent
+    else if is_some (find_script name state) then Ok (Remove name)
+    else Err refusals.NoModule
+
+abbrev pub read_of : Option Word → Demand
+read_of None = Err refusals.NoGlobal
+read_of (Some word) = Ok (Read word)
+
+abbrev pub read_in : List Registration → Option Script → List ℕ → Demand
+read_in registered None name = Err refusals.NoModule
+read_in registered (Some script) name = read_of (word_named name (tree_of registered script) script.globals)
+
+-- The task of a request in a state, or the first cause for which it is refused. No budget, no free host object and no
+-- answer of one has a part in it, nor what memory there is.
+abbrev pub task_of : Request → State → Demand
+task_of (Load name source) state = loading name source state
+task_of (Call script function arguments) state = calling script function arguments state
+task_of (Discard name) state = discarding name state
+task_of (Global script name) state = read_in state.registered (find_script script state) name
+task_of Seq state = Ok Count
+
+-- why a request is refused, if it is
+abbrev pub first_refusal : Request → State → Option Refusal
+first_refusal request state = result_err (task_of request state)
+
+-- ---- what a request does that is not refused
+
+-- an answer raises the sequence number by one
+abbrev pub answer : End → List Script → State → Reply × State
+answer end modules state = (Answered end (state.seq + 1), record { registered = state.registered; modules = modules; seq = state.seq + 1 })
+
+-- A module is kept only where its initializers come to their end.
+abbrev pub kept : End → Script → List Script → List Script
+kept (Finished value) script modules = with_script script modules
+kept _ script modules = modules
+
+abbrev pub perform : ℕ → Task → State → Reply × State
+perform budget (Initialize name source tree) state =
+    let run = load_globals tree budget in
+    answer run.0 (kept run.0 (record { name = name; source = source; globals = run.1 }) state.modules) state
+perform budget (Run script function words) state =
+    let run = call function words script.globals budget in
+    answer run.0 (with_globals script.name run.1 state.modules) state
+perform budget (Remove name) state = answer (Finished None) (without_script name state.modules) state
+perform budget (Read word) state = (Value word, state)
+perform budget Count state = (Number state.seq, state)
+
+-- A refusal keeps the state.
+abbrev pub unless_refused : ℕ → Demand → State → Reply × State
+unless_refused budget (Err refusal) state = (Refused refusal, state)
+unless_refused budget (Ok task) state = perform budget task state
+
+-- The step of one request: it is refused, or it runs.
 abbrev pub step : ℕ → Request → State → Reply × State
-step budget (Load name source) state = load budget name source state
-step budget (Call script function arguments) state =
-    if is_spent state then refuse refusals.SequenceSpent state
-    else call_in budget (find_script script state) function arguments state
-step budget (Global script name) state = (value_in state.registered (find_script script state) name, state)
-step budget Seq state = (Number state.seq, state)
+step budget request state = unless_refused budget (task_of request state) state
 
--- the replies that were made by reading a source or running a function, for which memory is taken
-abbrev pub TakesMemory : Reply → Type 0
-TakesMemory (Answered end seq) = Unit {0}
-TakesMemory (Refused refusal) = TakesToTell refusal
-TakesMemory _ = ⊥
+-- ---- what may be answered
+
+-- A request takes memory where it runs a function, or reads a source, be it in vain.
+abbrev pub TakesMemory : Demand → Type 0
+TakesMemory (Ok (Initialize name source tree)) = Unit {0}
+TakesMemory (Ok (Run script function words)) = Unit {0}
+TakesMemory (Ok _) = ⊥
+TakesMemory (Err refusal) = TakesToTell refusal
+
+-- Memory was refused, and nothing changed.
+pub record RanOut (request : Request) (old : State) (reply : Reply) (new : State) : Type 0 where
+  pub takes : TakesMemory (task_of request old)
+  pub reply_is : reply ≡ Refused refusals.NoMemory
+  pub unchanged : new ≡ old
 
 -- One request from old to new: its step, or, where memory is taken, that memory was refused and nothing changed.
 abbrev pub Steps : ℕ → Request → State → Reply → State → Type 0
-Steps budget request old reply new =
-    (step budget request old ≡ (reply, new))
-    ⊎ ((reply ≡ Refused refusals.NoMemory) × (new ≡ old) × TakesMemory (step budget request old).0)
+Steps budget request old reply new = (step budget request old ≡ (reply, new)) ⊎ RanOut request old reply new
+
+-- A request that is refused keeps the state, and is answered with the first cause, unless memory was refused on the way
+-- to it.
+pub record KeepsRefused (request : Request) (old : State) (reply : Reply) (new : State) : Type 0 where
+  pub unchanged : IsSome (first_refusal request old) → new ≡ old
+  pub first : (refusal : Refusal) → first_refusal request old ≡ Some refusal → (reply ≡ Refused refusal) ⊎ ((reply ≡ Refused refusals.NoMemory) × TakesToTell refusal)
 
 -- A run: each request is answered from the state that the one before it left.
 abbrev pub Runs : ℕ → State → List Request → List Reply → State → Type 0

@@ -1,5 +1,9 @@
 // A module outside of a host.
 
+ghost use Rattle.std.specs.Prelude.{◌≡◌};
+ghost use Rattle.ash_meaning.specs.Kept.{scripts_of};
+ghost use Rattle.ash_meaning.specs.Step.{are_ascending, names_of_scripts};
+
 use ash_host::Word;
 
 /// A module as it was stored.
@@ -18,4 +22,20 @@ pub struct ModuleParts<'a> {
     pub source: &'a [u8],
     /// What the globals hold, in source order.
     pub globals: &'a [Word],
+}
+
+/// Whether each module's name comes before the next one's, byte by byte.
+pub fn are_ascending(modules: &[StoredModule]) -> bool
+    ensures { result ≡ are_ascending (names_of_scripts (scripts_of modules.now)) }
+{
+    let Some((mut last, rest)) = modules.split_first() else {
+        return true;
+    };
+    for module in rest {
+        if last.name >= module.name {
+            return false;
+        }
+        last = module;
+    }
+    true
 }

@@ -18,6 +18,10 @@ pub enum Request<'a> {
         function: &'a str,
         arguments: &'a [Argument],
     },
+    /// Take a module away, with its globals.
+    Discard {
+        name: &'a str,
+    },
     /// Read a global of a module.
     Global {
         module: &'a str,
@@ -34,7 +38,7 @@ pub enum Argument {
     Number(i128),
 }
 
-/// What a `load` or a `call` came to.
+/// What a `load`, a `call` or a `discard` came to.
 #[derive(Debug, Drop)]
 pub struct Answer {
     pub outcome: Outcome,

@@ -1,5 +1,5 @@
 -- Lines that a host over two disks answered in turn are a run of the definition, up to the first failure.
-use Rattle.std.proofs.Common.{◌≡◌, ℕ, List, [], ◌∷◌, sym, ◌∙◌, subst}
+use Rattle.std.proofs.Common.{◌≡◌, ℕ, List, [], ◌∷◌, subst}
 use Rattle.ash_disk.specs.Device.{Device}
 use Rattle.ash_durable.specs.Hosting.{Hosted, Carries, CarriesAll}
 use Rattle.ash_durable.specs.Running.{RunsToFailure}

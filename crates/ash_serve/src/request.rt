@@ -78,6 +78,10 @@ fn carry_out<S: Source, H: Carrier>(
             };
             Ok(Some(Told::Replied(host.carry_out(&request, budget))))
         }
+        Spelled::Discard { name } => {
+            let request = Request::Discard { name };
+            Ok(Some(Told::Replied(host.carry_out(&request, budget))))
+        }
         Spelled::Global { script, name } => {
             let request = Request::Global {
                 module: script,

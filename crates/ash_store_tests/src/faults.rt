@@ -1,8 +1,8 @@
 //! Stores that are there already or damaged, and disks that fail.
 
 use crate::hosts::{
-    EMPTY, SOURCE, call, check, check_bytes, closed, created, disk, found, fuse, global, inner,
-    load, opened, replies_to, seq, used,
+    EMPTY, SOURCE, call, check, check_bytes, closed, created, discard, disk, found, fuse, global,
+    inner, load, opened, replies_to, seq, used,
 };
 use ash_disk::{FuseDisk, MemoryDisk};
 use ash_durable::{Host, StoreFault};
@@ -67,11 +67,12 @@ fn fused(alloc: Global, first: u64, second: u64) -> Result<Host<FuseDisk<MemoryD
 }
 
 /// What is refused of a host whose first write fails, in order.
-fn refusals(host: &mut Host<FuseDisk<MemoryDisk>>) -> [Option<Refusal>; 4] {
+fn refusals(host: &mut Host<FuseDisk<MemoryDisk>>) -> [Option<Refusal>; 5] {
     [
         load(host, SOURCE).err(),
         load(host, SOURCE).err(),
         call(host, &[]).err(),
+        discard(host).err(),
         global(host, "n").err(),
     ]
 }
@@ -86,6 +87,7 @@ fn check_refusals(
     let found = (calls, refusals(&mut host), seq(&host));
     let wanted = [
         Some(Refusal::DeviceFailed),
+        Some(Refusal::Reopen),
         Some(Refusal::Reopen),
         Some(Refusal::Reopen),
         Some(Refusal::Reopen),

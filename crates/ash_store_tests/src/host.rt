@@ -1,10 +1,14 @@
 //! The calls of a host, each once, where memory is ample.
 
-use crate::hosts::{SOURCE, call, check, check_text, global, load, made, seq, shown};
+use crate::hosts::{
+    SOURCE, call, check, check_text, discard, disk, global, load, made, opened, seq, shown,
+    used_file,
+};
 use ash_disk::MemoryDisk;
 use ash_durable::Host;
 use ash_meaning::refusal::Refusal;
 use ash_meaning::request::{Argument, Reply, Request};
+use ash_registry::Registry;
 use std::alloc::{AllocError, Global};
 use std::process::Abort;
 use std::test::Fail;
@@ -27,7 +31,8 @@ fn each_call(rt: HostRuntime) -> Result<(), Fail> {
         "Ok(Answer { outcome: Finished(Some(Int(7))), seq: 2 })",
         "call",
     );
-    check_globals(&rt, rt.alloc(), &host)
+    check_globals(&rt, rt.alloc(), &host)?;
+    check_discards(&rt, rt.alloc(), &mut host)
 }
 
 /// Compares the globals of that host, and its number after that.
@@ -35,6 +40,24 @@ fn check_globals(rt: &impl Abort, alloc: Global, host: &Host<MemoryDisk>) -> Res
     check_text(rt, &shown(alloc, &global(host, "n"))?, "Ok(Int(7))", "n");
     check_text(rt, &shown(alloc, &global(host, "f"))?, "Err(NoGlobal)", "f");
     check(rt, &seq(host), &2, "after the calls");
+    Ok(())
+}
+
+/// Takes its module away twice, and compares what is answered.
+fn check_discards(rt: &impl Abort, alloc: Global, host: &mut Host<MemoryDisk>) -> Result<(), Fail> {
+    check_text(
+        rt,
+        &shown(alloc, &discard(host))?,
+        "Ok(Answer { outcome: Finished(None), seq: 3 })",
+        "discard",
+    );
+    check_text(
+        rt,
+        &shown(alloc, &discard(host))?,
+        "Err(NoModule)",
+        "discard again",
+    );
+    check(rt, &seq(host), &3, "after the discards");
     Ok(())
 }
 
@@ -50,7 +73,7 @@ fn carry_out_all(
     host.carry_out_all(alloc, requests, 1000)
 }
 
-static REQUESTS: [Request; 4] = [
+static REQUESTS: [Request; 6] = [
     Request::Load {
         name: "m",
         source: SOURCE,
@@ -64,6 +87,8 @@ static REQUESTS: [Request; 4] = [
         module: "m",
         name: "n",
     },
+    Request::Discard { name: "m" },
+    Request::Discard { name: "m" },
     Request::Seq,
 ];
 
@@ -81,7 +106,8 @@ fn each_request(rt: HostRuntime) -> Result<(), Fail> {
     check_text(
         &rt,
         &shown(rt.alloc(), &replies)?,
-        "[Refused(ModuleTaken), Answer(Answer { outcome: Finished(Some(Int(0))), seq: 2 }), Value(Int(0)), Seq(2)]",
+        "[Refused(ModuleTaken), Answer(Answer { outcome: Finished(Some(Int(0))), seq: 2 }), Value(Int(0)), \
+         Answer(Answer { outcome: Finished(None), seq: 3 }), Refused(NoModule), Seq(3)]",
         "all requests",
     );
     Ok(())
@@ -114,5 +140,33 @@ fn an_argument_that_does_not_fit(rt: HostRuntime) -> Result<(), Fail> {
         check_refused(&rt, rt.alloc(), &mut host, *argument)?;
     }
     check(&rt, &seq(&host), &1, "after the refusals");
+    Ok(())
+}
+
+/// A host with the module `m`, whose number is the greatest that there is.
+fn spent(alloc: Global) -> Result<Host<MemoryDisk>, Fail> {
+    let first = used_file(alloc)?;
+    let (before, after) = (first.bytes().get(..27), first.bytes().get(35..));
+    let mut file = Vec::from_slice(alloc, before.unwrap_or_default())?;
+    file.extend_from_slice(&[0xff; 8])?;
+    file.extend_from_slice(after.unwrap_or_default())?;
+    let (a, b) = (disk(alloc, &file)?, disk(alloc, &[0])?);
+    Ok(opened(alloc, a, b, Registry::new(alloc))?)
+}
+
+#[test]
+fn a_number_that_is_spent(rt: HostRuntime) -> Result<(), Fail> {
+    let mut host = spent(rt.alloc())?;
+    let spent = Some(Refusal::SequenceSpent);
+    check(&rt, &load(&mut host, SOURCE).err(), &spent, "load");
+    check(&rt, &call(&mut host, &[]).err(), &spent, "call");
+    check(&rt, &discard(&mut host).err(), &spent, "discard");
+    check_text(
+        &rt,
+        &shown(rt.alloc(), &global(&host, "n"))?,
+        "Ok(Int(7))",
+        "n",
+    );
+    check(&rt, &seq(&host), &u64::MAX, "the number");
     Ok(())
 }

@@ -113,6 +113,11 @@ pub fn call<D: Disk>(host: &mut Host<D>, arguments: &[Argument]) -> Result<Answe
     host.call("m", "f", arguments, 1000)
 }
 
+/// Takes the module `m` away.
+pub fn discard<D: Disk>(host: &mut Host<D>) -> Result<Answer, Refusal> {
+    host.discard("m")
+}
+
 pub fn replies_to<D: Disk>(
     alloc: Global,
     host: &mut Host<D>,
@@ -148,6 +153,15 @@ pub fn used(alloc: Global) -> Result<Host<MemoryDisk>, Fail> {
     let mut host = made(alloc, &[], &[])?;
     load(&mut host, SOURCE)?;
     call(&mut host, &[Argument::Number(5)])?;
+    Ok(host)
+}
+
+/// A host with a module without source for each of these names, loaded in this order.
+pub fn with_modules(alloc: Global, names: &[&str]) -> Result<Host<MemoryDisk>, Fail> {
+    let mut host = made(alloc, &[], &[])?;
+    for name in names {
+        host.load(name, b"", 0)?;
+    }
     Ok(host)
 }
 

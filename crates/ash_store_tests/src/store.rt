@@ -1,8 +1,8 @@
 //! Stores on two disks: their bytes, and crashes between requests.
 
 use crate::hosts::{
-    EMPTY, SOURCE, call, calls, check, check_bytes, closed, crashed, found, global, load, made,
-    opened, reopened, seq, used, used_file,
+    EMPTY, SOURCE, call, calls, check, check_bytes, closed, crashed, discard, found, global, load,
+    made, opened, reopened, seq, used, used_file, with_modules,
 };
 use ash_disk::{MemoryDisk, Survives};
 use ash_durable::StoreFault;
@@ -136,7 +136,11 @@ fn crashes_between_requests(rt: HostRuntime) -> Result<(), Fail> {
     let mut host = opened(alloc, disks.0, disks.1, Registry::new(alloc))?;
     call(&mut host, &[Argument::Number(-9)])?;
     let disks = closed(reopened(host)?);
-    check_survives(&rt, alloc, &disks, "Ok((2, Ok(-7)))")
+    check_survives(&rt, alloc, &disks, "Ok((2, Ok(-7)))")?;
+    let mut host = opened(alloc, disks.0, disks.1, Registry::new(alloc))?;
+    discard(&mut host)?;
+    let disks = closed(host);
+    check_survives(&rt, alloc, &disks, "Ok((3, Err(NoModule)))")
 }
 
 /// Compares what opening gives a file that is cut to so many bytes.
@@ -229,6 +233,48 @@ fn a_byte_changed(rt: HostRuntime) -> Result<(), Fail> {
     let first = used_file(rt.alloc())?;
     for changed in &CHANGED {
         check_changed(&rt, rt.alloc(), first.bytes(), *changed)?;
+    }
+    Ok(())
+}
+
+/// The file of a store with these modules, loaded in this order.
+fn file_with(alloc: Global, names: &[&str]) -> Result<Vec<u8>, Fail> {
+    let (first, _) = closed(with_modules(alloc, names)?);
+    Ok(Vec::from_slice(alloc, first.bytes())?)
+}
+
+#[test]
+fn one_file_for_modules_in_any_order(rt: HostRuntime) -> Result<(), Fail> {
+    let file = file_with(rt.alloc(), &["a", "b", "c"])?;
+    check(&rt, &file.len(), &(51 + 3 * 8), "the length");
+    for names in [["b", "a", "c"], ["c", "b", "a"], ["c", "a", "b"]] {
+        let found = file_with(rt.alloc(), &names)?;
+        check_bytes(&rt, &found, &file, "modules in another order");
+    }
+    Ok(())
+}
+
+// A store with the modules `a` and `k`, whose names stand at 47 and 55.
+static NAMED: [Changed; 11] = [
+    (47, b'b', Ok(2)),
+    (47, b'j', Ok(2)),
+    (47, b'k', DAMAGED),
+    (47, b'l', DAMAGED),
+    (55, b'b', Ok(2)),
+    (55, b'a', DAMAGED),
+    (55, b'Z', DAMAGED),
+    // How many modules there are.
+    (45, 0, DAMAGED),
+    (45, 1, DAMAGED),
+    (45, 3, DAMAGED),
+    (45, 17, DAMAGED),
+];
+
+#[test]
+fn modules_out_of_order(rt: HostRuntime) -> Result<(), Fail> {
+    let file = file_with(rt.alloc(), &["k", "a"])?;
+    for changed in &NAMED {
+        check_changed(&rt, rt.alloc(), &file, *changed)?;
     }
     Ok(())
 }

@@ -71,14 +71,102 @@ fn refusals_change_nothing(rt: HostRuntime) -> Result<(), Fail> {
 static LATER: [Row; 1] = [Row {
     budget: 1000,
     source: Some(b"int n = 2; int f(int k) { n += k; return n; }"),
-    requests: b"discard m\nobject 1\nsnapshot\nload k 0\n\nseq\n",
-    replies: "ok seq 1\nrefused 601 BadRequest\nrefused 601 BadRequest\nrefused 601 BadRequest\nrefused 408 TooManyModules\nok 1\n",
+    requests: b"object 1\nsnapshot\nbatch 1\nseq\n",
+    replies: "ok seq 1\nrefused 601 BadRequest\nrefused 601 BadRequest\nrefused 601 BadRequest\nok 1\n",
     end: Ok(()),
 }];
 
 #[test]
 fn requests_of_later_stages(rt: HostRuntime) -> Result<(), Fail> {
     check_rows(&rt, rt.alloc(), &LATER)
+}
+
+static TWO_MODULES: [Row; 1] = [Row {
+    budget: 1000,
+    source: Some(b"int n = 2; int f(int k) { n += k; return n; }"),
+    requests: b"load k 45\nint n = 2; int f(int k) { n += k; return n; }\n\
+        call m f 5\nget k n\n\
+        discard m\nget m n\ncall m f 1\nget k n\nseq\n",
+    replies: "ok seq 1\nok seq 2\n\
+        ok 7 seq 3\nok 2\n\
+        ok seq 4\nrefused 401 NoModule\nrefused 401 NoModule\nok 2\nok 4\n",
+    end: Ok(()),
+}];
+
+#[test]
+fn each_module_has_its_own_globals(rt: HostRuntime) -> Result<(), Fail> {
+    check_rows(&rt, rt.alloc(), &TWO_MODULES)
+}
+
+static DISCARDS: [Row; 2] = [
+    Row {
+        budget: 1000,
+        source: Some(b"int n = 2; int f(int k) { n += k; return n; }"),
+        requests: b"discard z\ndiscard 9x\ndiscard\ndiscard m n\nseq\n\
+            call m f 5\ndiscard m\ndiscard m\n\
+            load m 10\nint n = 3;\nget m n\nseq\n",
+        replies: "ok seq 1\n\
+            refused 401 NoModule\nrefused 401 NoModule\nrefused 601 BadRequest\nrefused 601 BadRequest\nok 1\n\
+            ok 7 seq 2\nok seq 3\nrefused 401 NoModule\n\
+            ok seq 4\nok 3\nok 4\n",
+        end: Ok(()),
+    },
+    // A discard takes no tick.
+    Row {
+        budget: 0,
+        source: Some(b""),
+        requests: b"discard m\nseq\n",
+        replies: "ok seq 1\nok seq 2\nok 2\n",
+        end: Ok(()),
+    },
+];
+
+#[test]
+fn a_module_is_discarded_once(rt: HostRuntime) -> Result<(), Fail> {
+    check_rows(&rt, rt.alloc(), &DISCARDS)
+}
+
+/// The names of sixteen modules, and of one more, in no order.
+static NAMES: [&str; 17] = [
+    "b", "a", "d", "_", "b2", "Z", "aa", "k", "e", "c", "y", "x", "if", "w", "v", "u", "m",
+];
+
+/// The requests that load an empty source under each of these names.
+fn load_each(alloc: Global, names: &[&str]) -> Result<Vec<u8>, Fail> {
+    let mut requests = Vec::new(alloc);
+    for name in names {
+        requests.extend_from_slice(b"load ")?;
+        requests.extend_from_slice(name.as_bytes())?;
+        requests.extend_from_slice(b" 0\n\n")?;
+    }
+    Ok(requests)
+}
+
+#[test]
+fn sixteen_modules_and_one_more(rt: HostRuntime) -> Result<(), Fail> {
+    let mut host = new_host(rt.alloc(), Registry::new(rt.alloc()))?;
+    let requests = load_each(rt.alloc(), &NAMES)?;
+    let found = replies(rt.alloc(), &mut host, &requests)?;
+    check_text(
+        &rt,
+        &found,
+        "ok seq 1\nok seq 2\nok seq 3\nok seq 4\nok seq 5\nok seq 6\nok seq 7\nok seq 8\n\
+         ok seq 9\nok seq 10\nok seq 11\nok seq 12\nok seq 13\nok seq 14\nok seq 15\nok seq 16\n\
+         refused 408 TooManyModules\n",
+        "loads of 17 modules",
+    );
+    // A bad name and a taken one are refused as such before the number of modules counts, and that before the source.
+    let requests = b"load 9x 0\n\nload u 0\n\nload m 1\n\"\n\
+        discard k\nload m 0\n\nload k 0\n\nseq\n";
+    let found = replies(rt.alloc(), &mut host, requests)?;
+    check_text(
+        &rt,
+        &found,
+        "refused 409 BadName\nrefused 402 ModuleTaken\nrefused 408 TooManyModules\n\
+         ok seq 17\nok seq 18\nrefused 408 TooManyModules\nok 18\n",
+        "requests to 16 modules",
+    );
+    Ok(())
 }
 
 static NOT_YET: [Row; 1] = [Row {

@@ -1,21 +1,26 @@
 // Reading an image and its file.
 
-ghost use Rattle.std.specs.Prelude.{◌≡◌, string_bytes, Some, None, if◌then◌else◌};
+ghost use Rattle.std.specs.Prelude.{◌≡◌, ◌∷◌, ◌++◌, ℕ, List, string_bytes, Some, None, if◌then◌else◌};
+ghost use Rattle.std.specs.Prelude.{IfOk, IfErr, MatchResult};
+ghost use Rattle.ash_journal.specs.Layout.{HasMark, mark};
+ghost use Rattle.ash_journal.specs.Reading.{IsBlock};
 ghost use Rattle.ash_meaning.specs.Step.{is_module_name};
-ghost use Rattle.ash_image.specs.Fields.{Gives, times_at, whole};
-ghost use Rattle.ash_image.specs.Image.{snapshot_read};
 ghost use Rattle.ash_meaning.specs.Kept.{script_of, scripts_of};
-ghost use Rattle.ash_image.specs.ImageReading.{count_at, file_at, globals_at, image_at, is_text, module_at, modules_at, name_at, registered_at, source_at, word_at};
+ghost use Rattle.ash_image.specs.Fields.{Gives, times_at, whole};
+ghost use Rattle.ash_image.specs.declared.image.fields.Unread.TheVariants.{Memory};
+ghost use Rattle.ash_image.specs.Image.{HasImage, IsFile, Snapshot, generation, snapshot_read};
+ghost use Rattle.ash_image.specs.ImageReading.{count_at, globals_at, image_at, is_text, module_at, module_count_at};
+ghost use Rattle.ash_image.specs.ImageReading.{modules_at, name_at, registered_at, source_at, word_at};
 
 use crate::image::fields::{
     Unread, front, past, past_u8, past_u16, past_u32, past_u64, u8_at, u16_at, u32_at, u64_at,
 };
 use crate::image::{
-    GENERATION, LAST_NUMBER, MAGIC, MOST_GLOBALS, MOST_SOURCE, MOST_TEXT, NO_OBJECTS, NO_SERVICES,
-    OPEN, SHUT, Stored, VERSION,
+    GENERATION, LAST_NUMBER, MAGIC, MAX_GLOBALS, MAX_MODULES, MAX_SOURCE, MAX_TEXT, NO_OBJECTS,
+    NO_SERVICES, OPEN, SHUT, Stored, VERSION,
 };
 use ash_host::Word;
-use ash_meaning::kept::StoredModule;
+use ash_meaning::kept::{StoredModule, are_ascending};
 use ash_meaning::name::is_module_name;
 use std::alloc::Global;
 
@@ -85,7 +90,7 @@ fn source_of(bytes: &[u8]) -> Result<(&[u8], &[u8]), Unread>
 {
     let (length, rest) = u32_at(bytes)?;
     let (source, rest) = front(rest, length as usize)?;
-    if source.len() > MOST_SOURCE {
+    if source.len() > MAX_SOURCE {
         return Err(Unread::Damaged);
     }
     Ok((source, rest))
@@ -97,7 +102,7 @@ fn count_of(bytes: &[u8]) -> Result<(u16, &[u8]), Unread>
     ensures { Gives (λ x. (x.0, x.1.now)) result (count_at bytes.now) }
 {
     let (count, rest) = u16_at(bytes)?;
-    if count > MOST_GLOBALS {
+    if count > MAX_GLOBALS {
         return Err(Unread::Damaged);
     }
     Ok((count, rest))
@@ -133,26 +138,54 @@ fn module_of(alloc: Global, bytes: &[u8]) -> Result<(StoredModule, &[u8]), Unrea
     Ok((module, rest))
 }
 
-#[tactic(auto, unfolding(crate::specs::ImageReading::modules_at, crate::specs::Fields::times_at))]
-fn modules_of(alloc: Global, bytes: &[u8]) -> Result<(Option<StoredModule>, &[u8]), Unread>
-    ensures { Gives (λ x. (scripts_of x.0, x.1.now)) result (modules_at bytes.now) }
+/// How many modules there are.
+#[tactic(auto, unfolding(crate::specs::ImageReading::module_count_at))]
+fn module_count_of(bytes: &[u8]) -> Result<(u8, &[u8]), Unread>
+    ensures { Gives (λ x. (x.0, x.1.now)) result (module_count_at bytes.now) }
 {
     let (count, rest) = u8_at(bytes)?;
-    match count {
-        0 => Ok((None, rest)),
-        1 => {
-            let (module, rest) = module_of(alloc, rest)?;
-            Ok((Some(module), rest))
-        }
-        _ => Err(Unread::Damaged),
+    if count > MAX_MODULES {
+        return Err(Unread::Damaged);
     }
+    Ok((count, rest))
+}
+
+/// So many modules, one after the other.
+fn counted_modules(
+    alloc: Global,
+    count: u8,
+    bytes: &[u8],
+) -> Result<(Vec<StoredModule>, &[u8]), Unread>
+    ensures { Gives (λ x. (scripts_of x.0.items, x.1.now)) result (times_at module_at count bytes.now) }
+{
+    let mut modules = Vec::new(alloc);
+    let mut rest = bytes;
+    for _ in 0..count {
+        let (module, after) = module_of(alloc, rest)?;
+        modules.push(module)?;
+        rest = after;
+    }
+    Ok((modules, rest))
+}
+
+/// The modules, by ascending name.
+#[tactic(auto, unfolding(crate::specs::ImageReading::modules_at))]
+fn modules_of(alloc: Global, bytes: &[u8]) -> Result<(Vec<StoredModule>, &[u8]), Unread>
+    ensures { Gives (λ x. (scripts_of x.0.items, x.1.now)) result (modules_at bytes.now) }
+{
+    let (count, rest) = module_count_of(bytes)?;
+    let (modules, rest) = counted_modules(alloc, count, rest)?;
+    if !are_ascending(&modules) {
+        return Err(Unread::Damaged);
+    }
+    Ok((modules, rest))
 }
 
 /// The bytes as the text of what is registered.
 fn as_text(alloc: Global, bytes: &[u8]) -> Result<String, Unread>
     ensures { Gives (λ text. string_bytes text) result (if is_text bytes.now then Some bytes.now else None) }
 {
-    if bytes.len() > MOST_TEXT {
+    if bytes.len() > MAX_TEXT {
         return Err(Unread::Damaged);
     }
     let Ok(text) = str::from_utf8(bytes) else {
@@ -180,12 +213,12 @@ fn image_of(alloc: Global, bytes: &[u8]) -> Result<(Stored, &[u8]), Unread>
     let (seq, rest) = u64_at(rest)?;
     let rest = past_u64(rest, LAST_NUMBER)?;
     let rest = past_u16(rest, NO_SERVICES)?;
-    let (module, rest) = modules_of(alloc, rest)?;
+    let (modules, rest) = modules_of(alloc, rest)?;
     let rest = past_u32(rest, NO_OBJECTS)?;
     let stored = Stored {
         registered,
         seq,
-        module,
+        modules,
     };
     Ok((stored, rest))
 }
@@ -202,17 +235,43 @@ pub fn whole_image(alloc: Global, bytes: &[u8]) -> Result<Stored, Unread>
     }
 }
 
-/// The state whose file stands at the front of the bytes, and what is behind it.
-#[tactic(auto, unfolding(crate::specs::ImageReading::file_at))]
-pub fn file_of(alloc: Global, bytes: &[u8]) -> Result<(Stored, &[u8]), Unread>
-    ensures { Gives (λ x. (snapshot_read x.0, x.1.now)) result (file_at bytes.now) }
+/// The bytes after an open gate, the magic and the generation 1.
+fn after_mark(bytes: &[u8]) -> Result<&[u8], Unread>
+    ensures found { IfOk result (λ rest. bytes.now ≡ 1 ∷ (mark generation ++ rest.now)) }
+    ensures only { IfErr result (λ why. HasMark generation bytes.now → why ≡ Memory) }
 {
     let rest = past_u8(bytes, OPEN)?;
     let rest = past(rest, MAGIC)?;
     let rest = past_u64(rest, GENERATION)?;
-    let (length, rest) = u32_at(rest)?;
-    let (image, rest) = front(rest, length as usize)?;
-    let stored = whole_image(alloc, image)?;
-    let rest = past_u8(rest, SHUT)?;
-    Ok((stored, rest))
+    Ok(rest)
+}
+
+/// The body of a block that has a shut gate after it.
+fn block_of(bytes: &[u8]) -> Result<&[u8], Unread>
+    ensures found { IfOk result (λ body. IsBlock body.now 0 bytes.now) }
+    ensures only { IfErr result (λ why. (body : List ℕ) → IsBlock body 0 bytes.now → why ≡ Memory) }
+{
+    let (length, rest) = u32_at(bytes)?;
+    let (body, rest) = front(rest, length as usize)?;
+    past_u8(rest, SHUT)?;
+    Ok(body)
+}
+
+/// The image of a file that has no record.
+fn image_in(bytes: &[u8]) -> Result<&[u8], Unread>
+    ensures found { IfOk result (λ image. HasImage bytes.now image.now) }
+    ensures only { IfErr result (λ why. (image : List ℕ) → HasImage bytes.now image → why ≡ Memory) }
+{
+    let rest = after_mark(bytes)?;
+    block_of(rest)
+}
+
+/// The state of which the bytes are the file. What stands after the file isn't read.
+pub fn file_of(alloc: Global, bytes: &[u8]) -> Result<Stored, Unread>
+    ensures found { IfOk result (λ s. IsFile bytes.now (snapshot_read s)) }
+    ensures only { (s : Snapshot) → IsFile bytes.now s
+        → MatchResult result (λ found. snapshot_read found ≡ s) (λ why. why ≡ Memory) }
+{
+    let image = image_in(bytes)?;
+    whole_image(alloc, image)
 }

@@ -1,9 +1,10 @@
 // Writing the file of a state.
 
-ghost use Rattle.std.specs.Prelude.{◌≡◌, ◌<◌, ◌≤◌, ◌^◌, ◌*◌, ◌++◌, ℕ, length, OnOk, IfSome};
+ghost use Rattle.std.specs.Prelude.{◌≡◌, ◌<◌, ◌≤◌, ◌^◌, ◌*◌, ◌++◌, ℕ, length, OnOk};
 ghost use Rattle.std.specs.List.{flat_map, AllByRecursion};
 ghost use Rattle.ash_image.specs.Fields.{items, number, text};
-ghost use Rattle.ash_image.specs.Image.{Fits, FitsModule, FitsWord, IsWithinLimits, NameNoObject, NamesObject, image_of, most_text, script, snapshot_in, word};
+ghost use Rattle.ash_image.specs.Image.{AreWithinLimits, Fits, FitsModule, FitsWord, IsWithinLimits, NameNoObject};
+ghost use Rattle.ash_image.specs.Image.{NamesObject, image_of, max_text, script, snapshot_in, word};
 ghost use Rattle.ash_meaning.specs.Kept.{script_in, scripts_in};
 
 use crate::image::{LAST_NUMBER, NO_OBJECTS, NO_SERVICES, VERSION};
@@ -101,23 +102,31 @@ fn put_module(out: &mut Vec<u8>, parts: ModuleParts<'_>) -> Result<(), AllocErro
     put_words(out, parts.globals)
 }
 
-fn put_modules(out: &mut Vec<u8>, parts: Option<ModuleParts<'_>>) -> Result<(), AllocError>
-    requires { IfSome parts (λ m. IsWithinLimits (script_in m)) }
-    ensures written { OnOk result (out.new.items ≡ out.old.items ++ items 1 script (scripts_in parts.entry)) }
-    ensures fits { OnOk result (AllByRecursion FitsModule (scripts_in parts.entry)) }
+/// Each of the modules.
+fn put_each(out: &mut Vec<u8>, modules: &[ModuleParts<'_>]) -> Result<(), AllocError>
+    requires { AllByRecursion IsWithinLimits (scripts_in modules.now) }
+    ensures written { OnOk result (out.new.items ≡ out.old.items ++ flat_map script (scripts_in modules.now)) }
+    ensures fits { OnOk result (AllByRecursion FitsModule (scripts_in modules.now)) }
 {
-    match parts {
-        None => put_u8(out, 0),
-        Some(parts) => {
-            put_u8(out, 1)?;
-            put_module(out, parts)
-        }
+    for parts in modules {
+        put_module(out, *parts)?;
     }
+    Ok(())
+}
+
+/// How many modules there are, and each.
+fn put_modules(out: &mut Vec<u8>, modules: &[ModuleParts<'_>]) -> Result<(), AllocError>
+    requires { AreWithinLimits (scripts_in modules.now) }
+    ensures written { OnOk result (out.new.items ≡ out.old.items ++ items 1 script (scripts_in modules.now)) }
+    ensures fits { OnOk result (AllByRecursion FitsModule (scripts_in modules.now)) }
+{
+    put_u8(out, modules.len() as u8)?;
+    put_each(out, modules)
 }
 
 /// A length, and the text of what is registered.
 fn put_registered(out: &mut Vec<u8>, registered: &str) -> Result<(), AllocError>
-    requires { length registered.now ≤ most_text }
+    requires { length registered.now ≤ max_text }
     ensures { OnOk result (out.new.items ≡ out.old.items ++ text 4 registered.now) }
 {
     put_u32(out, registered.len() as u32)?;
@@ -128,20 +137,21 @@ fn put_registered(out: &mut Vec<u8>, registered: &str) -> Result<(), AllocError>
 pub fn put_image(
     out: &mut Vec<u8>,
     registered: &str,
-    parts: Option<ModuleParts<'_>>,
+    modules: &[ModuleParts<'_>],
     seq: u64,
 ) -> Result<(), AllocError>
-    requires text { length registered.now ≤ most_text }
-    requires limits { IfSome parts (λ m. IsWithinLimits (script_in m)) }
-    ensures written { OnOk result (out.new.items ≡ out.old.items ++ image_of (snapshot_in registered.now parts.entry seq)) }
-    ensures fits { OnOk result (Fits (snapshot_in registered.now parts.entry seq)) }
+    requires text { length registered.now ≤ max_text }
+    requires limits { AreWithinLimits (scripts_in modules.now) }
+    ensures written { OnOk result (out.new.items
+        ≡ out.old.items ++ image_of (snapshot_in registered.now modules.now seq)) }
+    ensures fits { OnOk result (Fits (snapshot_in registered.now modules.now seq)) }
 {
     put_u16(out, VERSION)?;
     put_registered(out, registered)?;
     put_u64(out, seq)?;
     put_u64(out, LAST_NUMBER)?;
     put_u16(out, NO_SERVICES)?;
-    put_modules(out, parts)?;
+    put_modules(out, modules)?;
     put_u32(out, NO_OBJECTS)
 }
 
@@ -177,16 +187,24 @@ fn module_length(parts: ModuleParts<'_>) -> usize
     1 + parts.name.len() + 4 + parts.source.len() + 2 + words_length(parts.globals)
 }
 
-/// How long the image of a state is with the text of what is registered, whatever its sequence number.
-pub fn image_length(registered: &str, parts: Option<ModuleParts<'_>>) -> usize
-    requires text { length registered.now ≤ most_text }
-    requires limits { IfSome parts (λ m. IsWithinLimits (script_in m)) }
-    ensures exact { (seq : ℕ) → result ≡ length (image_of (snapshot_in registered.now parts.entry seq)) }
-    ensures most { result < 2 ^ 22 }
+fn modules_length(modules: &[ModuleParts<'_>]) -> usize
+    requires { AreWithinLimits (scripts_in modules.now) }
+    ensures exact { result ≡ length (flat_map script (scripts_in modules.now)) }
+    ensures most { result ≤ 2 ^ 24 }
 {
-    let fixed = 2 + 4 + registered.len() + 8 + 8 + 2 + 1 + 4;
-    match parts {
-        None => fixed,
-        Some(parts) => fixed + module_length(parts),
+    let mut total = 0;
+    for parts in modules {
+        total += module_length(*parts);
     }
+    total
+}
+
+/// How long the image of a state is with the text of what is registered, whatever its sequence number.
+pub fn image_length(registered: &str, modules: &[ModuleParts<'_>]) -> usize
+    requires text { length registered.now ≤ max_text }
+    requires limits { AreWithinLimits (scripts_in modules.now) }
+    ensures exact { (seq : ℕ) → result ≡ length (image_of (snapshot_in registered.now modules.now seq)) }
+    ensures most { result < 2 ^ 25 }
+{
+    2 + 4 + registered.len() + 8 + 8 + 2 + 1 + 4 + modules_length(modules)
 }

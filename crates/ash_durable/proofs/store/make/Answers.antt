@@ -1,8 +1,8 @@
 use Rattle.std.proofs.Common.{rules, ◌≡◌, ◌∙◌, IsTrue, [], ◌∷◌, inr, ap, arith, Err}
 use Rattle.ash_disk.specs.Image.{after_write}
-use Rattle.ash_image.specs.Image.{file_of, shut_gate}
+use Rattle.ash_image.specs.Image.{file_of}
 use Rattle.ash_durable.specs.Hosting.{snapshot_of}
-use Rattle.ash_durable.specs.Store.{OneFailed}
+use Rattle.ash_durable.specs.Store.{OneFailed, shut_gate}
 use Rattle.ash_durable.specs.declared.fault.StoreFault.TheVariants as faults
 use Rattle.ash_durable.proofs.Files.{leaves_file, written_since}
 use Rattle.ash_durable.proofs.store.make.Goals as goal

@@ -22,4 +22,4 @@ returns c =
     let text : string_bytes c.in-Holds.stored.registered ≡ text_of (registered c.args.registry) = search rules in
     let file = file_held c.args.bytes.now _ c.in-Holds.stored c.in-Holds.is c.in_ok-stored.ensures.found in
     let not_admitted = rw c.in-None.is at c.in_ok-state.ensures in
-    (refl, inr (state_of (registered c.args.registry) c.in-Holds.stored.module c.in-Holds.stored.seq, is_state (registered c.args.registry) c.args.bytes.now c.in-Holds.stored text file, not_admitted))
+    (refl, inr (state_of (registered c.args.registry) c.in-Holds.stored.modules.items c.in-Holds.stored.seq, is_state (registered c.args.registry) c.args.bytes.now c.in-Holds.stored text file, not_admitted))

@@ -1,5 +1,5 @@
 use Rattle.std.proofs.Common.{sym, refl}
-use Rattle.ash_meaning.specs.State.{Call, Global, Seq}
+use Rattle.ash_meaning.specs.State.{Call, Discard, Global, Seq}
 use Rattle.ash_lines.specs.Lines.{Asked, Quit, BadRequest}
 use Rattle.ash_serve.specs.declared.request.Told.TheVariants as tolds
 use Rattle.ash_serve.proofs.TakenLemmas.{line_told}
@@ -11,6 +11,10 @@ returns-in-Load-clause-taken g c start w = c.load.ensures.taken start c.args.lin
 pub returns-in-Call-clause-taken : goal.returns-in-Call-clause-taken
 returns-in-Call-clause-taken g c start w =
     line_told g.S.Source.feed g.H.Carrier.carries c.args.budget start c.args.source.now c.args.host.now c.carry_out.new.self c.args.line.now (Asked (Call c.in-Call.script.now c.in-Call.function.now c.read_words.new.arguments.items)) (tolds.Replied c.carry_out.result) w c.requires.short c.in-Call.ensures.spelling (rw c.as_slice-arguments.ensures.value at c.carry_out.ensures)
+
+pub returns-in-Discard-clause-taken : goal.returns-in-Discard-clause-taken
+returns-in-Discard-clause-taken g c start w =
+    line_told g.S.Source.feed g.H.Carrier.carries c.args.budget start c.args.source.now c.args.host.now c.carry_out-in-Discard.new.self c.args.line.now (Asked (Discard c.in-Discard.name.now)) (tolds.Replied c.carry_out-in-Discard.result) w c.requires.short c.in-Discard.ensures.spelling c.carry_out-in-Discard.ensures
 
 pub returns-in-Global-clause-taken : goal.returns-in-Global-clause-taken
 returns-in-Global-clause-taken g c start w =

@@ -3,10 +3,11 @@ use Rattle.ash_meaning.specs.Refusals.{refusal_of}
 use Rattle.ash_meaning.specs.State.{Call, Refused, answer_of}
 use Rattle.ash_durable.specs.Hosting.{Hosted, Carries}
 use Rattle.ash_durable.proofs.Carrying.{WasTold, seen_host, carries_untouched, carries_answer}
+use Rattle.ash_durable.proofs.Refusing.{refuses_first}
 use Rattle.ash_durable.proofs.host.Host.call.Goals as goal
 
-pub returns-in-Ok : goal.returns-in-Ok
-returns-in-Ok g c =
+pub returns-in-Ok-clause-carries : goal.returns-in-Ok-clause-carries
+returns-in-Ok-clause-carries g c =
     let device = g.D.Disk in
     let runs : is_some c.self.inside.owed ≡ false = search rules in
     let told : WasTold device c.self.inside.owed c.self.inside.state c.call.new.self c.self.inside.first c.self.inside.second c.in-Ok.answer c.keep.result c.keep.new.self = record {
@@ -18,8 +19,16 @@ returns-in-Ok g c =
     } in
     subst (λ (host : Hosted g.row.D.Denot). Carries device c.args.budget (Call c.args.script.now c.args.function.now c.args.arguments.now) host (answer_of c.keep.result) c.keep.new.self) c.self.view_is (carries_answer device c.args.budget (Call c.args.script.now c.args.function.now c.args.arguments.now) c.self.inside.owed c.self.inside.state c.call.new.self c.self.inside.first c.self.inside.second c.in-Ok.answer c.keep.result c.keep.new.self runs c.in-Ok.ensures told)
 
-pub returns-in-Err : goal.returns-in-Err
-returns-in-Err g c =
+pub returns-in-Err-clause-carries : goal.returns-in-Err-clause-carries
+returns-in-Err-clause-carries g c =
     let device = g.D.Disk in
     let runs : is_some c.self.inside.owed ≡ false = search rules in
     subst (λ (host : Hosted g.row.D.Denot). Carries device c.args.budget (Call c.args.script.now c.args.function.now c.args.arguments.now) host (Refused (refusal_of c.in-Err.refusal)) (seen_host c.self.inside.owed c.call.new.self c.self.inside.first c.self.inside.second)) c.self.view_is (carries_untouched device c.args.budget (Call c.args.script.now c.args.function.now c.args.arguments.now) c.self.inside.owed c.self.inside.state c.call.new.self c.self.inside.first c.self.inside.second (Refused (refusal_of c.in-Err.refusal)) runs (λ no. no) c.in-Err.ensures)
+
+pub returns-in-Ok-clause-refused : goal.returns-in-Ok-clause-refused
+returns-in-Ok-clause-refused g c =
+    refuses_first g.D.Disk c.args.budget (Call c.args.script.now c.args.function.now c.args.arguments.now) c.args.self.now (answer_of c.keep.result) c.keep.new.self (returns-in-Ok-clause-carries g c)
+
+pub returns-in-Err-clause-refused : goal.returns-in-Err-clause-refused
+returns-in-Err-clause-refused g c =
+    refuses_first g.D.Disk c.args.budget (Call c.args.script.now c.args.function.now c.args.arguments.now) c.args.self.now (Refused (refusal_of c.in-Err.refusal)) (seen_host c.self.inside.owed c.call.new.self c.self.inside.first c.self.inside.second) (returns-in-Err-clause-carries g c)

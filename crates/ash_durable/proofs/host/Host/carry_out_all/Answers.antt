@@ -8,7 +8,7 @@ pub loop-request-preserved : goal.loop-request-preserved
 loop-request-preserved g c = record {
   run = λ replies new rest.
       let grown : c.push.new.self.items ≡ c.loop-request.replies.items ++ c.carry_out.result ∷ [] = search rules in
-      one_more _ request_of reply_of _ _ _ _ new _ _ _ _ _ _ replies c.loop-request-test.true grown c.carry_out.ensures c.loop-request.invariant.run rest;
+      one_more _ request_of reply_of _ _ _ _ new _ _ _ _ _ _ replies c.loop-request-test.true grown c.carry_out.ensures.carries c.loop-request.invariant.run rest;
   count = search rules;
   room = search rules;
 }

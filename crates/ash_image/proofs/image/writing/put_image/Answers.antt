@@ -9,7 +9,7 @@ use Rattle.ash_image.proofs.image.writing.put_image.Goals as goal
 pub returns-clause-written : goal.returns-clause-written
 returns-clause-written c =
     let registered = text 4 c.args.registered.now in
-    let kept = items 1 script (scripts_in c.args.parts) in
+    let kept = items 1 script (scripts_in c.args.modules.now) in
     on_ok_weaker c.put_u32.result
     (λ last. appended2 c.args.out.now.items c.put_u16.new.out.items c.put_u32.new.out.items (number 2 version) (registered ++ (number 8 c.args.seq ++ (last_number ++ (services ++ (kept ++ objects)))))
     c.in_ok-put_u16.ensures

@@ -1,0 +1,23 @@
+use Rattle.std.proofs.Common.{inl, sym, ◌∙◌, ap, subst}
+use Rattle.ash_meaning.specs.declared.request.Request as declared
+use Rattle.ash_meaning.specs.State.{Reply, Discard, Global, Value, Refused, request_of, reply_of}
+use Rattle.ash_meaning.specs.Refusals.{refusal_of}
+use Rattle.ash_meaning.specs.Step.{KeepsRefused}
+use Rattle.ash_meaning.proofs.StepLaws.{keeps_refused}
+use Rattle.ash_meaning.proofs.plain.PlainState.carry_out.Goals as goal
+
+pub returns-in-Discard-clause-refused : goal.returns-in-Discard-clause-refused
+returns-in-Discard-clause-refused c =
+    subst (λ (request : declared.Request). KeepsRefused (request_of request) c.args.self.now (reply_of c.into-in-Discard.result) c.discard.new.self) (sym c.in-Discard.is)
+    (keeps_refused c.args.budget (Discard c.in-Discard.name.now) c.args.self.now (reply_of c.into-in-Discard.result) c.discard.new.self
+    (inl (c.discard.ensures c.args.budget ∙ ap (λ (reply : Reply). (reply, c.discard.new.self)) (sym c.into-in-Discard.ensures))))
+
+pub returns-in-Ok-clause-refused : goal.returns-in-Ok-clause-refused
+returns-in-Ok-clause-refused c =
+    subst (λ (request : declared.Request). KeepsRefused (request_of request) c.args.self.now (Value c.in-Ok.word) c.args.self.now) (sym c.in-Global.is)
+    (keeps_refused c.args.budget (Global c.in-Global.module.now c.in-Global.name.now) c.args.self.now (Value c.in-Ok.word) c.args.self.now (inl (c.in-Ok.ensures c.args.budget)))
+
+pub returns-in-Err-clause-refused : goal.returns-in-Err-clause-refused
+returns-in-Err-clause-refused c =
+    subst (λ (request : declared.Request). KeepsRefused (request_of request) c.args.self.now (Refused (refusal_of c.in-Err.refusal)) c.args.self.now) (sym c.in-Global.is)
+    (keeps_refused c.args.budget (Global c.in-Global.module.now c.in-Global.name.now) c.args.self.now (Refused (refusal_of c.in-Err.refusal)) c.args.self.now (inl (c.in-Err.ensures c.args.budget)))

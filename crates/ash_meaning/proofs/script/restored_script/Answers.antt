@@ -1,0 +1,16 @@
+use Rattle.std.proofs.Common.{rules, refl, arith}
+use Rattle.std.proofs.lemmas.List.{length-map}
+use Rattle.ash_registry.specs.Registered.{registered}
+use Rattle.ash_meaning.specs.Kept.{IsAdmitted, script_of}
+use Rattle.ash_meaning.specs.Tree.{module_of, global_of}
+use Rattle.ash_meaning.proofs.script.restored_script.Goals as goal
+
+pub returns-clause-exact : goal.returns-clause-exact
+returns-clause-exact c =
+    let is : IsAdmitted (registered c.args.registry.now) (script_of c.args.stored) = record { tree = module_of c.in-Some.tree; name = search rules; read = search rules; count = omega (arith, length-map c.in-Some.tree.globals.items global_of); ints = search rules } in
+    (is, refl)
+
+pub returns-clause-kept : goal.returns-clause-kept
+returns-clause-kept c =
+    let is : IsAdmitted (registered c.args.registry.now) (script_of c.args.stored) = record { tree = module_of c.in-Some.tree; name = search rules; read = search rules; count = omega (arith, length-map c.in-Some.tree.globals.items global_of); ints = search rules } in
+    record { tree = search rules; admitted = is }
