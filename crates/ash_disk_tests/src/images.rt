@@ -307,7 +307,11 @@ fn as_many_modules_as_a_host_has(rt: HostRuntime) -> Result<(), Fail> {
     let alloc = rt.alloc();
     let stored = depicted(alloc, &with_modules(alloc, 16)?)?.ok_or("16 modules are an image")?;
     check_true(&rt, stored.modules.len() == 16, "16 modules");
-    check_true(&rt, !is_image(alloc, &with_modules(alloc, 17)?)?, "17 modules");
+    check_true(
+        &rt,
+        !is_image(alloc, &with_modules(alloc, 17)?)?,
+        "17 modules",
+    );
     Ok(())
 }
 
