@@ -1,16 +1,21 @@
 //! Trees of scripts that were not checked, with the trees that the part which can be run so far gives them.
 
 use crate::compare::check_text;
-use crate::grammar::parsed;
 use crate::sources::{bracketed, parts_of};
-use ash_lex::lex;
+use ash_lex::{Token, lex};
 use ash_meaning::subset::resolver::resolve;
 use ash_meaning::tree::Module as Resolved;
+use ash_parse::{ParseFault, parse_module};
 use ash_tree::Module;
 use std::alloc::{AllocError, Global};
 use std::fmt::Write;
 use std::process::Abort;
 use std::test::Fail;
+
+/// The tree of a script's tokens.
+fn parsed(alloc: Global, tokens: &[Token]) -> Result<Module, ParseFault> {
+    parse_module(alloc, tokens)
+}
 
 /// The tree that can be run of a script, if it has one.
 fn resolved(alloc: Global, script: &Module) -> Result<Option<Resolved>, AllocError> {
