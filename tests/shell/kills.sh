@@ -24,3 +24,66 @@ exec {replies}<&- {requests}>&-
 asks 'get m n\nseq\ncall m f 1\n'
 ends "serve after a kill" 0 "" serve "$store" --budget 1000 --counters 2
 holds "what is found after a kill" $'ok 10\nok 3\nok 11 seq 4'
+
+# Kills at random times: within requests and snapshots, between them, and in openings. A call adds 1 to `n`, which was 7 after
+# the second request of the first example.
+SEED=${SEED:-$RANDOM}
+RANDOM=$SEED
+echo "kills: with SEED=$SEED"
+many=$scratch/many
+used_store "$many"
+
+# delay MOST: sleeps for less than so many milliseconds, 1,000 at most
+delay() {
+    sleep "0.$(printf %03d $((RANDOM % $1)))"
+}
+
+# answered FILE NUMBER: the number of the last answer in a file of replies, whose last line may be cut; this one where there
+# is none
+answered() {
+    local last
+    last=$(sed -n '$!p' "$1"; [ -n "$(tail -c 1 "$1")" ] || tail -n 1 "$1")
+    last=$(sed -n 's/^ok [0-9]* seq \([0-9]*\)$/\1/p' <<< "$last" | tail -n 1)
+    echo "${last:-$2}"
+}
+
+# Three of four kills come after a first reply, so that the process is at work, and the others whenever it is.
+number=2
+for round in $(seq 150); do
+    : > "$scratch/replies"
+    yes "$(printf 'call m f 1\n%.0s' {1..6})
+snapshot" 2> /dev/null | "$ashd" serve "$many" --budget 1000 --counters 2 > "$scratch/replies" 2> "$scratch/error" &
+    killed_id=$!
+    if [ $((round % 4)) -ne 0 ]; then
+        until [ -s "$scratch/replies" ] || ! kill -0 "$killed_id" 2> /dev/null; do sleep 0.002; done
+    fi
+    delay 30
+    kill -KILL "$killed_id" 2> /dev/null
+    { wait "$killed_id"; } 2> /dev/null
+    last=$(answered "$scratch/replies" "$number")
+    found=$(printf 'seq\nget m n\n' | "$ashd" serve "$many" --budget 1000 --counters 2 2>&1 | tr '\n' ' ')
+    number=${found#ok }
+    number=${number%% *}
+    [ "$found" = "ok $number ok $((number + 5)) " ] && [ "$number" -ge "$last" ] && [ "$number" -le $((last + 1)) ]
+    verdict "kill $round, after the answer $last: $found" $?
+    [ "$failed" -eq 0 ] || break
+done
+[ "$number" -gt 150 ]
+verdict "requests between kills: $number" $?
+
+# The same for the making of a store: it is there, or it can be made.
+empty_store "$scratch/empty"
+asks ''
+for round in $(seq 30); do
+    rm -rf "$scratch/new"
+    mkdir "$scratch/new"
+    "$ashd" create "$scratch/new" > "$scratch/output" 2> "$scratch/error" &
+    killed_id=$!
+    delay 8
+    kill -KILL "$killed_id" 2> /dev/null
+    { wait "$killed_id"; } 2> /dev/null
+    if ! "$ashd" serve "$scratch/new" --budget 1 --counters 0 < "$scratch/input" > /dev/null 2>&1; then
+        ends "create after kill $round" 0 "" create "$scratch/new"
+    fi
+    same "the store after kill $round of create" "$scratch/new" "$scratch/empty"
+done

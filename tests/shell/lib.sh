@@ -52,13 +52,43 @@ put() {
     printf "$1" | dd of="$3" bs=1 seek="$2" conv=notrunc status=none
 }
 
+# registered_text: the text of what ashd registers, which has 191 bytes
+registered_text() {
+    printf 'type Counter 1\nfactory Counter (int)\nmethod Counter 1 int add(int)\nmethod Counter 2 void fail(int)\n'
+    printf 'property Counter 1 int value\nservice 2\nfunction 0 1 int tally(int)\nfunction 0 2 int total()\n'
+}
+
+# image NUMBER MODULES: the image of a host with that text, after fewer than 256 requests, and with these modules, which are
+# how many there are and each of them, and which printf writes: 220 bytes without any
+image() {
+    printf '\001\0\277\0\0\0'
+    registered_text
+    printf "\\$(printf %o "$1")"
+    printf '\0\0\0\0\0\0\0\0\0\0\0\0\0\0\0\0\0'
+    printf "$2"
+    printf '\0\0\0\0'
+}
+
+# generation NUMBER LENGTH NUMBER MODULES: the file of a generation below 256, with an image of this length, which is below
+# 65,536, and no records
+generation() {
+    printf '\001ASHOST01'
+    printf "\\$(printf %o "$1")\\0\\0\\0\\0\\0\\0\\0\\$(printf %o "$(($2 % 256))")\\$(printf %o "$(($2 / 256))")\\0\\0"
+    image "$3" "$4"
+    printf '\0'
+}
+
+# record LENGTH NUMBER MODULES: a record whose body is a tag and an image of this length, and the gate after it
+record() {
+    printf "\\$(printf %o "$((($1 + 1) % 256))")\\$(printf %o "$((($1 + 1) / 256))")\\0\\0\\001"
+    image "$2" "$3"
+    printf '\0'
+}
+
 # empty_store FOLDER: the two files of a store without modules, with what ashd registers, written by hand
 empty_store() {
     mkdir -p "$1"
-    printf '\001ASHOST01\001\0\0\0\0\0\0\0\334\0\0\0\001\0\277\0\0\0' > "$1/ash.a"
-    printf 'type Counter 1\nfactory Counter (int)\nmethod Counter 1 int add(int)\nmethod Counter 2 void fail(int)\n' >> "$1/ash.a"
-    printf 'property Counter 1 int value\nservice 2\nfunction 0 1 int tally(int)\nfunction 0 2 int total()\n' >> "$1/ash.a"
-    head -c 24 /dev/zero >> "$1/ash.a"
+    generation 1 220 0 '\0' > "$1/ash.a"
     printf '\0' > "$1/ash.b"
 }
 

@@ -94,3 +94,53 @@ for number in $(seq 1 1000); do
     esac
 done
 verdict "a discard that no refusal meets" $untouched
+
+# Snapshots. One that is refused for want of memory changes nothing, and the next request is carried out; over disks in
+# memory a write of one may fail.
+asks "$(head -n 2 examples/first.requests)\nsnapshot\ncall m f 5\nsnapshot\nget m n\nquit\n"
+untouched=1
+for number in $(seq 1 1000); do
+    refused "$number" try --budget 1000 --counters 2
+    case $end in
+        "1/ashd: 509 NoMemory/" | "1/ashd: 507 DeviceFailed/") verdict "allocation $number refused, before a run with snapshots" 0 ;;
+        "0//refused 509 NoMemory;ok;refused 401 NoModule;ok;refused 401 NoModule;ok;") verdict "allocation $number refused, in the load before a snapshot" 0 ;;
+        "0//refused 50"[79]" "*";refused 508 Reopen;refused 508 Reopen;refused 508 Reopen;refused 508 Reopen;ok;") verdict "allocation $number refused, in the commit before a snapshot" 0 ;;
+        "0//ok seq 1;refused 509 NoMemory;ok 7 seq 2;ok;ok 7;ok;") verdict "allocation $number refused, in a snapshot" 0 ;;
+        "0//ok seq 1;refused 507 DeviceFailed;refused 508 Reopen;refused 508 Reopen;refused 508 Reopen;ok;") verdict "allocation $number refused, in the write of a snapshot" 0 ;;
+        "0//ok seq 1;ok;refused 509 NoMemory;ok;ok 2;ok;") verdict "allocation $number refused, in the call after a snapshot" 0 ;;
+        "0//ok seq 1;ok;refused 50"[79]" "*";refused 508 Reopen;refused 508 Reopen;ok;") verdict "allocation $number refused, in the commit after a snapshot" 0 ;;
+        "0//ok seq 1;ok;ok 7 seq 2;refused 509 NoMemory;ok 7;ok;") verdict "allocation $number refused, in a second snapshot" 0 ;;
+        "0//ok seq 1;ok;ok 7 seq 2;refused 507 DeviceFailed;refused 508 Reopen;ok;") verdict "allocation $number refused, in the write of a second snapshot" 0 ;;
+        "0//ok seq 1;ok;ok 7 seq 2;ok;ok 7;ok;") untouched=0; break ;;
+        *) verdict "allocation $number refused in a run with snapshots: $end" 1 ;;
+    esac
+done
+verdict "a run with snapshots that no refusal meets" $untouched
+
+# A store with several records, which is opened, and answers a request between two snapshots. Where memory is refused before
+# that, the files stay as they are; where it is refused later, what was answered is found.
+used_store "$scratch/several"
+asks 'call m f 1\ncall m f 1\ncall m f 1\ncall m f 1\n'
+ends "four requests more" 0 "" serve "$scratch/several" --budget 1000 --counters 2
+asks 'get m n\nsnapshot\ncall m f 1\nsnapshot\nget m n\nseq\n'
+untouched=1
+for number in $(seq 1 1000); do
+    keep "$scratch/several" "$scratch/other"
+    refused "$number" serve "$scratch/other" --budget 1000 --counters 2
+    case $end in
+        "1/ashd: 509 NoMemory/")
+            same "the files after allocation $number was refused, before a run" "$scratch/other" "$scratch/several"
+            wanted="ok 11;ok 6;"
+            ;;
+        "0//ok 11;refused 509 NoMemory;ok 12 seq 7;ok;ok 12;ok 7;") wanted="ok 12;ok 7;" ;;
+        "0//ok 11;ok;refused 509 NoMemory;ok;ok 11;ok 6;") wanted="ok 11;ok 6;" ;;
+        "0//ok 11;ok;refused 509 NoMemory;refused 508 Reopen;refused 508 Reopen;ok 6;") wanted="ok 11;ok 6;" ;;
+        "0//ok 11;ok;ok 12 seq 7;refused 509 NoMemory;ok 12;ok 7;") wanted="ok 12;ok 7;" ;;
+        "0//ok 11;ok;ok 12 seq 7;ok;ok 12;ok 7;") untouched=0; break ;;
+        *) verdict "allocation $number refused over several records: $end" 1; continue ;;
+    esac
+    found=$(printf 'get m n\nseq\n' | "$ashd" serve "$scratch/other" --budget 1000 --counters 2 | tr '\n' ';')
+    [ "$found" = "$wanted" ]
+    verdict "what is found after allocation $number was refused over several records: $found" $?
+done
+verdict "a run over several records that no refusal meets" $untouched

@@ -46,3 +46,66 @@ asks 'call m f 1\n'
 keep "$store" "$scratch/other"
 ends "serve without ticks" 0 "" serve "$scratch/other" --budget 0 --counters 4096
 holds "the budget of a store is the one that is given" "aborted f 1 seq 3"
+
+# The bytes of both files. An image has 220 bytes without a module, 228 with one that has no source, and 278 with that of the
+# first example; a file has 22 around its image, and a record 6.
+# sizes NAME FOLDER BYTES BYTES: the two files have so many bytes
+sizes() {
+    [ "$(wc -c < "$2/ash.a")" -eq "$3" ] && [ "$(wc -c < "$2/ash.b")" -eq "$4" ]
+    verdict "$1: $(wc -c < "$2/ash.a") and $(wc -c < "$2/ash.b") bytes" $?
+}
+# opens_gate OFFSET FILE: writes 1 over a byte that is 0
+opens_gate() {
+    [ "$(od -An -tu1 -j "$1" -N 1 "$2" | tr -d ' ')" -eq 0 ] && put '\001' "$1" "$2"
+}
+module='\001\001m\0\0\0\0\0\0'
+sizes "the store after the first example" "$store" $((242 + 2 * 284)) 1
+
+wanted=$scratch/wanted
+empty_store "$scratch/bytes"
+empty_store "$wanted"
+opens_gate 241 "$wanted/ash.a"
+record 228 1 "$module" >> "$wanted/ash.a"
+asks 'load m 0\n\n'
+ends "serve a load" 0 "" serve "$scratch/bytes" --budget 1000 --counters 0
+same "the bytes after a load" "$scratch/bytes" "$wanted"
+sizes "a load" "$scratch/bytes" $((242 + 234)) 1
+generation 2 228 1 "$module" > "$wanted/ash.b"
+asks 'snapshot\nsnapshot x\nseq\n'
+ends "serve a snapshot" 0 "" serve "$scratch/bytes" --budget 1000 --counters 0
+holds "a snapshot" $'ok\nrefused 601 BadRequest\nok 1'
+same "the bytes after a snapshot" "$scratch/bytes" "$wanted"
+opens_gate 249 "$wanted/ash.b"
+record 220 2 '\0' >> "$wanted/ash.b"
+asks 'discard m\n'
+ends "serve a discard" 0 "" serve "$scratch/bytes" --budget 1000 --counters 0
+same "the bytes after a discard" "$scratch/bytes" "$wanted"
+generation 3 220 2 '\0' | dd of="$wanted/ash.a" conv=notrunc status=none
+asks 'snapshot\n'
+ends "serve a second snapshot" 0 "" serve "$scratch/bytes" --budget 1000 --counters 0
+same "the bytes after a second snapshot" "$scratch/bytes" "$wanted"
+asks 'get m n\nseq\n'
+ends "serve after two snapshots" 0 "" serve "$scratch/bytes" --budget 1000 --counters 0
+holds "what is found after two snapshots" $'refused 401 NoModule\nok 2'
+same "an opening writes nothing" "$scratch/bytes" "$wanted"
+
+# What a crash may leave: gates that are neither 0 nor 1. An opening writes 0 over them, and nothing else.
+keep "$store" "$scratch/torn"
+put '\002' $((242 + 2 * 284 - 1)) "$scratch/torn/ash.a"
+put '\377' 0 "$scratch/torn/ash.b"
+asks ''
+ends "serve a store with torn gates" 0 "" serve "$scratch/torn" --budget 1000 --counters 0
+same "torn gates are written over" "$scratch/torn" "$store"
+
+# A store of an older ashd has its state in one image of the first generation, before what is left of a longer one.
+mkdir "$scratch/older"
+used='\001\001m\055\0\0\0int n = 2; int f(int k) { n += k; return n; }\001\0\001\007\0\0\0'
+generation 1 278 2 "$used" > "$scratch/older/ash.a"
+printf 'what is left of a longer file\001' >> "$scratch/older/ash.a"
+printf '\0' > "$scratch/older/ash.b"
+asks 'get m n\nseq\ncall m f 1\n'
+ends "serve a store of an older ashd" 0 "" serve "$scratch/older" --budget 1000 --counters 0
+holds "what is found in a store of an older ashd" $'ok 7\nok 2\nok 8 seq 3'
+asks 'get m n\nseq\n'
+ends "serve it again" 0 "" serve "$scratch/older" --budget 1000 --counters 0
+holds "what is found in it again" $'ok 8\nok 3'

@@ -1,12 +1,10 @@
-//! Tests of disks, the journal and images, with memory that is ample: bytes that were worked out by hand, disks that
-//! fail at each call, and what crashes leave. It has tests alone, so that the crates with the code are proved once.
+//! Tests of disks and the journal, with memory that is ample: bytes that were worked out by hand, disks that fail at each
+//! call, and what crashes leave. It has tests alone, so that the crates with the code are proved once.
 #![tactic(auto)]
 
 #[cfg(test)]
 mod compare;
 #[cfg(test)]
 mod disks;
-#[cfg(test)]
-mod images;
 #[cfg(test)]
 mod journal;

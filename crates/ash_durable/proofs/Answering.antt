@@ -7,16 +7,18 @@ use Rattle.ash_meaning.specs.Refusals as refusals
 use Rattle.ash_meaning.specs.declared.request.Argument.{Argument}
 use Rattle.ash_meaning.specs.Meaning.{End}
 use Rattle.ash_meaning.specs.Tree.{Function}
-use Rattle.ash_meaning.specs.State.{State, Script, Request, Load, Call, Discard, Global, Seq, Reply, Answered, Value, Number, Refused}
-use Rattle.ash_meaning.specs.Step.{Demand, Task, Initialize, Run, Remove, Read, Count, Steps, task_of, perform, unless_refused, is_spent, is_module_name, find_script, find_function, tree_of, max_modules, load_of, call_in, call_of, call_with, words_for, read_in, read_of, word_named}
+use Rattle.ash_meaning.specs.State.{State, Script, Request, Load, Call, Discard, Global, Seq, Snapshot, Reply, Answered, Value, Number, Done, Refused}
+use Rattle.ash_meaning.specs.Step.{Demand, Task, Initialize, Run, Remove, Read, Count, Rewrite, Steps, task_of, perform, unless_refused, is_spent, is_module_name, find_script, find_function, tree_of, max_modules, load_of, call_in, call_of, call_with, words_for, read_in, read_of, word_named}
 use Rattle.ash_meaning.specs.Reading.{Reading, read_source}
 use Rattle.ash_meaning.proofs.ReadingLaws.{IsTold, read_source-told}
-use Rattle.ash_durable.specs.Hosting.{IsAnswer, Commits}
+use Rattle.ash_durable.specs.Hosting.{Commits}
 
--- No request is refused by the definition for a device or because the host must be reopened.
+-- No request is refused by the definition for a device, for the number of a generation, or because the host must be
+-- reopened.
 abbrev NotByHost : Demand → Type 0
 NotByHost (Err refusals.DeviceFailed) = ⊥
 NotByHost (Err refusals.Reopen) = ⊥
+NotByHost (Err refusals.GenerationSpent) = ⊥
 NotByHost _ = Unit {0}
 
 by_cond : (b : Bool) (x y : Demand) → NotByHost x → NotByHost y → NotByHost (cond b x y)
@@ -26,6 +28,7 @@ by_cond false x y one other = other
 refusal-fine : (refusal : Refusal) → IsTold refusal → NotByHost (Err refusal)
 refusal-fine refusals.DeviceFailed read = absurd read
 refusal-fine refusals.Reopen read = absurd read
+refusal-fine refusals.GenerationSpent read = absurd read
 refusal-fine _ read = tt
 
 load_of-fine : (name source : List ℕ) (reading : Reading) → ((refusal : Refusal) → reading ≡ Err refusal → IsTold refusal) → NotByHost (load_of name source reading)
@@ -64,12 +67,14 @@ task_of-fine (Call script function arguments) old =
 task_of-fine (Discard name) old = by_cond (is_spent old) _ _ tt (by_cond (is_some (find_script name old)) _ _ tt tt)
 task_of-fine (Global script name) old = read_in-fine old.registered (find_script script old) name
 task_of-fine Seq old = tt
+task_of-fine Snapshot old = tt
 
--- What isn't an answer leaves the state, and no step is refused for a device or a reopening.
+-- What isn't an answer leaves the state, and no step is refused for a device, a generation or a reopening.
 abbrev pub LeavesState : State → Reply → State → Type 0
 LeavesState old (Answered end seq) new = Unit {0}
 LeavesState old (Refused refusals.DeviceFailed) new = ⊥
 LeavesState old (Refused refusals.Reopen) new = ⊥
+LeavesState old (Refused refusals.GenerationSpent) new = ⊥
 LeavesState old _ new = new ≡ old
 
 -- And what is registered stays.
@@ -82,10 +87,12 @@ perform-fine budget (Run script function words) old = (tt, refl)
 perform-fine budget (Remove name) old = (tt, refl)
 perform-fine budget (Read word) old = (refl, refl)
 perform-fine budget Count old = (refl, refl)
+perform-fine budget Rewrite old = (refl, refl)
 
 refused-fine : (refusal : Refusal) (old : State) → NotByHost (Err refusal) → LeavesState old (Refused refusal) old
 refused-fine refusals.DeviceFailed old fine = absurd fine
 refused-fine refusals.Reopen old fine = absurd fine
+refused-fine refusals.GenerationSpent old fine = absurd fine
 refused-fine _ old fine = refl
 
 unless_refused-fine : (budget : ℕ) (demand : Demand) (old : State) → NotByHost demand → Fine old (unless_refused budget demand old)
@@ -113,19 +120,9 @@ commits_by budget (Ok (Run script function words)) old new end seq is = tt
 commits_by budget (Ok (Remove name)) old new end seq is = tt
 commits_by budget (Ok (Read word)) old new end seq is = let h : Value word ≡ Answered end seq = ap (λ (x : Reply × State). x.0) is in absurd (cc)
 commits_by budget (Ok Count) old new end seq is = let h : Number old.seq ≡ Answered end seq = ap (λ (x : Reply × State). x.0) is in absurd (cc)
+commits_by budget (Ok Rewrite) old new end seq is = let h : Done ≡ Answered end seq = ap (λ (x : Reply × State). x.0) is in absurd (cc)
 
 -- where a request is answered, its task is one that is
 pub answer_commits : (budget : ℕ) (request : Request) (old new : State) (end : End) (seq : ℕ) → Steps budget request old (Answered end seq) new → Commits (task_of request old)
 answer_commits budget request old new end seq (inl taken) = commits_by budget (task_of request old) old new end seq taken
 answer_commits budget request old new end seq (inr out) = let h : Answered end seq ≡ Refused refusals.NoMemory = out.reply_is in absurd (cc)
-
-commits_answer_by : (budget : ℕ) (demand : Demand) (old : State) → Commits demand → IsAnswer (unless_refused budget demand old).0
-commits_answer_by budget (Err refusal) old commits = absurd commits
-commits_answer_by budget (Ok (Initialize name source tree)) old commits = tt
-commits_answer_by budget (Ok (Run script function words)) old commits = tt
-commits_answer_by budget (Ok (Remove name)) old commits = tt
-commits_answer_by budget (Ok (Read word)) old commits = absurd commits
-commits_answer_by budget (Ok Count) old commits = absurd commits
-
-pub commits_answer : (budget : ℕ) (request : Request) (old : State) → Commits (task_of request old) → IsAnswer (unless_refused budget (task_of request old) old).0
-commits_answer budget request old commits = commits_answer_by budget (task_of request old) old commits

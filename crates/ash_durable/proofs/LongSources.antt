@@ -32,42 +32,52 @@ by-length name source state false e =
 pub task_kept : (name kept source : List ℕ) (state : State) → kept ≡ take 65537 source → task_of (Load name kept) state ≡ task_of (Load name source) state
 task_kept name kept source state e = ap (λ (x : List ℕ). task_of (Load name x) state) e ∙ by-length name source state (nat_lt 65536 (length source)) refl
 
-replies_kept : {D : Type 0} (budget : ℕ) (name kept source : List ℕ) (state : Option State) (old : Hosted D) (reply : Reply) (new : Hosted D) → kept ≡ take 65537 source → Replies budget (Load name kept) state old reply new → Replies budget (Load name source) state old reply new
-replies_kept budget name kept source None old reply new e h = h
-replies_kept budget name kept source (Some state) old reply new e (inl h) =
+replies_kept : {D : Type 0} (device : Device D) (budget : ℕ) (name kept source : List ℕ) (state : Option State) (old : Hosted D) (reply : Reply) (new : Hosted D) → kept ≡ take 65537 source → Replies device budget (Load name kept) state old reply new → Replies device budget (Load name source) state old reply new
+replies_kept device budget name kept source None old reply new e h = h
+replies_kept device budget name kept source (Some state) old reply new e (inl h) =
     inl (record {
+      between = h.between;
+      room = h.room;
       after = h.after;
       taken = ap (λ (d : Demand). unless_refused budget d state) (sym (task_kept name kept source state e)) ∙ h.taken;
       running = h.running;
+      added = h.added;
       untouched = h.untouched;
+      settles = h.settles;
     })
-replies_kept budget name kept source (Some state) old reply new e (inr (inl out)) =
+replies_kept device budget name kept source (Some state) old reply new e (inr (inl out)) =
     inr (inl (record {
+      room = out.room;
       ran_out = record {
         takes = subst TakesMemory (task_kept name kept source state e) out.ran_out.takes;
         reply_is = out.ran_out.reply_is;
         unchanged = out.ran_out.unchanged;
       };
       running = out.running;
-      unchanged = out.unchanged;
+      settles = out.settles;
     }))
-replies_kept budget name kept source (Some state) old reply new e (inr (inr lost)) =
-    inr (inr (record {
+replies_kept device budget name kept source (Some state) old reply new e (inr (inr (inl lost))) =
+    inr (inr (inl (record {
+      between = lost.between;
+      room = lost.room;
       commits = subst Commits (task_kept name kept source state e) lost.commits;
+      answer = lost.answer;
+      after = lost.after;
+      taken = ap (λ (d : Demand). unless_refused budget d state) (sym (task_kept name kept source state e)) ∙ lost.taken;
       lost = lost.lost;
       stopped = lost.stopped;
-      seq_same = lost.seq_same;
-    }))
+      settles = lost.settles;
+    })))
+replies_kept device budget name kept source (Some state) old reply new e (inr (inr (inr none))) =
+    inr (inr (inr (record { wanted = none.wanted; refused = none.refused; settles = none.settles })))
 
 -- and so does a host
 pub carries_kept : {D : Type 0} (device : Device D) (budget : ℕ) (name kept source : List ℕ) (old : Hosted D) (reply : Reply) (new : Hosted D) → kept ≡ take 65537 source → Carries device budget (Load name kept) old reply new → Carries device budget (Load name source) old reply new
 carries_kept device budget name kept source old reply new e h = record {
-  replies = replies_kept budget name kept source old.state old reply new e h.replies;
+  replies = replies_kept device budget name kept source old.state old reply new e h.replies;
   saved = h.saved;
-  kept = h.kept;
-  reads = h.reads;
-  honesty = h.honesty;
   failures = h.failures;
-  second = h.second;
+  honesty_first = h.honesty_first;
+  honesty_second = h.honesty_second;
   registered = h.registered;
 }

@@ -1,13 +1,37 @@
 -- What a host did for a list of requests: a run of the definition, up to the first failure.
-use Rattle.std.specs.Prelude.{◌≡◌, ◌⊎◌, ℕ, List, ◌∷◌, ◌++◌, map, None}
+use Rattle.std.specs.Prelude.{◌≡◌, ◌⊎◌, ℕ, List, [], ◌∷◌, ◌++◌, map, None}
 use Rattle.ash_meaning.specs.Refusals as refusals
-use Rattle.ash_meaning.specs.State.{State, Request, Reply, Refused}
-use Rattle.ash_meaning.specs.Step.{Runs, step, task_of}
-use Rattle.ash_durable.specs.Hosting.{Hosted, IsRunning, IsAnswer, Commits, reply_owed}
+use Rattle.ash_meaning.specs.State.{State, Request, Global, Seq, Reply, Refused}
+use Rattle.ash_meaning.specs.Step.{Steps, task_of}
+use Rattle.ash_durable.specs.Hosting.{Hosted, IsRunning, Commits, reply_stopped}
+
+-- a request before which a new generation may be installed
+abbrev pub MayInstall : Request → Type 0
+MayInstall (Global script name) = ⊥
+MayInstall Seq = ⊥
+MayInstall _ = Unit {0}
+
+-- A new generation was wanted before a request, and its number would have been past the last, or memory was refused:
+-- nothing has changed.
+pub record WasPutOff (request : Request) (old : State) (reply : Reply) (new : State) : Type 0 where
+  pub may_install : MayInstall request
+  pub reply_is : (reply ≡ Refused refusals.GenerationSpent) ⊎ (reply ≡ Refused refusals.NoMemory)
+  pub unchanged : new ≡ old
+
+-- one request of a host from old to new, as long as no device fails and no answer is lost
+abbrev pub HostSteps : ℕ → Request → State → Reply → State → Type 0
+HostSteps budget request old reply new = Steps budget request old reply new ⊎ WasPutOff request old reply new
+
+-- each request is carried out from the state that the one before it left
+abbrev pub HostRuns : ℕ → State → List Request → List Reply → State → Type 0
+HostRuns budget old [] [] new = new ≡ old
+HostRuns budget old (request ∷ requests) (reply ∷ replies) new =
+    (next : State) × HostSteps budget request old reply next × HostRuns budget next requests replies new
+HostRuns budget old _ _ new = ⊥
 
 -- The replies of a host that must be reopened: its number is that of the last answer.
 abbrev pub replies_until_reopened : List Request → ℕ → List Reply
-replies_until_reopened requests seq = map (λ request. reply_owed request seq) requests
+replies_until_reopened requests seq = map (λ request. reply_stopped request seq) requests
 
 -- The reply is a refusal by which an answer was lost: a disk failed, or memory ran out.
 abbrev pub IsFailure : Reply → Type 0
@@ -18,12 +42,12 @@ IsFailure _ = ⊥
 -- The requests are a run of the definition, and the host runs in the state that this run leads to.
 pub record RunsThrough {D : Type 0} (budget : ℕ) (state : State) (requests : List Request) (replies : List Reply) (new : Hosted D) : Type 0 where
   pub last : State
-  pub run : Runs budget state requests replies last
+  pub run : HostRuns budget state requests replies last
   pub running : IsRunning last new
 
 -- The requests before one are a run of the definition. That one is not refused in the state that the run leads to, and
--- its answer was lost. From then on the host must be reopened: its number is that of the run's last state, and each later reply
--- is that of such a host.
+-- its answer was lost; or a device failed while a new generation was installed before it. From then on the host must be
+-- reopened: its number is that of the run's last state, and each later reply is that of such a host.
 pub record RunsUntilFailure {D : Type 0} (budget : ℕ) (state : State) (requests : List Request) (replies : List Reply) (new : Hosted D) : Type 0 where
   pub before : List Request
   pub failed : Request
@@ -33,9 +57,8 @@ pub record RunsUntilFailure {D : Type 0} (budget : ℕ) (state : State) (request
   pub last : State
   pub requests_are : requests ≡ before ++ failed ∷ later
   pub replies_are : replies ≡ replied ++ failure ∷ replies_until_reopened later last.seq
-  pub run : Runs budget state before replied last
-  pub commits : Commits (task_of failed last)
-  pub answer : IsAnswer (step budget failed last).0
+  pub run : HostRuns budget state before replied last
+  pub cause : Commits (task_of failed last) ⊎ (MayInstall failed × (failure ≡ Refused refusals.DeviceFailed))
   pub is_failure : IsFailure failure
   pub stopped : new.state ≡ None
   pub seq_is : new.seq ≡ last.seq

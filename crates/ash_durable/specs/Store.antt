@@ -1,191 +1,223 @@
--- Making a store on two disks, opening it, and what is said of the disks.
-use Rattle.std.specs.Prelude.{◌≡◌, ◌⊎◌, ℕ, List, [], ◌∷◌, length, slice_index, Result, Ok, Err}
-use Rattle.std.specs.Bool.{IsTrue}
-use Rattle.ash_disk.specs.Device.{Device, IsOnlyRead}
-use Rattle.ash_disk.specs.Failures.{Rose}
-use Rattle.ash_disk.specs.Image.{after_write}
-use Rattle.ash_image.specs.Image.{Snapshot, IsFile, file_of}
+-- Making a store on two disks, and opening it.
+use Rattle.std.specs.Prelude.{◌≡◌, ◌⊎◌, ℕ, ◌<◌, ◌^◌, List, length, slice_index, Vec, Result, Ok, Err}
+use Rattle.std.specs.declared.alloc.Global.{Global}
+use Rattle.ash_disk.specs.Device.{Device, EveryMomentSince, IsOnlyRead}
+use Rattle.ash_journal.specs.declared.journal.Journal.{Journal}
+use Rattle.ash_journal.specs.declared.journal.Opened.{Opened}
+use Rattle.ash_journal.specs.Current.{Contents, Represent, SettleOn}
+use Rattle.ash_journal.specs.Failures.{CountsFailures}
+use Rattle.ash_journal.specs.Journal.{first_disk, second_disk, generation, record_bytes, HasFailed, IsReady, Holds, Finds as FindsIn}
 use Rattle.ash_journal.specs.Layout.{IsClosed}
-use Rattle.ash_meaning.specs.Kept.{Admits}
+use Rattle.ash_journal.specs.Opening.{IsUnsound, IsCutCurrent, HasCurrent}
+use Rattle.ash_journal.specs.Reading.{AreAt, bodies_of}
+use Rattle.ash_journal.specs.Runs.{Extends, Nothing}
+use Rattle.ash_journal.specs.Writes.{HasRested}
 use Rattle.ash_meaning.specs.State.{State, empty}
-use Rattle.ash_registry.specs.Calls.{Call}
-use Rattle.ash_registry.specs.Text.{text_of}
-use Rattle.ash_durable.specs.Hosting.{Hosted, IsRunning, IsSaved, LeavesFilesOf, LeavesClosed, snapshot_of}
+use Rattle.ash_registry.specs.Calls.{Call as Registration}
+use Rattle.ash_durable.specs.Contents.{behind_image, ReadsAs, IsMisshapen, IsNotAdmitted, AreOfOthers}
+use Rattle.ash_durable.specs.Hosting.{Hosted, IsRunning, IsSaved, IsHonest}
+use Rattle.ash_durable.specs.States.{AreHonest, HoldsState, IsImageOf, SettleSince, SettleNow, IsOne, IsEither, Tells, TellsOne}
 use Rattle.ash_durable.specs.declared.fault.OpenRefused.{OpenRefused}
 use Rattle.ash_durable.specs.declared.fault.StoreFault.{StoreFault}
 use Rattle.ash_durable.specs.declared.fault.StoreFault.TheVariants as faults
 use Rattle.ash_durable.specs.declared.front.Front.{Front}
-
--- the gate of a file in which nothing counts
-abbrev pub shut_gate : ℕ
-shut_gate = 0
+use Rattle.ash_durable.specs.declared.store.Found.{Found}
 
 -- how a file begins: its length, and its first byte, which is 0 where there is none
 pub record IsFront (front : Front) (bytes : List ℕ) : Type 0 where
   pub length_is : front.length ≡ length bytes
   pub gate_is : front.gate ≡ slice_index bytes 0
 
--- What was read, or why it was not: a disk failed, which its count shows, or memory was refused.
-abbrev pub TellsRead : {D T : Type 0} → Device D → D → Result T StoreFault → D → Type 0
-TellsRead device old (Ok read) new = device.failures new ≡ device.failures old
-TellsRead device old (Err faults.DeviceFailed) new = Rose (device.failures old) (device.failures new)
-TellsRead device old (Err faults.NoMemory) new = device.failures new ≡ device.failures old
-TellsRead device old (Err _) new = ⊥
+-- a device failed
+abbrev pub IsFailed : StoreFault → Type 0
+IsFailed faults.DeviceFailed = Unit {0}
+IsFailed _ = ⊥
 
--- A state of which the bytes are a file, with this registered.
-pub record IsStateOf (registered : List Call) (bytes : List ℕ) (state : State) : Type 0 where
-  pub registered_is : state.registered ≡ registered
-  pub file : IsFile bytes (snapshot_of state)
+-- Two disks are handed back: no count of failures fell, and one rose exactly where a failure is told; they are as honest
+-- as they were.
+pub record HandsBack {D : Type 0} (device : Device D) (failed : Type 0) (a b a' b' : D) : Type 0 where
+  pub failures : CountsFailures failed (device.failures a) (device.failures b) (device.failures a') (device.failures b')
+  pub honesty_first : device.honest a' ≡ device.honest a
+  pub honesty_second : device.honest b' ≡ device.honest b
 
--- The bytes are the file of nothing, or of a state that a host with this registered may not keep.
-abbrev pub IsDamaged : List Call → List ℕ → Type 0
-IsDamaged registered bytes =
-    ((s : Snapshot) → IsFile bytes s → ⊥)
-    ⊎ ((state : State) × IsStateOf registered bytes state × (Admits state → ⊥))
-
--- The bytes are a file, with another text than that of what is registered.
-abbrev pub IsOfOthers : List Call → List ℕ → Type 0
-IsOfOthers registered bytes = (s : Snapshot) × IsFile bytes s × (s.registered ≡ text_of registered → ⊥)
-
--- The state of which the bytes are a file, if a host with this registered may keep it.
-abbrev pub TellsState : List Call → List ℕ → Result State StoreFault → Type 0
-TellsState registered bytes (Ok state) = Admits state × IsStateOf registered bytes state
-TellsState registered bytes (Err (faults.Damaged offset)) = (offset ≡ 0) × IsDamaged registered bytes
-TellsState registered bytes (Err faults.OtherInterface) = IsOfOthers registered bytes
-TellsState registered bytes (Err faults.NoMemory) = Unit {0}
-TellsState registered bytes (Err _) = ⊥
-
--- neither disk failed
-pub record NoneFailed {D : Type 0} (device : Device D) (a b a' b' : D) : Type 0 where
-  pub first : device.failures a' ≡ device.failures a
-  pub second : device.failures b' ≡ device.failures b
-
--- one of the disks failed, and the other did not
-abbrev pub OneFailed : {D : Type 0} → Device D → D → D → D → D → Type 0
-OneFailed device a b a' b' =
-    (Rose (device.failures a) (device.failures a') × (device.failures b' ≡ device.failures b))
-    ⊎ (Rose (device.failures b) (device.failures b') × (device.failures a' ≡ device.failures a))
+-- both disks were only read and synced
+pub record WereOnlyRead {D : Type 0} (device : Device D) (a b a' b' : D) : Type 0 where
+  pub read_first : IsOnlyRead device a a'
+  pub read_second : IsOnlyRead device b b'
 
 -- both files are closed, as the disks read
 pub record AreClosed {D : Type 0} (device : Device D) (a b : D) : Type 0 where
-  pub first : IsClosed (device.seen a)
-  pub second : IsClosed (device.seen b)
+  pub closed_first : IsClosed (device.seen a)
+  pub closed_second : IsClosed (device.seen b)
 
 -- ---- making a store
 
--- A store was made on two disks whose files were closed: the first holds the file of the state, the second is closed.
-pub record WasMade {D : Type 0} (device : Device D) (state : State) (a b a' b' : D) : Type 0 where
-  pub failed : NoneFailed device a b a' b'
-  pub closed : IsTrue (device.honest a) → IsTrue (device.honest b) → AreClosed device a b
-  pub admitted : Admits state
-  pub first_reads : IsTrue (device.honest a) → device.seen a' ≡ after_write (device.seen a) 0 (file_of (snapshot_of state))
-  pub second_reads : IsTrue (device.honest b) → device.seen b' ≡ after_write (device.seen b) 0 (shut_gate ∷ [])
-  pub first_leaves : LeavesFilesOf device state a'
-  pub second_leaves : LeavesClosed device b'
+-- no file is open, or they settle on one state
+abbrev pub IsClosedOrTells : State → List ℕ → List ℕ → Type 0
+IsClosedOrTells state x y = (IsClosed x × IsClosed y) ⊎ SettleOn (TellsOne (IsOne state)) x y
 
--- nothing was written, and no disk failed
-pub record WasNotTouched {D : Type 0} (device : Device D) (a b a' b' : D) : Type 0 where
-  pub failed : NoneFailed device a b a' b'
-  pub first : IsOnlyRead device a a'
-  pub second : IsOnlyRead device b b'
+-- While a store was made, at every moment since two earlier times from which on each file had rested, a crash left no
+-- file open, or the store of this state.
+abbrev pub MakesOrNot : {D : Type 0} → Device D → State → D → D → D → D → Type 0
+MakesOrNot device state a b a' b' =
+    (p q : ℕ) → AreHonest device a b → HasRested device p a → HasRested device q b
+    → EveryMomentSince device p q a' b' (IsClosedOrTells state)
 
--- A disk failed: before anything was written, or where both files were closed. The second is closed, whatever a crash
--- makes of it, before the first is written.
-abbrev pub WasLeft : {D : Type 0} → Device D → D → D → D → D → Type 0
-WasLeft device a b a' b' =
-    (IsOnlyRead device a a' × IsOnlyRead device b b')
-    ⊎ ((IsTrue (device.honest a) → IsTrue (device.honest b) → AreClosed device a b) × (IsOnlyRead device a a' ⊎ LeavesClosed device b'))
+-- A store was made on two disks whose files were closed.
+pub record WasMade {D : Type 0} (device : Device D) (state : State) (a b : D) (journal : Journal D) : Type 0 where
+  pub ready : IsReady journal
+  pub number : generation journal ≡ 1
+  pub emptied : record_bytes journal ≡ 0
+  pub closed : AreHonest device a b → AreClosed device a b
+  pub holds : AreHonest device a b → HoldsState device state journal
+  pub moments : MakesOrNot device state a b (first_disk journal) (second_disk journal)
+  pub disks : HandsBack device ⊥ a b (first_disk journal) (second_disk journal)
 
--- what came of it, by the first reason that holds
-abbrev pub MakesWith : {D T : Type 0} → Device D → State → D → D → Result T StoreFault → D → D → Type 0
-MakesWith device state a b (Ok made) a' b' = WasMade device state a b a' b'
-MakesWith device state a b (Err faults.DeviceFailed) a' b' = OneFailed device a b a' b' × WasLeft device a b a' b'
-MakesWith device state a b (Err faults.AlreadyThere) a' b' =
-    WasNotTouched device a b a' b' × (IsTrue (device.honest a) → IsTrue (device.honest b) → AreClosed device a b → ⊥)
-MakesWith device state a b (Err faults.NoMemory) a' b' =
-    WasNotTouched device a b a' b' × (IsTrue (device.honest a) → IsTrue (device.honest b) → AreClosed device a b)
-MakesWith device state a b (Err _) a' b' = ⊥
+-- Why no store was made. Where a file was open, both disks are only read, and so they are but where a device failed.
+abbrev pub NotMadeFor : {D : Type 0} → Device D → D → D → StoreFault → D → D → Type 0
+NotMadeFor device a b faults.DeviceFailed a' b' = AreHonest device a b → AreClosed device a b ⊎ WereOnlyRead device a b a' b'
+NotMadeFor device a b faults.AlreadyThere a' b' =
+    AreHonest device a b → WereOnlyRead device a b a' b' × (AreClosed device a b → ⊥)
+NotMadeFor device a b faults.NoMemory a' b' = AreHonest device a b → WereOnlyRead device a b a' b' × AreClosed device a b
+NotMadeFor device a b _ a' b' = ⊥
 
--- A store of a state is made on the disks a and b, which it leaves as a' and b'.
-pub record Makes {D T : Type 0} (device : Device D) (state : State) (a b : D) (result : Result T StoreFault) (a' b' : D) : Type 0 where
-  pub first_honesty : device.honest a' ≡ device.honest a
-  pub second_honesty : device.honest b' ≡ device.honest b
-  pub outcome : MakesWith device state a b result a' b'
+-- No store was made, and both disks are handed back.
+pub record WasNotMade {D : Type 0} (device : Device D) (state : State) (a b : D) (refused : OpenRefused D) : Type 0 where
+  pub cause : NotMadeFor device a b refused.fault refused.a refused.b
+  pub moments : MakesOrNot device state a b refused.a refused.b
+  pub disks : HandsBack device (IsFailed refused.fault) a b refused.a refused.b
+
+-- A store of a state is made on two disks, or both are handed back.
+abbrev pub Makes : {D : Type 0} → Device D → State → D → D → Result (Journal D) (OpenRefused D) → Type 0
+Makes device state a b (Ok journal) = WasMade device state a b journal
+Makes device state a b (Err refused) = WasNotMade device state a b refused
 
 -- A host was made with this registered: it runs in the state before any request, which its disks keep.
-pub record WasCreated {D : Type 0} (device : Device D) (registered : List Call) (a b : D) (host : Hosted D) : Type 0 where
+pub record WasCreated {D : Type 0} (device : Device D) (registered : List Registration) (a b : D) (host : Hosted D) : Type 0 where
   pub running : IsRunning (empty registered) host
+  pub made : WasMade device (empty registered) a b host.journal
   pub saved : IsSaved device host
-  pub made : Makes {T = Hosted D} device (empty registered) a b (Ok host) host.first host.second
 
 -- A host is made on two disks, or both are handed back.
-abbrev pub Creates : {D : Type 0} → Device D → List Call → D → D → Result (Hosted D) (OpenRefused D) → Type 0
+abbrev pub Creates : {D : Type 0} → Device D → List Registration → D → D → Result (Hosted D) (OpenRefused D) → Type 0
 Creates device registered a b (Ok host) = WasCreated device registered a b host
-Creates {D} device registered a b (Err refused) = Makes {T = Hosted D} device (empty registered) a b (Err refused.fault) refused.a refused.b
+Creates device registered a b (Err refused) = WasNotMade device (empty registered) a b refused
+
+-- a call failed for a device
+abbrev pub HasFailedWith : {T : Type 0} → Result T StoreFault → Type 0
+HasFailedWith (Ok value) = ⊥
+HasFailedWith (Err fault) = IsFailed fault
+
+-- the image of a state, which fits a generation, made where neither file is open; or why there is none
+abbrev pub LooksWith : {D : Type 0} → Device D → State → D → D → Result (Vec ℕ Global) StoreFault → D → D → Type 0
+LooksWith device state a b (Ok image) a' b' =
+    IsImageOf image.items state × (length image.items < 2 ^ 32) × (AreHonest device a b → AreClosed device a b)
+LooksWith device state a b (Err fault) a' b' = NotMadeFor device a b fault a' b'
+
+-- Two disks are looked at, and only read, for the first image of a state.
+pub record LooksFor {D : Type 0} (device : Device D) (state : State) (a b : D) (result : Result (Vec ℕ Global) StoreFault) (a' b' : D) : Type 0 where
+  pub looks : LooksWith device state a b result a' b'
+  pub read : WereOnlyRead device a b a' b'
+  pub disks : HandsBack device (HasFailedWith result) a b a' b'
 
 -- ---- opening a store
 
--- The files are those of no store that a host with this registered has left: not both are closed, and the second is
--- open, or the first is damaged.
-pub record AreDamaged {D : Type 0} (device : Device D) (registered : List Call) (a b : D) : Type 0 where
-  pub is_open : AreClosed device a b → ⊥
-  pub wrong : (IsClosed (device.seen b) → ⊥) ⊎ IsDamaged registered (device.seen a)
+-- The files have this fault, with this registered, the first that holds.
+abbrev pub StoreFaultIs : List Registration → StoreFault → List ℕ → List ℕ → Type 0
+StoreFaultIs registered faults.NoGeneration x y = IsClosed x × IsClosed y
+StoreFaultIs registered (faults.Damaged at) x y =
+    (IsUnsound x y × (at ≡ 0)) ⊎ ((IsCutCurrent at x y ⊎ IsCutCurrent at y x)
+    ⊎ ((contents : Contents) × Represent contents x y × (IsMisshapen contents at ⊎ IsNotAdmitted registered contents at)))
+StoreFaultIs registered faults.OtherInterface x y = (contents : Contents) × Represent contents x y × AreOfOthers registered contents
+StoreFaultIs registered faults.NoMemory x y = HasCurrent x y
+StoreFaultIs registered faults.DeviceFailed x y = Unit {0}
+StoreFaultIs registered faults.AlreadyThere x y = ⊥
 
--- The files are those of a store that was made with another text registered.
-pub record AreOfOthers {D : Type 0} (device : Device D) (registered : List Call) (a b : D) : Type 0 where
-  pub first : IsTrue (device.honest a) → IsOfOthers registered (device.seen a)
-  pub second : IsTrue (device.honest b) → IsClosed (device.seen b)
+-- What the files settled on when calls began, of two states, they settled on at every moment of these.
+abbrev pub StaySettled : {D : Type 0} → Device D → D → D → D → D → Type 0
+StaySettled device a b a' b' =
+    (p q : ℕ) (s t : State) → AreHonest device a b → SettleSince device p q a b (IsEither s t) → SettleSince device p q a' b' (IsEither s t)
 
--- The state was found: its file is on the first disk, and the second is closed.
-pub record WasFound {D : Type 0} (device : Device D) (registered : List Call) (a b a' b' : D) (state : State) : Type 0 where
-  pub failed : NoneFailed device a b a' b'
+-- A state was found: the files, as they read, are those of it, and the journal holds it and no other.
+pub record WasFound {D : Type 0} (device : Device D) (registered : List Registration) (a b : D) (state : State) (journal : Journal D) : Type 0 where
   pub registered_is : state.registered ≡ registered
-  pub admitted : Admits state
-  pub first : IsTrue (device.honest a) → IsFile (device.seen a) (snapshot_of state)
-  pub second : IsTrue (device.honest b) → IsClosed (device.seen b)
+  pub ready : IsReady journal
+  pub reads : AreHonest device a b → (contents : Contents) × Represent contents (device.seen a) (device.seen b) × Tells state contents
+  pub holds : AreHonest device a b → HoldsState device state journal
+  pub moments : StaySettled device a b (first_disk journal) (second_disk journal)
+  pub disks : HandsBack device ⊥ a b (first_disk journal) (second_disk journal)
 
--- what came of it, by the first reason that holds
-abbrev pub FindsWith : {D : Type 0} → Device D → List Call → D → D → Result State StoreFault → D → D → Type 0
-FindsWith device registered a b (Ok state) a' b' = WasFound device registered a b a' b' state
-FindsWith device registered a b (Err faults.DeviceFailed) a' b' = OneFailed device a b a' b'
-FindsWith device registered a b (Err faults.NoGeneration) a' b' =
-    NoneFailed device a b a' b' × (IsTrue (device.honest a) → IsTrue (device.honest b) → AreClosed device a b)
-FindsWith device registered a b (Err (faults.Damaged offset)) a' b' =
-    NoneFailed device a b a' b' × (offset ≡ 0) × (IsTrue (device.honest a) → IsTrue (device.honest b) → AreDamaged device registered a b)
-FindsWith device registered a b (Err faults.OtherInterface) a' b' =
-    NoneFailed device a b a' b' × AreOfOthers device registered a b
-FindsWith device registered a b (Err faults.NoMemory) a' b' =
-    NoneFailed device a b a' b' × (IsTrue (device.honest a) → IsTrue (device.honest b) → (IsClosed (device.seen a) → ⊥) × IsClosed (device.seen b))
-FindsWith device registered a b (Err faults.AlreadyThere) a' b' = ⊥
+-- No state was found, or a device failed once it was.
+pub record WasNotFound {D : Type 0} (device : Device D) (registered : List Registration) (a b : D) (refused : OpenRefused D) : Type 0 where
+  pub cause : AreHonest device a b → StoreFaultIs registered refused.fault (device.seen a) (device.seen b)
+  pub read : (IsFailed refused.fault → ⊥) → WereOnlyRead device a b refused.a refused.b
+  pub moments : StaySettled device a b refused.a refused.b
+  pub disks : HandsBack device (IsFailed refused.fault) a b refused.a refused.b
 
--- The state of a store is looked for on the disks a and b, which it leaves as a' and b' and reading as before.
-pub record Finds {D : Type 0} (device : Device D) (registered : List Call) (a b : D) (result : Result State StoreFault) (a' b' : D) : Type 0 where
-  pub first : IsOnlyRead device a a'
-  pub second : IsOnlyRead device b b'
-  pub outcome : FindsWith device registered a b result a' b'
+-- The state of a store is found on two disks, or both are handed back.
+abbrev pub Finds : {D : Type 0} → Device D → List Registration → D → D → Result (Found D) (OpenRefused D) → Type 0
+Finds device registered a b (Ok found) = WasFound device registered a b found.state found.journal
+Finds device registered a b (Err refused) = WasNotFound device registered a b refused
 
--- A host was opened with this registered: it runs in the state that was found. Where the disks keep a state with it, it
--- is that one, and they keep it still.
-pub record WasOpened {D : Type 0} (device : Device D) (registered : List Call) (a b : D) (host : Hosted D) : Type 0 where
+-- what a journal that was opened holds
+abbrev pub contents_of : {D : Type 0} → Opened D → Contents
+contents_of opened = (opened.image.items, bodies_of opened.records.items)
+
+-- the gates before its records stand where the records say
+abbrev pub AreInPlace : {D : Type 0} → Opened D → Type 0
+AreInPlace opened = AreAt (behind_image opened.image.items) opened.records.items
+
+-- the files hold what was read of them
+abbrev pub HoldsRead : {D : Type 0} → Device D → Opened D → Type 0
+HoldsRead device opened = FindsIn device opened.journal opened.image.items (bodies_of opened.records.items)
+
+-- The state of a journal that was opened was read, and the gates are written over that a crash left.
+pub record WasSettled {D : Type 0} (device : Device D) (registered : List Registration) (opened : Opened D) (state : State) (journal : Journal D) : Type 0 where
+  pub registered_is : state.registered ≡ registered
+  pub reads : AreInPlace opened → Tells state (contents_of opened)
+  pub ready : (HasFailed opened.journal → ⊥) → IsReady journal
+  pub holds : HoldsRead device opened → Holds device journal opened.image.items (bodies_of opened.records.items)
+  pub extends : HoldsRead device opened → Extends device (first_disk opened.journal) (second_disk opened.journal) (first_disk journal) (second_disk journal) Nothing
+  pub disks : HandsBack device ⊥ (first_disk opened.journal) (second_disk opened.journal) (first_disk journal) (second_disk journal)
+
+-- No state was read, and nothing is written; or a device failed once it was.
+pub record WasNotSettled {D : Type 0} (device : Device D) (registered : List Registration) (opened : Opened D) (refused : OpenRefused D) : Type 0 where
+  pub cause : AreInPlace opened → IsFailed refused.fault ⊎ ReadsAs registered (contents_of opened) (Err refused.fault)
+  pub read : (IsFailed refused.fault → ⊥) → (refused.a ≡ first_disk opened.journal) × (refused.b ≡ second_disk opened.journal)
+  pub extends : HoldsRead device opened → Extends device (first_disk opened.journal) (second_disk opened.journal) refused.a refused.b Nothing
+  pub disks : HandsBack device (IsFailed refused.fault) (first_disk opened.journal) (second_disk opened.journal) refused.a refused.b
+
+-- A journal that was opened holds a state, or its disks are handed back.
+abbrev pub Settled : {D : Type 0} → Device D → List Registration → Opened D → Result (Found D) (OpenRefused D) → Type 0
+Settled device registered opened (Ok found) = WasSettled device registered opened found.state found.journal
+Settled device registered opened (Err refused) = WasNotSettled device registered opened refused
+
+-- A host was opened with this registered: it runs in the state that the files, as they read, are of. Where they settled
+-- on two states before, it is one of them, and they settle on it alone.
+pub record WasOpened {D : Type 0} (device : Device D) (registered : List Registration) (a b : D) (host : Hosted D) : Type 0 where
   pub state : State
   pub running : IsRunning state host
-  pub found : Finds device registered a b (Ok state) host.first host.second
-  pub same : (kept : State) → kept.registered ≡ registered → LeavesFilesOf device kept a → IsTrue (device.honest a) → state ≡ kept
-  pub saved : (kept : State) → kept.registered ≡ registered → LeavesFilesOf device kept a → LeavesClosed device b → IsSaved device host
+  pub found : WasFound device registered a b state host.journal
+  pub same : (s t : State) → AreHonest device a b → s.registered ≡ registered → t.registered ≡ registered → SettleNow device a b (IsEither s t) → IsEither s t state
+  pub saved : AreHonest device a b → IsSaved device host
 
 -- A host is opened on two disks, or both are handed back.
-abbrev pub Opens : {D : Type 0} → Device D → List Call → D → D → Result (Hosted D) (OpenRefused D) → Type 0
+abbrev pub Opens : {D : Type 0} → Device D → List Registration → D → D → Result (Hosted D) (OpenRefused D) → Type 0
 Opens device registered a b (Ok host) = WasOpened device registered a b host
-Opens device registered a b (Err refused) = Finds device registered a b (Err refused.fault) refused.a refused.b
+Opens device registered a b (Err refused) = WasNotFound device registered a b refused
 
 -- ---- closing it and opening it again
 
 -- a refusal for want of memory, or because a disk failed
-abbrev pub IsMishap : {D : Type 0} → Device D → D → D → OpenRefused D → Type 0
-IsMishap device a b refused = (refused.fault ≡ faults.NoMemory) ⊎ ((refused.fault ≡ faults.DeviceFailed) × OneFailed device a b refused.a refused.b)
+abbrev pub IsMishap : StoreFault → Type 0
+IsMishap faults.NoMemory = Unit {0}
+IsMishap faults.DeviceFailed = Unit {0}
+IsMishap _ = ⊥
 
 -- A host that was saved is opened with what was registered, in the state in which it was closed, unless memory is
 -- refused or a disk fails.
 abbrev pub OpensAgain : {D : Type 0} → Device D → Hosted D → Result (Hosted D) (OpenRefused D) → Type 0
-OpensAgain device host (Ok opened) = (opened.registered ≡ host.registered) × ((state : State) → IsRunning state host → IsSaved device host → IsTrue (device.honest host.first) → IsRunning state opened × IsSaved device opened)
-OpensAgain device host (Err refused) = (state : State) → IsRunning state host → IsSaved device host → IsTrue (device.honest host.first) → IsTrue (device.honest host.second) → IsMishap device host.first host.second refused
+OpensAgain device host (Ok opened) =
+    (opened.registered ≡ host.registered)
+    × ((state : State) → IsHonest device host → IsRunning state host → IsSaved device host → IsRunning state opened × IsSaved device opened)
+OpensAgain device host (Err refused) = (state : State) → IsHonest device host → IsRunning state host → IsSaved device host → IsMishap refused.fault

@@ -1,6 +1,7 @@
 // Why a store is not made or not opened.
 
 use ash_disk::DeviceFailed;
+use ash_journal::{CreateFault, OpenFault};
 use std::alloc::AllocError;
 use thiserror::Error;
 
@@ -13,7 +14,8 @@ pub enum StoreFault {
     /// A file of the store is open already.
     #[error("502 AlreadyThere")]
     AlreadyThere,
-    /// The bytes are not those of a store. The offset, in bytes, is that of the gate before what is damaged.
+    /// The bytes are not those of a store. The offset, in bytes, is that of the gate before the record that is damaged, or
+    /// 0 for what stands before the first record.
     #[error("503 Damaged")]
     Damaged(u64),
     /// The store was made with another registration.
@@ -35,6 +37,37 @@ impl From<DeviceFailed> for StoreFault {
 
     fn from(_: DeviceFailed) -> StoreFault {
         StoreFault::DeviceFailed
+    }
+}
+
+impl From<OpenFault> for StoreFault {
+    ghost use Rattle.std.specs.Prelude.{◌≡◌};
+    ghost use Rattle.ash_durable.specs.Faults.{opening_fault};
+
+    ghost from_gives = { λ fault result. result ≡ opening_fault fault };
+
+    fn from(fault: OpenFault) -> StoreFault {
+        match fault {
+            OpenFault::DeviceFailed => StoreFault::DeviceFailed,
+            OpenFault::NoGeneration => StoreFault::NoGeneration,
+            OpenFault::Damaged(at) => StoreFault::Damaged(at),
+            OpenFault::NoMemory => StoreFault::NoMemory,
+        }
+    }
+}
+
+impl From<CreateFault> for StoreFault {
+    ghost use Rattle.std.specs.Prelude.{◌≡◌};
+    ghost use Rattle.ash_durable.specs.Faults.{creating_fault};
+
+    ghost from_gives = { λ fault result. result ≡ creating_fault fault };
+
+    fn from(fault: CreateFault) -> StoreFault {
+        match fault {
+            CreateFault::DeviceFailed => StoreFault::DeviceFailed,
+            CreateFault::AlreadyThere => StoreFault::AlreadyThere,
+            CreateFault::NoMemory => StoreFault::NoMemory,
+        }
     }
 }
 

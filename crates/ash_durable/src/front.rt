@@ -1,20 +1,15 @@
 // How a file begins, and what its first byte says.
 
-ghost use Rattle.std.specs.Prelude.{◌≡◌, ◌↔◌, ℕ, List, ◌∷◌, [], IsTrue, IfOk, OnOk};
+ghost use Rattle.std.specs.Prelude.{◌≡◌, ◌↔◌, ℕ, List, IsTrue, IfOk};
 ghost use Rattle.ash_disk.specs.Device.{IsOnlyRead};
 ghost use Rattle.ash_disk.specs.Failures.{CountsFailure};
-ghost use Rattle.ash_disk.specs.Image.{after_write};
 ghost use Rattle.ash_journal.specs.Layout.{IsClosed};
-ghost use Rattle.ash_durable.specs.Hosting.{LeavesClosed};
-ghost use Rattle.ash_durable.specs.Store.{IsFront, shut_gate};
+ghost use Rattle.ash_durable.specs.Store.{IsFront};
 
-use ash_disk::{DeviceFailed, Disk, write_durably};
+use ash_disk::{DeviceFailed, Disk};
 
 /// The first byte of a file that counts.
 const OPEN: u8 = 1;
-
-/// The first byte of a file in which nothing counts.
-const SHUT: u8 = 0;
 
 /// How a file begins.
 #[derive(Clone, Copy, Debug)]
@@ -41,24 +36,10 @@ pub fn front_of<D: Disk>(disk: &mut D) -> Result<Front, DeviceFailed>
     ensures cause { CountsFailure result (D.failures disk.old) (D.failures disk.new) }
 {
     let length = disk.len()?;
-    let mut gate = [SHUT];
+    let mut gate = [0];
     if length > 0 {
         disk.read(0, &mut gate)?;
     }
     let [gate] = gate;
     Ok(Front { length, gate })
-}
-
-/// Shuts the file on a disk, if it isn't shut, and syncs.
-pub fn shut<D: Disk>(disk: &mut D, front: Front) -> Result<(), DeviceFailed>
-    requires { IsTrue (D.honest disk.old) → IsFront front (D.seen disk.old) }
-    ensures written { OnOk result (IsTrue (D.honest disk.old) → D.seen disk.new ≡ after_write (D.seen disk.old) 0 (shut_gate ∷ [])) }
-    ensures closed { OnOk result (LeavesClosed D.Disk disk.new) }
-    ensures honesty { D.honest disk.new ≡ D.honest disk.old }
-    ensures cause { CountsFailure result (D.failures disk.old) (D.failures disk.new) }
-{
-    if front.length == 0 || front.gate != SHUT {
-        return write_durably(disk, 0, &[SHUT]);
-    }
-    disk.sync()
 }

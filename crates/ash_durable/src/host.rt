@@ -1,18 +1,21 @@
 // The host.
 
-ghost use Rattle.std.specs.Prelude.{◌≡◌, ℕ, map, None, IfOk, OnErr};
-ghost use Rattle.ash_meaning.specs.State.{State, Load, Call, Discard, Global as LookUp, Seq, Number};
-ghost use Rattle.ash_meaning.specs.State.{answer_of, word_of, request_of, reply_of};
+ghost use Rattle.std.specs.Prelude.{◌≡◌, ℕ, map, IfOk, IsSome, OnOk, OnErr};
+ghost use Rattle.ash_meaning.specs.State.{State, Load, Call, Discard, Global as LookUp, Seq, Snapshot, Number};
+ghost use Rattle.ash_meaning.specs.State.{answer_of, done_of, word_of, request_of, reply_of};
 ghost use Rattle.ash_registry.specs.Registered.{registered};
-ghost use Rattle.ash_durable.specs.Hosting.{Carries, CarriesAll, IsRunning, Keeps, RefusesFirst};
+ghost use Rattle.ash_durable.specs.Hosting.{first, second, Carries, CarriesAll, IsFull, IsInstalled, RefusesFirst};
+ghost use Rattle.ash_durable.specs.Lives.{LivesOn};
+ghost use Rattle.ash_durable.specs.Requests.{Keeps, MakesRoom, TriesInstall};
 ghost use Rattle.ash_durable.specs.Running.{RunsToFailure};
 ghost use Rattle.ash_durable.specs.Store.{Creates, Opens, OpensAgain};
 
 use crate::fault::OpenRefused;
-use crate::saving::save;
+use crate::keeping::{add_state, install_state};
 use crate::store::{find, make};
 use ash_disk::Disk;
 use ash_host::Word;
+use ash_journal::Journal;
 use ash_meaning::plain::PlainState;
 use ash_meaning::refusal::Refusal;
 use ash_meaning::request::{Answer, Argument, Reply, Request};
@@ -20,98 +23,100 @@ use ash_registry::Registry;
 use std::alloc::{AllocError, Global};
 use std::marker::Model;
 
-/// A host for script modules whose state is on two disks. It has a registry of its own, whose text is in the file of
-/// each state. Each call is one request. Every answer to a `load`, a `call` or a `discard` but a refusal raises the
-/// sequence number by one, and before it is given the whole file of the new state is written to the first disk, by one
-/// write and one sync. Where that fails, or finds no memory for the file, the answer is lost and the host must be
-/// reopened: every call but `seq`, `close` and `reopen` is from then on refused with `Refusal::Reopen`. Any other
-/// refusal changes nothing.
+/// How many bytes of records a generation has at the least before a new one is installed in place of a record more.
+const FULL: u64 = 16_777_216;
+
+/// A host for script modules whose state outlives the process. It has a registry of its own, whose text is in each
+/// image that it writes. Each call is one request. Every answer to a `load`, a `call` or a `discard` but a refusal
+/// raises the sequence number by one, and before it is given the new state is one more record of the journal on both
+/// disks, by two writes and two syncs, so that every crash afterwards leaves it there. Where that fails, or finds no
+/// memory for the record, the answer is lost: a crash leaves the state before the request or the one after it, and the
+/// host must be reopened. Every call but `seq`, `close` and `reopen` is from then on refused with `Refusal::Reopen`. Any
+/// other refusal changes nothing.
+///
+/// A `load`, a `call` or a `discard` that finds 16,777,216 bytes of records or more in the current generation first
+/// installs the state as a new one, without records, in the file that isn't current.
 #[derive(Drop)]
 pub struct Host<D> {
     alloc: Global,
     state: PlainState,
     /// Where the host must be reopened, the number after the last request that was answered.
-    owed: Option<u64>,
-    first: D,
-    second: D,
+    stopped: Option<u64>,
+    journal: Journal<D>,
 }
 
 impl<D> Model for Host<D> {
-    ghost use Rattle.ash_durable.specs.Hosting.{Hosted, state_unless};
+    ghost use Rattle.ash_durable.specs.Hosting.{Hosted, IsReadyUnless, state_unless};
     ghost use Rattle.std.specs.Prelude.{unwrap_or};
 
     ghost Value = { Hosted D };
 
-    ghost view = { λ h. record { registered = h.state.registered; state = state_unless h.owed h.state; seq = unwrap_or h.owed h.state.seq; first = h.first; second = h.second } };
+    ghost view = { λ h. record { registered = h.state.registered; state = state_unless h.stopped h.state; seq = unwrap_or h.stopped h.state.seq; journal = h.journal } };
+
+    // A host that runs may write to its journal.
+    ghost invariant = { λ h. IsReadyUnless h.stopped h.journal };
 }
 
 impl<D: Disk> Host<D> {
-    /// Makes a store on two disks, and a host with this registry and no module, before any request. The registry's text
-    /// and each request that is answered are from then on kept in the file `a`; the file `b` is shut.
+    /// Makes a store on two disks, and a host with this registry and no module, before any request. The first
+    /// generation, on the disk `a`, holds that state.
     ///
-    /// Faults, the first that holds: `DeviceFailed`, `AlreadyThere`, `NoMemory`. Nothing is written where one of the
-    /// last two is returned, nor where a file of the store is open already, whatever fails.
-    pub fn create(
-        alloc: Global,
-        mut a: D,
-        mut b: D,
-        registry: Registry,
-    ) -> Result<Host<D>, OpenRefused<D>>
+    /// Faults, the first that holds: `DeviceFailed`, `AlreadyThere` where a file is open, `NoMemory`. Nothing is written
+    /// where one of the last two is returned. A crash on the way leaves no file open, or the store of a host that has
+    /// answered nothing, where each file had one byte at the most before, or 0 for its first.
+    pub fn create(alloc: Global, a: D, b: D, registry: Registry) -> Result<Host<D>, OpenRefused<D>>
         ensures { Creates D.Disk (registered registry) a b result }
     {
         let state = PlainState::new(alloc, registry);
-        match make(alloc, &state, &mut a, &mut b) {
-            Ok(()) => Ok(Host {
+        match make(alloc, &state, a, b) {
+            Ok(journal) => Ok(Host {
                 alloc,
                 state,
-                owed: None,
-                first: a,
-                second: b,
+                stopped: None,
+                journal,
             }),
-            Err(fault) => Err(OpenRefused { fault, a, b }),
+            Err(refused) => Err(refused),
         }
     }
 
-    /// Opens the store on two disks, and gives a host with this registry in the state that they keep. It writes nothing.
+    /// Opens the store on two disks, and gives a host with this registry in the state for which the files stand. It
+    /// reads the current generation once, and last of all writes 0 over gates that a crash has left half written, with a
+    /// sync for each.
     ///
-    /// Faults, the first that holds: `DeviceFailed`; `NoGeneration`; `Damaged`, where the bytes are those of no store;
-    /// `OtherInterface`, where the store was made with a registry of another text; `Damaged`, where the registry doesn't
-    /// admit a source or a value. `NoMemory` where there is none to read the file `a` into. Both disks read as before.
-    pub fn open(
-        alloc: Global,
-        mut a: D,
-        mut b: D,
-        registry: Registry,
-    ) -> Result<Host<D>, OpenRefused<D>>
+    /// Faults, the first that holds: `DeviceFailed`; `NoGeneration` where no file is open; `Damaged` where bytes have not
+    /// the shape of a generation, an image or a record; `OtherInterface` where the store was made with a registry of
+    /// another text; `Damaged` where the registry doesn't admit a source or a value. `NoMemory` where there is none to
+    /// read into. But for `DeviceFailed` in the last step, both disks read as before.
+    pub fn open(alloc: Global, a: D, b: D, registry: Registry) -> Result<Host<D>, OpenRefused<D>>
         ensures { Opens D.Disk (registered registry) a b result }
     {
-        match find(alloc, registry, &mut a, &mut b) {
-            Ok(state) => Ok(Host {
+        match find(alloc, registry, a, b) {
+            Ok(found) => Ok(Host {
                 alloc,
-                state,
-                owed: None,
-                first: a,
-                second: b,
+                state: found.state,
+                stopped: None,
+                journal: found.journal,
             }),
-            Err(fault) => Err(OpenRefused { fault, a, b }),
+            Err(refused) => Err(refused),
         }
     }
 
     /// Gives the disks back, as they are.
     pub fn close(self) -> (D, D)
-        ensures first { result.0 ≡ self.first }
-        ensures second { result.1 ≡ self.second }
+        ensures first { result.0 ≡ first self }
+        ensures second { result.1 ≡ second self }
     {
-        (self.first, self.second)
+        self.journal.close()
     }
 
     /// What a host is opened with again: its registry and its disks.
     fn into_parts(self) -> (Registry, D, D)
         ensures registry { registered result.0 ≡ self.registered }
-        ensures first { result.1 ≡ self.first }
-        ensures second { result.2 ≡ self.second }
+        ensures first { result.1 ≡ first self }
+        ensures second { result.2 ≡ second self }
     {
-        (self.state.into_registry(), self.first, self.second)
+        let (first, second) = self.journal.close();
+        (self.state.into_registry(), first, second)
     }
 
     /// Closes the host and opens its store again with the same registry, as a host needs that must be reopened. A host
@@ -121,7 +126,7 @@ impl<D: Disk> Host<D> {
     ///
     /// Faults are those of `open`.
     pub fn reopen(self) -> Result<Host<D>, OpenRefused<D>>
-        ensures opens { Opens D.Disk self.registered self.first self.second result }
+        ensures opens { Opens D.Disk self.registered (first self) (second self) result }
         ensures again { OpensAgain D.Disk self result }
     {
         let alloc = self.alloc;
@@ -129,19 +134,45 @@ impl<D: Disk> Host<D> {
         Host::open(alloc, first, second, registry)
     }
 
+    /// Installs the state of a host that runs as a new generation.
+    fn install(&mut self) -> Result<(), Refusal>
+        requires { IsSome self.old.state }
+        ensures { TriesInstall D.Disk self.old result self.new }
+    {
+        match install_state(self.alloc, &self.state, &mut self.journal) {
+            Ok(()) => Ok(()),
+            Err(Refusal::DeviceFailed) => {
+                self.stopped = Some(self.state.seq());
+                Err(Refusal::DeviceFailed)
+            }
+            Err(refusal) => Err(refusal),
+        }
+    }
+
+    /// Makes room for one record more, before a request. Refused with `Reopen` where the host must be reopened.
+    fn make_room(&mut self) -> Result<(), Refusal>
+        ensures { MakesRoom D.Disk self.old result self.new }
+    {
+        if self.stopped.is_some() {
+            return Err(Refusal::Reopen);
+        }
+        if self.journal.record_bytes() < FULL {
+            return Ok(());
+        }
+        self.install()
+    }
+
     /// Keeps what a request has changed, before it is answered. `seq` is the number of the last answer before it, which
     /// stays where this is not kept: from then on the host must be reopened.
     fn keep(&mut self, seq: u64, answer: Answer) -> Result<Answer, Refusal>
-        ensures kept { IfOk result (λ kept. (kept ≡ answer) × (self.new.state ≡ self.old.state) × (self.new.seq ≡ self.old.seq)) }
-        ensures owed { OnErr result ((self.new.state ≡ None) × (self.new.seq ≡ seq)) }
-        ensures second { self.new.second ≡ self.old.second }
-        ensures registry { self.new.registered ≡ self.old.registered }
-        ensures saves { (state : State) → IsRunning state self.old → Keeps D.Disk state self.old.first result self.new.first }
+        requires running { IsSome self.old.state }
+        requires room { IsFull self.old → ⊥ }
+        ensures { Keeps D.Disk seq answer self.old result self.new }
     {
-        match save(self.alloc, &self.state, &mut self.first) {
+        match add_state(self.alloc, &self.state, &mut self.journal) {
             Ok(()) => Ok(answer),
             Err(refusal) => {
-                self.owed = Some(seq);
+                self.stopped = Some(seq);
                 Err(refusal)
             }
         }
@@ -150,15 +181,17 @@ impl<D: Disk> Host<D> {
     /// Loads a source as a module of this name: reads it and runs its initializers, with a budget in ticks. The
     /// module is kept where they finish.
     ///
-    /// Refusals, the first that holds: `Reopen`, `SequenceSpent`, `BadName`, `ModuleTaken`, `TooManyModules`, those
-    /// that `check_source` returns of a source, `NotYet`; `NoMemory` where the reading or the run finds no memory. At
-    /// `DeviceFailed`, and at `NoMemory` where the answer could not be kept, the host must be reopened from then on.
+    /// Refusals, the first that holds: `Reopen`; `GenerationSpent`, `NoMemory` and `DeviceFailed` where a new generation
+    /// is installed first; `SequenceSpent`, `BadName`, `ModuleTaken`, `TooManyModules`, those that `check_source` returns
+    /// of a source, `NotYet`; `NoMemory` where the reading or the run finds no memory. At `DeviceFailed`, and at
+    /// `NoMemory` where the answer could not be kept, the host must be reopened from then on.
     pub fn load(&mut self, name: &str, source: &[u8], budget: u64) -> Result<Answer, Refusal>
         ensures carries { Carries D.Disk budget (Load name.now source.now) self.old (answer_of result) self.new }
         ensures refused { RefusesFirst (Load name.now source.now) self.old (answer_of result) self.new }
     {
-        if self.owed.is_some() {
-            return Err(Refusal::Reopen);
+        match self.make_room() {
+            Ok(()) => {}
+            Err(refusal) => return Err(refusal),
         }
         let seq = self.state.seq();
         match self.state.load(name, source, budget) {
@@ -169,9 +202,10 @@ impl<D: Disk> Host<D> {
 
     /// Calls a function of a module, with a budget in ticks.
     ///
-    /// Refusals, the first that holds: `Reopen`, `SequenceSpent`, `NoModule`, `NoFunction`, `BadArguments`; `NoMemory`
-    /// where the run finds no memory. At `DeviceFailed`, and at `NoMemory` where the answer could not be kept, the host
-    /// must be reopened from then on.
+    /// Refusals, the first that holds: `Reopen`; `GenerationSpent`, `NoMemory` and `DeviceFailed` where a new generation
+    /// is installed first; `SequenceSpent`, `NoModule`, `NoFunction`, `BadArguments`; `NoMemory` where the run finds no
+    /// memory. At `DeviceFailed`, and at `NoMemory` where the answer could not be kept, the host must be reopened from
+    /// then on.
     pub fn call(
         &mut self,
         script: &str,
@@ -184,8 +218,9 @@ impl<D: Disk> Host<D> {
         ensures refused { RefusesFirst
             (Call script.now function.now arguments.now) self.old (answer_of result) self.new }
     {
-        if self.owed.is_some() {
-            return Err(Refusal::Reopen);
+        match self.make_room() {
+            Ok(()) => {}
+            Err(refusal) => return Err(refusal),
         }
         let seq = self.state.seq();
         match self.state.call(script, function, arguments, budget) {
@@ -196,19 +231,36 @@ impl<D: Disk> Host<D> {
 
     /// Takes a module away, with its globals.
     ///
-    /// Refusals, the first that holds: `Reopen`, `SequenceSpent`, `NoModule`. At `DeviceFailed`, and at `NoMemory`, the
-    /// answer could not be kept, and the host must be reopened from then on.
+    /// Refusals, the first that holds: `Reopen`; `GenerationSpent`, `NoMemory` and `DeviceFailed` where a new generation
+    /// is installed first; `SequenceSpent`, `NoModule`. At `DeviceFailed`, and at `NoMemory` where the answer could not
+    /// be kept, the host must be reopened from then on.
     pub fn discard(&mut self, name: &str) -> Result<Answer, Refusal>
         ensures carries { (budget : ℕ) → Carries D.Disk budget (Discard name.now) self.old (answer_of result) self.new }
         ensures refused { RefusesFirst (Discard name.now) self.old (answer_of result) self.new }
     {
-        if self.owed.is_some() {
-            return Err(Refusal::Reopen);
+        match self.make_room() {
+            Ok(()) => {}
+            Err(refusal) => return Err(refusal),
         }
         let seq = self.state.seq();
         match self.state.discard(name) {
             Ok(answer) => self.keep(seq, answer),
             Err(refusal) => Err(refusal),
+        }
+    }
+
+    /// Puts the whole state into a new generation without records, in the file that isn't current. Nothing of the state
+    /// changes, and every crash leaves it.
+    ///
+    /// Refusals, the first that holds: `Reopen`; `GenerationSpent` where the generation's number is 2^64 - 1; `NoMemory`;
+    /// these change nothing. After `DeviceFailed` the host must be reopened.
+    pub fn snapshot(&mut self) -> Result<(), Refusal>
+        ensures carries { (budget : ℕ) → Carries D.Disk budget Snapshot self.old (done_of result) self.new }
+        ensures installed { OnOk result (IsInstalled self.old self.new) }
+    {
+        match self.stopped {
+            None => self.install(),
+            Some(_) => Err(Refusal::Reopen),
         }
     }
 
@@ -218,7 +270,7 @@ impl<D: Disk> Host<D> {
     pub fn global(&self, script: &str, name: &str) -> Result<Word, Refusal>
         ensures { (budget : ℕ) → Carries D.Disk budget (LookUp script.now name.now) self.now (word_of result) self.now }
     {
-        match self.owed {
+        match self.stopped {
             None => self.state.global(script, name),
             Some(_) => Err(Refusal::Reopen),
         }
@@ -229,13 +281,13 @@ impl<D: Disk> Host<D> {
         ensures number { result ≡ self.now.seq }
         ensures carries { (budget : ℕ) → Carries D.Disk budget Seq self.now (Number result) self.now }
     {
-        self.owed.unwrap_or(self.state.seq())
+        self.stopped.unwrap_or(self.state.seq())
     }
 
     /// Carries out one request, with a budget in ticks. A host that runs refuses each request for which there is a
     /// cause, with the first cause or out of memory on the way to it, and is as it was.
     ///
-    /// Refusals are those of `load`, `call`, `discard` and `global`, in their order.
+    /// Refusals are those of `load`, `call`, `discard`, `snapshot` and `global`, in their order.
     pub fn carry_out(&mut self, request: &Request, budget: u64) -> Reply
         ensures carries { Carries D.Disk budget (request_of request.now) self.old (reply_of result) self.new }
         ensures refused { RefusesFirst (request_of request.now) self.old (reply_of result) self.new }
@@ -253,6 +305,7 @@ impl<D: Disk> Host<D> {
                 Err(refusal) => Reply::Refused(refusal),
             },
             Request::Seq => Reply::Seq(self.seq()),
+            Request::Snapshot => self.snapshot().into(),
         }
     }
 
@@ -266,6 +319,7 @@ impl<D: Disk> Host<D> {
     ) -> Result<Vec<Reply>, AllocError>
         ensures run { IfOk result (λ replies. CarriesAll D.Disk budget self.old (map request_of requests.now) (map reply_of replies.items) self.new) }
         ensures defined { IfOk result (λ replies. RunsToFailure budget self.old (map request_of requests.now) (map reply_of replies.items) self.new) }
+        ensures lives { IfOk result (λ replies. LivesOn D.Disk budget self.old (map request_of requests.now) (map reply_of replies.items) self.new) }
         ensures err { OnErr result (self.new ≡ self.old) }
     {
         let mut replies = Vec::with_capacity(alloc, requests.len())?;

@@ -1,22 +1,26 @@
-//! The host that scripts run in, with its registry, and its state on two disks. It stands on `ash_registry`; on
-//! `ash_meaning`, whose plain evaluator takes its steps; on `ash_image`, which writes and reads the file of a state;
-//! and on `ash_disk`. The file is laid out as those of `ash_journal` are. It promises that each reply is that of the
-//! written steps, or out of memory with nothing changed; that a request for whose refusal there is a cause changes
-//! nothing, whatever the disks and the memory do; that an answer is on the first disk before it is given, so that no
-//! crash between two requests loses it; that where an answer can't be kept the host must be reopened; that a host which
-//! is closed is opened again in the same state; and that a store is opened with the registry's text that it was made
-//! with and no other. The second file is only shut.
+//! The host that scripts run in, with its registry, and its state in a journal on two disks. It stands on `ash_registry`;
+//! on `ash_meaning`, whose plain evaluator takes its steps; on `ash_image`, which writes and reads the image of a state;
+//! and on `ash_journal`, which keeps images and records through every crash. It promises that each reply is that of the
+//! written steps, or a refusal with nothing changed; that a request for whose refusal there is a cause changes nothing,
+//! whatever the disks and the memory do; that at every moment of a request a crash leaves the state before it or the one
+//! after it, and once it is answered the latter; that where an answer can't be kept the host must be reopened, and has one
+//! of the two states then; that a snapshot, a refusal and an opening leave the state as it is at every moment; and that a
+//! store is opened with the registry's text that it was made with and no other.
 //!
-//! In reading order: `fault` (why there is no store), `front` (how a file begins), `saving` (the file of a state, and
-//! how it is kept), `store` (making a store and finding its state), `host`. The words of the clauses stand in
-//! `specs/Hosting` (a host and its requests), `specs/Running` (a list of requests as a run of the written steps) and
-//! `specs/Store` (its disks).
+//! In reading order: `fault` (why there is no store), `contents` (which state an image and records are read as), `keeping`
+//! (a state as a record more, or as a new generation), `front` (how a file begins), `store` (making a store and finding
+//! its state), `host`, `lives` (the theorem). The words of the clauses stand in `specs/States` (what files hold, said of
+//! states), `specs/Contents`, `specs/Keeping`, `specs/Store`, `specs/Hosting` (a host and its requests), `specs/Requests`
+//! (their parts), `specs/Running` (a list of requests as a run of the written steps) and `specs/Lives` (everything that
+//! can happen to a store).
 #![tactic(auto)]
 
+mod contents;
 pub mod fault;
 mod front;
 pub mod host;
-mod saving;
+mod keeping;
+pub mod lives;
 mod store;
 
 pub use ash_meaning::checking::check_source;

@@ -1,83 +1,122 @@
 // Making a store on two disks, and finding its state there.
 
-ghost use Rattle.std.specs.Prelude.{◌≡◌, length, IsTrue, IfOk};
-ghost use Rattle.ash_disk.specs.Device.{IsOnlyRead};
+ghost use Rattle.std.specs.Prelude.{◌≡◌};
+ghost use Rattle.ash_journal.specs.Journal.{first_disk, second_disk};
+ghost use Rattle.ash_durable.specs.Store.{Finds, LooksFor, Makes, Settled};
 ghost use Rattle.ash_registry.specs.Registered.{registered};
-ghost use Rattle.ash_durable.specs.Store.{Finds, Makes, TellsRead, TellsState};
 
-use crate::fault::StoreFault;
-use crate::front::{front_of, shut};
-use crate::saving::file_of;
-use ash_disk::{Disk, write_durably};
-use ash_image::image::{FileContent, read_file};
+use crate::contents::state_in;
+use crate::fault::{OpenRefused, StoreFault};
+use crate::front::front_of;
+use crate::keeping::image_of;
+use ash_disk::Disk;
+use ash_journal::{Journal, Opened};
 use ash_meaning::plain::PlainState;
 use ash_registry::Registry;
 use std::alloc::Global;
 
-/// Makes a store of this state. Its file is made before anything is written.
-pub fn make<D: Disk>(
+/// The image of a state, for two disks of which neither file is open.
+fn first_image<D: Disk>(
     alloc: Global,
     state: &PlainState,
     a: &mut D,
     b: &mut D,
-) -> Result<(), StoreFault>
-    ensures { Makes D.Disk state.now a.old b.old result a.new b.new }
+) -> Result<Vec<u8>, StoreFault>
+    ensures { LooksFor D.Disk state.now a.old b.old result a.new b.new }
 {
     let first = front_of(a)?;
     let second = front_of(b)?;
     if first.is_open() || second.is_open() {
         return Err(StoreFault::AlreadyThere);
     }
-    let file = file_of(alloc, state)?;
-    shut(b, second)?;
-    write_durably(a, 0, &file)?;
-    Ok(())
+    Ok(image_of(alloc, state)?)
 }
 
-/// All bytes of a file of this length.
-fn whole<D: Disk>(alloc: Global, disk: &mut D, count: u64) -> Result<Vec<u8>, StoreFault>
-    ensures whole { IfOk result (λ bytes. IsTrue (D.honest disk.old) → count ≡ length (D.seen disk.old) → bytes.items ≡ D.seen disk.old) }
-    ensures only_read { IsOnlyRead D.Disk disk.old disk.new }
-    ensures cause { TellsRead D.Disk disk.old result disk.new }
+/// Makes a store of this state: its first generation. Its image is made before anything is written.
+///
+/// Faults, the first that holds: `DeviceFailed`, `AlreadyThere`, `NoMemory`. Nothing is written at the last two.
+pub fn make<D: Disk>(
+    alloc: Global,
+    state: &PlainState,
+    a: D,
+    b: D,
+) -> Result<Journal<D>, OpenRefused<D>>
+    ensures { Makes D.Disk state.now a b result }
 {
-    let mut bytes = vec![in alloc; 0; count as usize]?;
-    disk.read(0, &mut bytes)?;
-    Ok(bytes)
-}
-
-/// The state of which the bytes are a file, under this registry.
-fn state_in(alloc: Global, registry: Registry, bytes: &[u8]) -> Result<PlainState, StoreFault>
-    ensures { TellsState (registered registry) bytes.now result }
-{
-    let FileContent::Holds(stored) = read_file(alloc, bytes)? else {
-        return Err(StoreFault::Damaged(0));
+    let mut a = a;
+    let mut b = b;
+    let image = match first_image(alloc, state, &mut a, &mut b) {
+        Ok(image) => image,
+        Err(fault) => return Err(OpenRefused { fault, a, b }),
     };
-    if stored.registered.as_str() != registry.text() {
-        return Err(StoreFault::OtherInterface);
-    }
-    match PlainState::restored(alloc, registry, stored.seq, stored.modules)? {
-        Some(state) => Ok(state),
-        None => Err(StoreFault::Damaged(0)),
+    match Journal::create(alloc, a, b, &image) {
+        Ok(journal) => Ok(journal),
+        Err(refused) => Err(OpenRefused {
+            fault: refused.fault.into(),
+            a: refused.first,
+            b: refused.second,
+        }),
     }
 }
 
-/// Finds the state of a store under this registry. It writes nothing.
+/// A store that was found: its state, and the journal that holds it.
+#[derive(Drop)]
+pub struct Found<D> {
+    pub state: PlainState,
+    pub journal: Journal<D>,
+}
+
+/// Why a journal that was opened is of no use, and its disks.
+fn refused<D: Disk>(journal: Journal<D>, fault: StoreFault) -> OpenRefused<D>
+    ensures fault { result.fault ≡ fault }
+    ensures a { result.a ≡ first_disk journal }
+    ensures b { result.b ≡ second_disk journal }
+{
+    let (a, b) = journal.close();
+    OpenRefused { fault, a, b }
+}
+
+/// The state that an opened journal holds, and the journal once its gates are written over that a crash left.
+fn settled<D: Disk>(
+    alloc: Global,
+    registry: Registry,
+    opened: Opened<D>,
+) -> Result<Found<D>, OpenRefused<D>>
+    ensures { Settled D.Disk (registered registry) opened result }
+{
+    let Opened {
+        mut journal,
+        image,
+        records,
+    } = opened;
+    let state = match state_in(alloc, registry, &image, &records) {
+        Ok(state) => state,
+        Err(fault) => return Err(refused(journal, fault)),
+    };
+    match journal.settle() {
+        Ok(()) => Ok(Found { state, journal }),
+        Err(_) => Err(refused(journal, StoreFault::DeviceFailed)),
+    }
+}
+
+/// Finds the state of a store under this registry. Nothing is written before the whole state is read.
+///
+/// Faults, the first that holds: those of `Journal::open`, those of `state_in`, and `DeviceFailed` where the gates that
+/// a crash left are written over.
 pub fn find<D: Disk>(
     alloc: Global,
     registry: Registry,
-    a: &mut D,
-    b: &mut D,
-) -> Result<PlainState, StoreFault>
-    ensures { Finds D.Disk (registered registry) a.old b.old result a.new b.new }
+    a: D,
+    b: D,
+) -> Result<Found<D>, OpenRefused<D>>
+    ensures { Finds D.Disk (registered registry) a b result }
 {
-    let first = front_of(a)?;
-    let second = front_of(b)?;
-    if second.is_open() {
-        return Err(StoreFault::Damaged(0));
+    match Journal::open(alloc, a, b) {
+        Ok(opened) => settled(alloc, registry, opened),
+        Err(refused) => Err(OpenRefused {
+            fault: refused.fault.into(),
+            a: refused.first,
+            b: refused.second,
+        }),
     }
-    if !first.is_open() {
-        return Err(StoreFault::NoGeneration);
-    }
-    let bytes = whole(alloc, a, first.length)?;
-    state_in(alloc, registry, &bytes)
 }

@@ -3,13 +3,11 @@
 use Rattle.std.proofs.Common.{◌≡◌, ℕ, zero, suc, ◌+◌, ◌^◌, ◌<◌, ◌≤◌, Bool, true, false, cond, ltb, eqb, List, [], ◌∷◌, ◌++◌, length, take, drop, Option, Some, None, refl, sym, ap, subst, ◌∙◌, append_assoc, arith, inl, inr}
 use Rattle.std.specs.Bool.{IsTrue}
 use Rattle.std.specs.List.{flat_map, AllByRecursion}
-use Rattle.std.specs.Str.{bytes_eq}
 use Rattle.std.proofs.lemmas.Bool.{cases_lt, ltb-false, le-ltb, eqb-true}
 use Rattle.std.proofs.lemmas.List.{append-nil, nil_from_length, take_at, drop_at, take-append-drop, length-append, length-take, get_or-drop, get_or-take, get_or_past}
-use Rattle.std.proofs.lemmas.Slice.Eq.{bytes_eq-Decides}
 use Rattle.byteorder.specs.Endian.{little_number, little_from}
 use Rattle.byteorder.specs.Numbers.{little_from-lt, little_number-reads_back, length-bytes_low_first}
-use Rattle.ash_image.specs.Fields.{number, text, items, ◌>>=◌, as_at, checked_at, pair_at, number_at, front_at, text_at, past_number, past_bytes, after_number, before_number, times_at, items_at, whole}
+use Rattle.ash_image.specs.Fields.{number, text, items, ◌>>=◌, as_at, checked_at, pair_at, number_at, front_at, text_at, past_number, after_number, before_number, times_at, items_at, whole}
 use Rattle.ash_image.proofs.Numbers.{IsBytes, bytes_back}
 
 IsBytes-drop : (n : ℕ) (bytes : List ℕ) → IsBytes bytes → IsBytes (drop n bytes)
@@ -21,12 +19,6 @@ IsBytes-take n bytes h i =
       | inl lt ↦ rw (get_or-take n bytes i 0 lt) (h i)
       | inr le ↦ rw (get_or_past (take n bytes) i 0 (omega (arith, length-take n bytes))) (omega arith)
     ]
-
--- what is in bytes is bytes
-pub IsBytes-middle : (before middle after bytes : List ℕ) → bytes ≡ before ++ (middle ++ after) → IsBytes bytes → IsBytes middle
-IsBytes-middle before middle after bytes is h =
-    let rest : IsBytes (middle ++ after) = subst IsBytes (drop_at before (middle ++ after) (length before) refl) (IsBytes-drop (length before) (before ++ (middle ++ after)) (subst IsBytes is h)) in
-    subst IsBytes (take_at middle after (length middle) refl) (IsBytes-take (length middle) (middle ++ after) rest)
 
 -- the value of a step that gave one
 pub bind_some : {A B : Type 0} (o : Option A) (f : A → Option B) (y : B) → (o >>= f) ≡ Some y → (x : A) × (o ≡ Some x) × (f x ≡ Some y)
@@ -122,18 +114,6 @@ pub past_number-again : (size value : ℕ) (rest : List ℕ) → value < 256 ^ s
 past_number-again size value rest lt =
     ap (λ (o : Option (ℕ × List ℕ)). o >>= λ x. cond (eqb x.0 value) (Some x.1) None) ((number_field size).again value rest lt)
     ∙ ap (λ (b : Bool). cond b (Some rest) None) (eqb-same value)
-
-pub past_bytes-takes : (mark bytes rest : List ℕ) → IsBytes bytes → past_bytes mark bytes ≡ Some rest → Takes bytes mark rest
-past_bytes-takes mark bytes rest fits e =
-    let g = passed (bytes_eq (take (length mark) bytes) mark) (drop (length mark) bytes) rest e in
-    let same : take (length mark) bytes ≡ mark = (bytes_eq-Decides (take (length mark) bytes) mark).0 g.0 in
-    let one : Takes bytes mark (drop (length mark) bytes) = record { parts = sym (take-append-drop (length mark) bytes) ∙ ap (λ (t : List ℕ). t ++ drop (length mark) bytes) same; rest_fits = IsBytes-drop (length mark) bytes fits } in
-    subst (λ (r : List ℕ). Takes bytes mark r) g.1 one
-
-pub past_bytes-again : (mark rest : List ℕ) → past_bytes mark (mark ++ rest) ≡ Some rest
-past_bytes-again mark rest =
-    let same : bytes_eq (take (length mark) (mark ++ rest)) mark ≡ true = (bytes_eq-Decides (take (length mark) (mark ++ rest)) mark).1 (take_at mark rest (length mark) refl) in
-    rw (same, drop_at mark rest (length mark) refl) refl
 
 pub after_number-field : {A : Type 0} {spell : A → List ℕ} {fits : A → Type 0} {read : List ℕ → Option (A × List ℕ)}
     → (size value : ℕ) → value < 256 ^ size → IsField spell fits read → IsField (λ x. number size value ++ spell x) fits (after_number size value read)

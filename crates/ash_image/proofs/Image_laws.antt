@@ -1,4 +1,4 @@
--- The two laws of an image and of its file: what is read is depicted, and what is depicted is read.
+-- The two laws of an image: what is read is depicted, and what is depicted is read.
 use Rattle.std.proofs.Common.{◌≡◌, ℕ, zero, suc, ◌^◌, ◌<◌, true, false, ltb, leb, eqb, List, [], ◌∷◌, ◌++◌, length, Option, Some, refl, sym, ap, subst, ◌∙◌, append_assoc, arith}
 use Rattle.std.specs.Bool.{IsTrue}
 use Rattle.std.specs.Int.{w32, w64, cast_signed, cast_unsigned}
@@ -168,5 +168,5 @@ pub is_read : (bytes : List ℕ) (s : Snapshot) → Depicts bytes s → whole im
 is_read bytes s h = ap (whole image_at) h.1 ∙ whole_again image_field s h.0
 
 -- bytes depict one snapshot
-pub depicts_one : (bytes : List ℕ) (a b : Snapshot) → Depicts bytes a → Depicts bytes b → a ≡ b
-depicts_one bytes a b h g = some_is a b (sym (is_read bytes a h) ∙ is_read bytes b g)
+pub depicts_once : (bytes : List ℕ) (a b : Snapshot) → Depicts bytes a → Depicts bytes b → a ≡ b
+depicts_once bytes a b h g = some_is a b (sym (is_read bytes a h) ∙ is_read bytes b g)

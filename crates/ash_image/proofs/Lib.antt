@@ -4,6 +4,6 @@ pub mod Names
 pub mod Texts
 pub mod Item_loop
 pub mod Image_laws
-pub mod File_laws
+pub mod Body_laws
 pub mod Appended
 pub mod Limits

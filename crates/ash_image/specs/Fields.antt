@@ -1,7 +1,6 @@
 -- Fields of a format: how each is spelled, and how it is read from the front of bytes.
 use Rattle.std.specs.Prelude.{◌≡◌, ℕ, zero, suc, ◌==◌, nat_lt, Bool, if◌then◌else◌, List, [], ◌∷◌, ◌++◌, length, take, drop, Option, Some, None, Result, Ok, Err}
 use Rattle.std.specs.List.{flat_map}
-use Rattle.std.specs.Str.{bytes_eq}
 use Rattle.byteorder.specs.Endian.{little_bytes, little_number}
 use Rattle.ash_image.specs.declared.image.fields.Unread.{Unread}
 use Rattle.ash_image.specs.declared.image.fields.Unread.TheVariants as reasons
@@ -55,10 +54,6 @@ text_at size bytes = number_at size bytes >>= λ count. front_at count.0 count.1
 -- the bytes after a number that is always this one
 abbrev pub past_number : ℕ → ℕ → List ℕ → Option (List ℕ)
 past_number size value bytes = number_at size bytes >>= λ x. if x.0 == value then Some x.1 else None
-
--- the bytes after bytes that are always these
-abbrev pub past_bytes : List ℕ → List ℕ → Option (List ℕ)
-past_bytes mark bytes = if bytes_eq (take (length mark) bytes) mark then Some (drop (length mark) bytes) else None
 
 -- what stands behind a number that is always this one
 abbrev pub after_number : {A : Type 0} → ℕ → ℕ → (List ℕ → Option (A × List ℕ)) → List ℕ → Option (A × List ℕ)

@@ -1,20 +1,17 @@
--- The image of a host's state with the text of what is registered, byte for byte, and the file around it.
-use Rattle.std.specs.Prelude.{◌≡◌, ℕ, ◌<◌, ◌≤◌, ◌^◌, Bool, true, false, List, [], ◌∷◌, ◌++◌, length, string_bytes, Option, Some, None, ⊤, FitsSigned}
+-- The image of a host's state with the text of what is registered, byte for byte, and the body of a record that leads
+-- to a state.
+use Rattle.std.specs.Prelude.{◌≡◌, ℕ, ◌<◌, ◌≤◌, ◌^◌, Bool, true, false, List, ◌∷◌, ◌++◌, length, string_bytes, ⊤, FitsSigned}
 use Rattle.std.specs.Bool.{IsTrue}
 use Rattle.std.specs.Str.{IsUtf8}
 use Rattle.std.specs.Int.{w32, w64, cast_unsigned}
 use Rattle.std.specs.List.{AllByRecursion}
 use Rattle.ash_host.specs.declared.word.Word.{Word}
 use Rattle.ash_host.specs.declared.word.Word.TheVariants as words
-use Rattle.ash_journal.specs.Layout.{solid}
-use Rattle.ash_journal.specs.Layout as layout
 use Rattle.ash_meaning.specs.Kept.{scripts_in, scripts_of}
 use Rattle.ash_meaning.specs.State.{Script}
 use Rattle.ash_meaning.specs.declared.kept.ModuleParts.{ModuleParts}
 use Rattle.ash_meaning.specs.Step.{is_module_name, max_modules, are_ascending, names_of_scripts}
 use Rattle.ash_image.specs.declared.image.Stored.{Stored}
-use Rattle.ash_image.specs.declared.image.FileContent.{FileContent}
-use Rattle.ash_image.specs.declared.image.FileContent.TheVariants as contents
 use Rattle.ash_image.specs.Fields.{number, text, items}
 
 -- what an image is of: the text of what was registered, the modules that were kept, and how many requests had been
@@ -133,30 +130,19 @@ pub record Fits (s : Snapshot) : Type 0 where
 abbrev pub Depicts : List ℕ → Snapshot → Type 0
 Depicts bytes snapshot = Fits snapshot × (bytes ≡ image_of snapshot)
 
--- ---- the file
+-- ---- the body of a record
 
--- the generation of the one file of a store
-abbrev pub generation : ℕ
-generation = 1
+-- the tag of a body that is a whole image
+abbrev pub whole_tag : ℕ
+whole_tag = 1
 
--- the file of a snapshot: its image with no record, and after it a gate that is 0
-abbrev pub file_of : Snapshot → List ℕ
-file_of snapshot = solid generation (image_of snapshot) [] ++ 0 ∷ []
+-- the body of a record that leads from every state to that of a snapshot: the tag, and the image
+abbrev pub body_of : Snapshot → List ℕ
+body_of s = whole_tag ∷ image_of s
 
--- The bytes are a file with this image and no record, and the gate after the image is 0. Anything may stand after that:
--- an older file's bytes may be left there.
-pub record HasImage (bytes image : List ℕ) : Type 0 where
-  pub file : layout.IsFile generation image [] bytes
-  pub gate_is : file.gate ≡ 0
-
--- The bytes are the file of a snapshot, and after it anything.
-abbrev pub IsFile : List ℕ → Snapshot → Type 0
-IsFile bytes snapshot = Fits snapshot × HasImage bytes (image_of snapshot)
-
--- a snapshot that has a file
-pub record FitsFile (snapshot : Snapshot) : Type 0 where
-  pub image : Fits snapshot
-  pub file : layout.Fits generation (image_of snapshot) []
+-- The bytes are the body of a record that leads to the state of a snapshot.
+abbrev pub IsBody : List ℕ → Snapshot → Type 0
+IsBody body s = Fits s × (body ≡ body_of s)
 
 -- ---- what the code's types stand for
 
@@ -167,8 +153,3 @@ snapshot_read s = record { registered = string_bytes s.registered; modules = scr
 -- what is written, by its parts
 abbrev pub snapshot_in : List ℕ → List ModuleParts → ℕ → Snapshot
 snapshot_in registered parts seq = record { registered = registered; modules = scripts_in parts; seq = seq }
-
--- what a file holds
-abbrev pub held : FileContent → Option Snapshot
-held (contents.Holds s) = Some (snapshot_read s)
-held _ = None

@@ -6,8 +6,8 @@ use Rattle.ash_host.specs.declared.word.Word.{Word}
 use Rattle.ash_host.specs.declared.word.Word.TheVariants as words
 use Rattle.ash_meaning.specs.State.{Script}
 use Rattle.ash_meaning.specs.Step.{is_module_name, max_modules, are_ascending, names_of_scripts}
-use Rattle.ash_image.specs.Fields.{◌>>=◌, as_at, checked_at, pair_at, number_at, text_at, after_number, before_number, items_at}
-use Rattle.ash_image.specs.Image.{Snapshot, version, max_text, max_source, max_globals}
+use Rattle.ash_image.specs.Fields.{◌>>=◌, as_at, checked_at, pair_at, number_at, text_at, after_number, past_number, before_number, items_at, whole}
+use Rattle.ash_image.specs.Image.{Snapshot, version, whole_tag, max_text, max_source, max_globals}
 
 -- the value of a word with this tag; a handle names an object, of which there is none
 unfoldable pub value_at : ℕ → List ℕ → Option (Word × List ℕ)
@@ -63,3 +63,7 @@ registered_at = checked_at is_text (text_at 4)
 unfoldable pub image_at : List ℕ → Option (Snapshot × List ℕ)
 image_at = as_at (λ (x : List ℕ × (ℕ × List Script)). record { registered = x.0; modules = x.1.1; seq = x.1.0 })
     (after_number 2 version (pair_at registered_at (pair_at (number_at 8) (after_number 8 0 (after_number 2 0 (before_number 4 0 modules_at))))))
+
+-- what the whole of a record's body leads to: an image follows the tag
+unfoldable pub whole_body : List ℕ → Option Snapshot
+whole_body bytes = past_number 1 whole_tag bytes >>= λ image. whole image_at image

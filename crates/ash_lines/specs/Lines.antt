@@ -4,7 +4,7 @@ use Rattle.std.specs.List.{list_all}
 use Rattle.std.specs.Str.{bytes_eq}
 use Rattle.ash_meaning.specs.declared.request.Argument.{Argument}
 use Rattle.ash_meaning.specs.declared.request.Argument.TheVariants.{Truth, Number}
-use Rattle.ash_meaning.specs.State.{Request, Call, Discard, Global, Seq}
+use Rattle.ash_meaning.specs.State.{Request, Call, Discard, Global, Seq, Snapshot}
 use Rattle.ash_meaning.specs.State as state
 
 -- what one request asks: something of the host, or to end the run; or it is no request, or too long a line
@@ -139,6 +139,7 @@ verb_spelling verb words =
     else if bytes_eq verb (codes "get") then get_spelling words
     else if bytes_eq verb (codes "discard") then discard_spelling words
     else if bytes_eq verb (codes "seq") then lone_spelling (Asked Seq) words
+    else if bytes_eq verb (codes "snapshot") then lone_spelling (Asked Snapshot) words
     else if bytes_eq verb (codes "quit") then lone_spelling Quit words
     else Says BadRequest
 

@@ -13,7 +13,7 @@ use Rattle.ash_parse.specs.Faults.{part_text}
 use Rattle.ash_lines.specs.declared.reply.Details as details
 use Rattle.ash_lines.specs.declared.reply.Details.TheVariants as the_details
 use Rattle.ash_meaning.specs.Meaning.{End, Finished, Threw, Aborted}
-use Rattle.ash_meaning.specs.State.{Reply, Answered, Value, Number, Refused}
+use Rattle.ash_meaning.specs.State.{Reply, Answered, Value, Number, Done, Refused}
 
 -- what is told of a line: the host's reply, that the run ends, or why it is no request
 pub data Told : Type 0 where
@@ -77,6 +77,7 @@ refusal_name refusals.SequenceSpent = codes "410 SequenceSpent"
 refusal_name refusals.DeviceFailed = codes "507 DeviceFailed"
 refusal_name refusals.Reopen = codes "508 Reopen"
 refusal_name refusals.NoMemory = codes "509 NoMemory"
+refusal_name refusals.GenerationSpent = codes "511 GenerationSpent"
 
 -- what a refusal tells of a source: an offset in it, the word of a part that the profile doesn't have, or classes by name
 pub data Details : Type 0 where
@@ -149,6 +150,7 @@ abbrev pub reply_text : Reply → List ℕ
 reply_text (Answered end seq) = end_text end ++ seq_text seq
 reply_text (Value word) = codes "ok " ++ word_text word
 reply_text (Number seq) = codes "ok " ++ decimal seq
+reply_text Done = codes "ok"
 reply_text (Refused refusal) = codes "refused " ++ refusal_text refusal
 
 abbrev pub told_text : Told → List ℕ

@@ -1,7 +1,7 @@
 -- What the code's reading of a line stands for.
 use Rattle.std.specs.Prelude.{ℕ, List, [], ◌∷◌, ◌++◌, Option, option_map}
 use Rattle.ash_meaning.specs.declared.request.Argument.{Argument}
-use Rattle.ash_meaning.specs.State.{Call, Discard, Global, Seq}
+use Rattle.ash_meaning.specs.State.{Call, Discard, Global, Seq, Snapshot}
 use Rattle.ash_lines.specs.Lines.{Asked, Quit, BadRequest, Spelling, Says, Loads}
 use Rattle.ash_lines.specs.declared.spelled.Spelled.{Spelled}
 use Rattle.ash_lines.specs.declared.spelled.Spelled.TheVariants as spelled
@@ -13,6 +13,7 @@ spelling_of (spelled.Call script function) arguments = Says (Asked (Call script.
 spelling_of (spelled.Discard name) arguments = Says (Asked (Discard name.now))
 spelling_of (spelled.Global script name) arguments = Says (Asked (Global script.now name.now))
 spelling_of spelled.Seq arguments = Says (Asked Seq)
+spelling_of spelled.Snapshot arguments = Says (Asked Snapshot)
 spelling_of spelled.Quit arguments = Says Quit
 spelling_of spelled.Bad arguments = Says BadRequest
 

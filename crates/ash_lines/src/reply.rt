@@ -68,6 +68,7 @@ fn put_reply<K: Sink>(sink: &mut K, reply: &Reply) -> Result<(), WriteFault>
             let mut digits = Buffer::new();
             put_all(sink, &[b"ok ".as_slice(), digits.format(*seq).as_bytes()])
         }
+        Reply::Done => sink.put(b"ok"),
         Reply::Refused(refusal) => put_refusal(sink, refusal),
     }
 }
@@ -309,6 +310,7 @@ fn refusal_name(refusal: &Refusal) -> &'static [u8]
         Refusal::DeviceFailed => b"507 DeviceFailed",
         Refusal::Reopen => b"508 Reopen",
         Refusal::NoMemory => b"509 NoMemory",
+        Refusal::GenerationSpent => b"511 GenerationSpent",
     }
 }
 

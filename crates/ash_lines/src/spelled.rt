@@ -3,7 +3,8 @@
 ghost use Rattle.std.specs.Prelude.{◌≡◌, ◌≤◌, ◌∷◌, [], true, Some, None, length, MatchOption, vec_capacity, if◌then◌else◌};
 ghost use Rattle.std.specs.List.{list_all};
 ghost use Rattle.ash_meaning.specs.declared.request.Argument.{Argument};
-ghost use Rattle.ash_lines.specs.Lines.{is_word, spelling, load_spelling, call_spelling, get_spelling, discard_spelling, verb_spelling, arguments_of};
+ghost use Rattle.ash_lines.specs.Lines.{Line, Says, is_word, spelling, load_spelling, call_spelling, get_spelling};
+ghost use Rattle.ash_lines.specs.Lines.{discard_spelling, lone_spelling, verb_spelling, arguments_of};
 ghost use Rattle.ash_lines.specs.Words.{words_left};
 ghost use Rattle.ash_lines.specs.Spelled.{spelling_of, IsNotSingle, IsNoPair};
 ghost use Rattle.std.specs.Prelude.{List};
@@ -25,6 +26,7 @@ pub enum Spelled<'a> {
     Discard { name: &'a str },
     Global { script: &'a str, name: &'a str },
     Seq,
+    Snapshot,
     Quit,
     Bad,
 }
@@ -62,17 +64,23 @@ fn by_verb<'a>(verb: &[u8], words: Words<'a>, arguments: &mut Vec<Argument>) -> 
     } else if is_same(verb, b"discard") {
         discard(words)
     } else if is_same(verb, b"seq") {
-        if words.is_empty() {
-            Spelled::Seq
-        } else {
-            Spelled::Bad
-        }
+        alone(Spelled::Seq, words)
+    } else if is_same(verb, b"snapshot") {
+        alone(Spelled::Snapshot, words)
     } else if is_same(verb, b"quit") {
-        if words.is_empty() {
-            Spelled::Quit
-        } else {
-            Spelled::Bad
-        }
+        alone(Spelled::Quit, words)
+    } else {
+        Spelled::Bad
+    }
+}
+
+/// A request of one word, if that is all of the line.
+fn alone<'a>(request: Spelled<'a>, words: Words<'_>) -> Spelled<'a>
+    ensures { (line : Line) (arguments : List Argument) → spelling_of request.entry arguments ≡ Says line
+        → spelling_of result arguments ≡ lone_spelling line (words_left words.entry.rest) }
+{
+    if words.is_empty() {
+        request
     } else {
         Spelled::Bad
     }

@@ -38,6 +38,7 @@ pub data Refusal : Type 0 where
   SequenceSpent : Refusal
   DeviceFailed : Refusal
   Reopen : Refusal
+  GenerationSpent : Refusal
   NoMemory : Refusal
 
 -- what the code's refusals stand for
@@ -77,4 +78,5 @@ refusal_of the.BadName = BadName
 refusal_of the.SequenceSpent = SequenceSpent
 refusal_of the.DeviceFailed = DeviceFailed
 refusal_of the.Reopen = Reopen
+refusal_of the.GenerationSpent = GenerationSpent
 refusal_of the.NoMemory = NoMemory

@@ -37,11 +37,13 @@ pub data Request : Type 0 where
   Discard : (name : List ℕ) → Request
   Global : (script : List ℕ) → (name : List ℕ) → Request
   Seq : Request
+  Snapshot : Request
 
 pub data Reply : Type 0 where
   Answered : (end : End) → (seq : ℕ) → Reply
   Value : (word : Word) → Reply
   Number : (seq : ℕ) → Reply
+  Done : Reply
   Refused : (refusal : Refusal) → Reply
 
 -- what the code's requests and replies stand for
@@ -52,6 +54,7 @@ request_of (requests.Call script function arguments) = Call script.now function.
 request_of (requests.Discard name) = Discard name.now
 request_of (requests.Global script name) = Global script.now name.now
 request_of requests.Seq = Seq
+request_of requests.Snapshot = Snapshot
 
 abbrev pub end_of : outcome.Outcome → End
 end_of (outcomes.Finished value) = Finished value
@@ -65,6 +68,7 @@ abbrev pub reply_of : reply.Reply → Reply
 reply_of (replies.Answer a) = answered a
 reply_of (replies.Value word) = Value word
 reply_of (replies.Seq seq) = Number seq
+reply_of replies.Done = Done
 reply_of (replies.Refused refusal) = Refused (refusal_of refusal)
 
 -- the reply of a call that answers or refuses
@@ -76,3 +80,8 @@ answer_of (Err refusal) = Refused (refusal_of refusal)
 abbrev pub word_of : Result Word refusal.Refusal → Reply
 word_of (Ok word) = Value word
 word_of (Err refusal) = Refused (refusal_of refusal)
+
+-- the reply of a call that does what is asked or refuses
+abbrev pub done_of : Result (Unit {0}) refusal.Refusal → Reply
+done_of (Ok done) = Done
+done_of (Err refusal) = Refused (refusal_of refusal)

@@ -15,7 +15,7 @@ use Rattle.ash_meaning.specs.Refusals.{Refusal}
 use Rattle.ash_meaning.specs.Refusals as refusals
 use Rattle.ash_meaning.specs.Tree.{Module, Function, Global as Variable}
 use Rattle.ash_meaning.specs.Meaning.{End, Finished, call, load_globals}
-use Rattle.ash_meaning.specs.State.{Script, State, Request, Load, Call, Discard, Global, Seq, Reply, Answered, Value, Number, Refused}
+use Rattle.ash_meaning.specs.State.{Script, State, Request, Load, Call, Discard, Global, Seq, Snapshot, Reply, Answered, Value, Number, Done, Refused}
 use Rattle.ash_meaning.specs.Checking.{TakesToTell}
 use Rattle.ash_meaning.specs.Reading.{Reading, read_source, module_read}
 
@@ -134,6 +134,7 @@ pub data Task : Type 0 where
   Remove : (name : List ℕ) → Task
   Read : (word : Word) → Task
   Count : Task
+  Rewrite : Task
 
 -- a task, or why there is none
 abbrev pub Demand : Type 0
@@ -192,6 +193,7 @@ task_of (Call script function arguments) state = calling script function argumen
 task_of (Discard name) state = discarding name state
 task_of (Global script name) state = read_in state.registered (find_script script state) name
 task_of Seq state = Ok Count
+task_of Snapshot state = Ok Rewrite
 
 -- why a request is refused, if it is
 abbrev pub first_refusal : Request → State → Option Refusal
@@ -218,6 +220,7 @@ perform budget (Run script function words) state =
 perform budget (Remove name) state = answer (Finished None) (without_script name state.modules) state
 perform budget (Read word) state = (Value word, state)
 perform budget Count state = (Number state.seq, state)
+perform budget Rewrite state = (Done, state)
 
 -- A refusal keeps the state.
 abbrev pub unless_refused : ℕ → Demand → State → Reply × State

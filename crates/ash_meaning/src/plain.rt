@@ -208,6 +208,7 @@ impl PlainState {
                 Err(refusal) => Reply::Refused(refusal),
             },
             Request::Seq => Reply::Seq(self.seq()),
+            Request::Snapshot => Reply::Done,
         }
     }
 }

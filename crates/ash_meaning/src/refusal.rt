@@ -75,6 +75,8 @@ pub enum Refusal {
     DeviceFailed,
     /// An earlier request failed half way: the store is to be opened again.
     Reopen,
+    /// The number of the store's generation has reached its last value, 2^64 - 1.
+    GenerationSpent,
     /// Memory was refused.
     NoMemory,
 }

@@ -29,6 +29,8 @@ pub enum Request<'a> {
     },
     /// Tell how many requests have been answered.
     Seq,
+    /// Write the whole state afresh. It changes nothing of the state.
+    Snapshot,
 }
 
 /// An argument as it is written in a request, before it is known which type it is wanted at.
@@ -52,6 +54,8 @@ pub enum Reply {
     Answer(Answer),
     Value(Word),
     Seq(u64),
+    /// What was asked is done, and there is no more to say.
+    Done,
     Refused(Refusal),
 }
 
@@ -64,6 +68,20 @@ impl From<Result<Answer, Refusal>> for Reply {
     fn from(outcome: Result<Answer, Refusal>) -> Self {
         match outcome {
             Ok(answer) => Reply::Answer(answer),
+            Err(refusal) => Reply::Refused(refusal),
+        }
+    }
+}
+
+impl From<Result<(), Refusal>> for Reply {
+    ghost use Rattle.std.specs.Prelude.{◌≡◌};
+    ghost use Rattle.ash_meaning.specs.State.{done_of, reply_of};
+
+    ghost from_gives = { λ result reply. reply_of reply ≡ done_of result };
+
+    fn from(outcome: Result<(), Refusal>) -> Self {
+        match outcome {
+            Ok(()) => Reply::Done,
             Err(refusal) => Reply::Refused(refusal),
         }
     }

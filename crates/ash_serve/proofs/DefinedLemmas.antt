@@ -1,8 +1,11 @@
--- Lines that a host over two disks answered in turn are a run of the definition, up to the first failure.
+-- Lines that a host over two disks answered in turn are a run of the definition, up to the first failure, and part of a
+-- life of its store.
 use Rattle.std.proofs.Common.{◌≡◌, ℕ, List, [], ◌∷◌, subst}
 use Rattle.ash_disk.specs.Device.{Device}
 use Rattle.ash_durable.specs.Hosting.{Hosted, Carries, CarriesAll}
+use Rattle.ash_durable.specs.Lives.{LivesOn}
 use Rattle.ash_durable.specs.Running.{RunsToFailure}
+use Rattle.ash_durable.proofs.LivesOn.{lives_on}
 use Rattle.ash_durable.proofs.Running.{runs_to_failure}
 use Rattle.ash_lines.specs.Lines.{Line, Asked, Quit, BadRequest, LineTooLong}
 use Rattle.ash_lines.specs.Replies.{Told, Replied, Left, NoRequest, LongLine}
@@ -25,3 +28,6 @@ carries_asked device budget old (line ∷ lines) (answer ∷ replies) new h = ab
 
 pub answers_run : {D : Type 0} (device : Device D) (budget : ℕ) (old : Hosted D) (lines : List Line) (replies : List Told) (new : Hosted D) → AnswersAll (Carries device) budget old lines replies new → RunsToFailure budget old (asked lines) (replied replies) new
 answers_run device budget old lines replies new h = runs_to_failure device budget old (asked lines) (replied replies) new (carries_asked device budget old lines replies new h)
+
+pub answers_live : {D : Type 0} (device : Device D) (budget : ℕ) (old : Hosted D) (lines : List Line) (replies : List Told) (new : Hosted D) → AnswersAll (Carries device) budget old lines replies new → LivesOn device budget old (asked lines) (replied replies) new
+answers_live device budget old lines replies new h = lives_on device budget old (asked lines) (replied replies) new (carries_asked device budget old lines replies new h)

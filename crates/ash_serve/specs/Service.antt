@@ -2,17 +2,23 @@
 use Rattle.std.specs.Prelude.{◌≡◌, ℕ, List, Option, Result, Ok, Err}
 use Rattle.ash_disk.specs.Device.{Device}
 use Rattle.ash_durable.specs.Hosting.{Hosted, IsSaved, Carries}
+use Rattle.ash_durable.specs.Lives.{LivesOn}
 use Rattle.ash_durable.specs.declared.fault.OpenRefused.{OpenRefused}
-use Rattle.ash_serve.specs.Running.{RunEnds}
+use Rattle.ash_lines.specs.Lines.{Line}
+use Rattle.ash_lines.specs.Replies.{Told}
+use Rattle.ash_serve.specs.Running.{RunEnds, asked, replied}
+use Rattle.ash_serve.specs.Serving.{AnswersAll}
 use Rattle.ash_serve.specs.declared.fault.RunFault.{RunFault}
 use Rattle.ash_serve.specs.declared.program.fault.Fault.{Fault}
 use Rattle.ash_serve.specs.declared.program.fault.Fault.TheVariants.{Store, Run}
 
--- A host ran, and if its state was on its disks, it is there afterwards.
+-- A host ran, and if its files held its state, they do so afterwards. Every life of its store goes on with what was
+-- answered.
 pub record Ran {D : Type 0} (device : Device D) (host : Hosted D) (input : Option (List ℕ)) (budget : ℕ) (before : Option (List ℕ)) (result : Result (Unit {0}) RunFault) (after : Option (List ℕ)) : Type 0 where
   pub last : Hosted D
   pub ends : RunEnds input (Carries device) budget host before result last after
   pub saved : IsSaved device host → IsSaved device last
+  pub lives : (lines : List Line) (replies : List Told) → AnswersAll (Carries device) budget host lines replies last → LivesOn device budget host (asked lines) (replied replies) last
 
 -- what came of serving by a host
 abbrev pub ServesBy : {D : Type 0} → Device D → Hosted D → Option (List ℕ) → ℕ → Option (List ℕ) → Result (Unit {0}) Fault → Option (List ℕ) → Type 0

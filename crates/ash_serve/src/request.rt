@@ -90,6 +90,7 @@ fn carry_out<S: Source, H: Carrier>(
             Ok(Some(Told::Replied(host.carry_out(&request, budget))))
         }
         Spelled::Seq => Ok(Some(Told::Replied(host.carry_out(&Request::Seq, budget)))),
+        Spelled::Snapshot => Ok(Some(Told::Replied(host.carry_out(&Request::Snapshot, budget)))),
         Spelled::Quit => Ok(Some(Told::Left)),
         Spelled::Bad => Ok(Some(Told::NoRequest)),
     }

@@ -2,6 +2,7 @@
 
 ghost use Rattle.std.specs.Prelude.{List};
 ghost use Rattle.ash_durable.specs.Hosting.{Carries, IsSaved};
+ghost use Rattle.ash_durable.specs.Lives.{LivesOn};
 ghost use Rattle.ash_durable.specs.Running.{RunsToFailure};
 ghost use Rattle.ash_lines.specs.Lines.{Line};
 ghost use Rattle.ash_lines.specs.Replies.{Told};
@@ -25,8 +26,9 @@ pub(crate) const ROOM: usize = 8192;
 ///
 /// `Truncated` where the input ends inside a request, `TooLong` past 2^40 bytes, `Read` and `Write` where the
 /// reader or the writer fails, `NoMemory` where there is none for the buffers; no other memory is taken. However it
-/// ends, the state of a host that runs is on its disks afterwards, if it was before.
-#[tactic(auto, using(crate::proofs::DefinedLemmas::answers_run))]
+/// ends, the files of a host that runs hold its state afterwards, if they did before, and every life of its store goes on:
+/// each request of which a byte of the answer was written is in every image that a crash may leave.
+#[tactic(auto, using(crate::proofs::DefinedLemmas::answers_run, crate::proofs::DefinedLemmas::answers_live))]
 pub fn run<D: Disk, R: Read + Drop, W: Write>(
     alloc: Global,
     reader: R,
@@ -39,6 +41,10 @@ pub fn run<D: Disk, R: Read + Drop, W: Write>(
     // The requests that the host answered are a run of the written steps, up to the first answer that is lost.
     ensures defined { (lines : List Line) (replies : List Told) → AnswersAll (Carries D.Disk) budget host.old lines replies host.new
         → RunsToFailure budget host.old (asked lines) (replied replies) host.new }
+    // Every life of the store goes on with the requests that were answered, however the run ends: each of them, written or
+    // not, is acknowledged in it.
+    ensures lives { (lines : List Line) (replies : List Told) → AnswersAll (Carries D.Disk) budget host.old lines replies host.new
+        → LivesOn D.Disk budget host.old (asked lines) (replied replies) host.new }
     ensures saved { IsSaved D.Disk host.old → IsSaved D.Disk host.new }
 {
     let Ok(mut source) = Reader::new(alloc, reader) else {

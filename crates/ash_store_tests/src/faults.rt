@@ -1,10 +1,10 @@
 //! Stores that are there already or damaged, and disks that fail.
 
 use crate::hosts::{
-    EMPTY, SOURCE, call, check, check_bytes, closed, created, discard, disk, found, fuse, global,
-    inner, load, opened, replies_to, seq, used,
+    EMPTY, SOURCE, State, call, check, check_bytes, closed, created, discard, disk, found,
+    found_state, fuse, global, image_after, inner, load, opened, replies_to, seq, snapshot, used,
 };
-use ash_disk::{FuseDisk, MemoryDisk};
+use ash_disk::{FuseDisk, MemoryDisk, Survives};
 use ash_durable::{Host, StoreFault};
 use ash_host::Word;
 use ash_meaning::refusal::Refusal;
@@ -49,14 +49,29 @@ fn files_that_are_open(rt: HostRuntime) -> Result<(), Fail> {
         &Some(StoreFault::AlreadyThere),
         "made over an open file",
     );
+    let made = not_made(alloc, &[1, 0], &[])?;
+    check(
+        &rt,
+        &made,
+        &Some(StoreFault::AlreadyThere),
+        "made over an open first file",
+    );
     let damaged = Err(StoreFault::Damaged(0));
     check(&rt, &found(alloc, &EMPTY, &[1, 0])?, &damaged, "both open");
     check(
         &rt,
-        &found(alloc, &[], &EMPTY)?,
+        &found(alloc, &[1, 0], &EMPTY)?,
         &damaged,
-        "the second open",
+        "the first no file",
     );
+    check(
+        &rt,
+        &found(alloc, &EMPTY, &EMPTY)?,
+        &damaged,
+        "one generation twice",
+    );
+    // The file that is open is the current one, whichever it is.
+    check(&rt, &found(alloc, &[], &EMPTY)?, &Ok(0), "the second open");
     Ok(())
 }
 
@@ -67,13 +82,14 @@ fn fused(alloc: Global, first: u64, second: u64) -> Result<Host<FuseDisk<MemoryD
 }
 
 /// What is refused of a host whose first write fails, in order.
-fn refusals(host: &mut Host<FuseDisk<MemoryDisk>>) -> [Option<Refusal>; 5] {
+fn refusals(host: &mut Host<FuseDisk<MemoryDisk>>) -> [Option<Refusal>; 6] {
     [
         load(host, SOURCE).err(),
         load(host, SOURCE).err(),
         call(host, &[]).err(),
         discard(host).err(),
         global(host, "n").err(),
+        snapshot(host).err(),
     ]
 }
 
@@ -91,6 +107,7 @@ fn check_refusals(
         Some(Refusal::Reopen),
         Some(Refusal::Reopen),
         Some(Refusal::Reopen),
+        Some(Refusal::Reopen),
     ];
     check(rt, &found, &(calls, wanted, 0), "after some calls");
     let (first, second) = closed(host);
@@ -99,12 +116,84 @@ fn check_refusals(
 
 #[test]
 fn a_first_write_that_fails(rt: HostRuntime) -> Result<(), Fail> {
-    // A store is made by three calls on the first disk: its length, a write and a sync. Then the write fails of the
-    // first request, or its sync.
-    let (first, second) = check_refusals(&rt, rt.alloc(), 3)?;
+    // A store is made by nine calls on the first disk: its length; its length once more and its first bytes; a write and
+    // a sync of its first gate; two writes and two syncs of the generation. Then the write fails of the first record.
+    let (first, second) = check_refusals(&rt, rt.alloc(), 9)?;
     check_bytes(&rt, first.bytes(), &EMPTY, "the first disk");
     check_bytes(&rt, second.bytes(), &[0], "the second disk");
-    check_refusals(&rt, rt.alloc(), 4)?;
+    // Or its sync, or the write of the gate before it, or the sync of that.
+    for (calls, gate) in [(10, 0), (11, 0), (12, 1)] {
+        let (first, second) = check_refusals(&rt, rt.alloc(), calls)?;
+        let image = first.bytes().get(..50).unwrap_or_default();
+        check_bytes(&rt, image, EMPTY.get(..50).unwrap_or_default(), "the image");
+        check(
+            &rt,
+            &first.bytes().get(50).copied(),
+            &Some(gate),
+            "the gate",
+        );
+        check_bytes(&rt, second.bytes(), &[0], "the second disk");
+    }
+    Ok(())
+}
+
+/// The disks of a host that has loaded a module and lost the answer to a call, since its first disk failed after so many
+/// calls.
+fn lost_call(rt: &impl Abort, alloc: Global, calls: u64) -> Result<(MemoryDisk, MemoryDisk), Fail> {
+    let mut host = fused(alloc, calls, 100)?;
+    load(&mut host, SOURCE)?;
+    let lost = call(&mut host, &[Argument::Number(5)]).err();
+    check(rt, &lost, &Some(Refusal::DeviceFailed), "the call");
+    let next = call(&mut host, &[Argument::Number(5)]).err();
+    check(rt, &next, &Some(Refusal::Reopen), "the next request");
+    let (first, second) = closed(host);
+    Ok((inner(first), inner(second)))
+}
+
+/// What opening gives after a crash that leaves such a part of what was not synced.
+fn after_crash(
+    alloc: Global,
+    disks: &(MemoryDisk, MemoryDisk),
+    survives: Survives,
+) -> Result<Result<State, StoreFault>, Fail> {
+    let first = image_after(&disks.0, usize::MAX, survives)?;
+    let second = image_after(&disks.1, usize::MAX, survives)?;
+    found_state(alloc, &first, &second)
+}
+
+const BEFORE: Result<State, StoreFault> = Ok((1, Some(2)));
+
+const AFTER: Result<State, StoreFault> = Ok((2, Some(7)));
+
+#[test]
+fn a_first_sync_that_fails(rt: HostRuntime) -> Result<(), Fail> {
+    // Nine calls make the store and four load the module; then the record is written. Its gate is 0 until it is synced.
+    let disks = lost_call(&rt, rt.alloc(), 14)?;
+    for survives in [Survives::Nothing, Survives::Everything] {
+        let found = after_crash(rt.alloc(), &disks, survives)?;
+        check(&rt, &found, &BEFORE, "after a crash");
+    }
+    for seed in 0..200 {
+        let found = after_crash(rt.alloc(), &disks, Survives::Part(seed))?;
+        check(&rt, &(seed, found), &(seed, BEFORE), "after a crash");
+    }
+    Ok(())
+}
+
+#[test]
+fn a_second_sync_that_fails(rt: HostRuntime) -> Result<(), Fail> {
+    // The record is written and synced, and its gate is written.
+    let disks = lost_call(&rt, rt.alloc(), 16)?;
+    let found = after_crash(rt.alloc(), &disks, Survives::Nothing)?;
+    check(&rt, &found, &BEFORE, "nothing survives");
+    let found = after_crash(rt.alloc(), &disks, Survives::Everything)?;
+    check(&rt, &found, &AFTER, "everything survives");
+    for seed in 0..200 {
+        let found = after_crash(rt.alloc(), &disks, Survives::Part(seed))?;
+        if found != BEFORE {
+            check(&rt, &(seed, found), &(seed, AFTER), "after a crash");
+        }
+    }
     Ok(())
 }
 
@@ -143,8 +232,8 @@ fn is_lost_at_the_third(replies: &[Reply]) -> bool {
 
 #[test]
 fn requests_after_a_failure(rt: HostRuntime) -> Result<(), Fail> {
-    // Five calls on the first disk make the store and keep the answer to the load.
-    let mut host = fused(rt.alloc(), 5, 100)?;
+    // Nine calls on the first disk make the store, and four keep the answer to the load.
+    let mut host = fused(rt.alloc(), 13, 100)?;
     let replies = replies_to(rt.alloc(), &mut host, &six_requests())?;
     let is_lost = is_lost_at_the_third(&replies);
     check(&rt, &is_lost, &true, "the replies after a failure");
@@ -190,55 +279,51 @@ fn reached(rt: &impl Abort, alloc: Global, calls: (u64, u64)) -> Option<u64> {
     }
 }
 
-type Reached = (u64, u64, Option<u64>);
+/// From so many calls on a store comes so far.
+type Reached = (u64, Option<u64>);
 
-/// Compares how far each store comes.
-fn check_reached(rt: &impl Abort, alloc: Global, rows: &[Reached]) {
-    for row in rows {
-        let (first, second, _) = *row;
-        let found = (first, second, reached(rt, alloc, (first, second)));
-        check(
-            rt,
-            &found,
-            row,
-            "calls of the first disk, of the second, and how far",
-        );
+/// How far a store is to come whose disk fails after so many calls.
+fn wanted_of(rows: &[Reached], calls: u64) -> Option<u64> {
+    let mut wanted = None;
+    for (from, reached) in rows {
+        if calls >= *from {
+            wanted = *reached;
+        }
+    }
+    wanted
+}
+
+/// Compares how far each store comes where one disk fails after so many calls, from none on.
+fn check_reached(rt: &impl Abort, alloc: Global, is_first: bool, rows: &[Reached]) {
+    for calls in 0..30 {
+        let fuses = if is_first { (calls, 100) } else { (100, calls) };
+        let found = (fuses, reached(rt, alloc, fuses));
+        let wanted = (fuses, wanted_of(rows, calls));
+        check(rt, &found, &wanted, "calls of the disks, and how far");
     }
 }
 
-// To make a store: length, write, sync. A request: write, sync. To open it: length, gate, file.
-static FIRST: [Reached; 12] = [
-    (0, 100, None),
-    (1, 100, None),
-    (2, 100, None),
-    (3, 100, Some(0)),
-    (4, 100, Some(0)),
-    (5, 100, Some(1)),
-    (6, 100, Some(1)),
-    (7, 100, Some(2)),
-    (8, 100, Some(2)),
-    (9, 100, Some(2)),
-    (10, 100, Some(3)),
-    (11, 100, Some(3)),
+// To make a store: its length; its length and its first bytes; write and sync the first gate; write and sync the generation,
+// and then its gate. A request: write and sync the record, and then its gate. To open the store: sync; its length and its
+// first bytes; the length of the image and of each of two records, and the bytes of each.
+static FIRST: [Reached; 5] = [
+    (0, None),
+    (1 + 2 + 2 + 4, Some(0)),
+    (9 + 4, Some(1)),
+    (13 + 4, Some(2)),
+    (17 + 1 + 2 + 3 * 2, Some(3)),
 ];
 
 #[test]
 fn a_fuse_at_each_call_of_the_first_disk(rt: HostRuntime) {
-    check_reached(&rt, rt.alloc(), &FIRST)
+    check_reached(&rt, rt.alloc(), true, &FIRST)
 }
 
-// To make a store: length, write, sync. To open it: length, gate.
-static SECOND: [Reached; 7] = [
-    (100, 0, None),
-    (100, 1, None),
-    (100, 2, None),
-    (100, 3, Some(2)),
-    (100, 4, Some(2)),
-    (100, 5, Some(3)),
-    (100, 6, Some(3)),
-];
+// To make a store: its length; its length and its first bytes; write and sync the first gate. To open it: sync; its length
+// and its first bytes.
+static SECOND: [Reached; 3] = [(0, None), (1 + 2 + 2, Some(2)), (5 + 1 + 2, Some(3))];
 
 #[test]
 fn a_fuse_at_each_call_of_the_second_disk(rt: HostRuntime) {
-    check_reached(&rt, rt.alloc(), &SECOND)
+    check_reached(&rt, rt.alloc(), false, &SECOND)
 }

@@ -1,8 +1,8 @@
 //! The calls of a host, each once, where memory is ample.
 
 use crate::hosts::{
-    SOURCE, call, check, check_text, discard, disk, global, load, made, opened, seq, shown,
-    used_file,
+    SOURCE, call, check, check_text, discard, disk, global, load, made, opened, second_generation,
+    seq, shown, snapshot, used,
 };
 use ash_disk::MemoryDisk;
 use ash_durable::Host;
@@ -32,7 +32,15 @@ fn each_call(rt: HostRuntime) -> Result<(), Fail> {
         "call",
     );
     check_globals(&rt, rt.alloc(), &host)?;
+    check_snapshot(&rt, rt.alloc(), &mut host)?;
+    check_globals(&rt, rt.alloc(), &host)?;
     check_discards(&rt, rt.alloc(), &mut host)
+}
+
+/// Puts its state into a new generation, and compares what is answered.
+fn check_snapshot(rt: &impl Abort, alloc: Global, host: &mut Host<MemoryDisk>) -> Result<(), Fail> {
+    check_text(rt, &shown(alloc, &snapshot(host))?, "Ok(())", "snapshot");
+    Ok(())
 }
 
 /// Compares the globals of that host, and its number after that.
@@ -73,7 +81,7 @@ fn carry_out_all(
     host.carry_out_all(alloc, requests, 1000)
 }
 
-static REQUESTS: [Request; 6] = [
+static REQUESTS: [Request; 7] = [
     Request::Load {
         name: "m",
         source: SOURCE,
@@ -87,6 +95,7 @@ static REQUESTS: [Request; 6] = [
         module: "m",
         name: "n",
     },
+    Request::Snapshot,
     Request::Discard { name: "m" },
     Request::Discard { name: "m" },
     Request::Seq,
@@ -106,7 +115,7 @@ fn each_request(rt: HostRuntime) -> Result<(), Fail> {
     check_text(
         &rt,
         &shown(rt.alloc(), &replies)?,
-        "[Refused(ModuleTaken), Answer(Answer { outcome: Finished(Some(Int(0))), seq: 2 }), Value(Int(0)), \
+        "[Refused(ModuleTaken), Answer(Answer { outcome: Finished(Some(Int(0))), seq: 2 }), Value(Int(0)), Done, \
          Answer(Answer { outcome: Finished(None), seq: 3 }), Refused(NoModule), Seq(3)]",
         "all requests",
     );
@@ -143,9 +152,10 @@ fn an_argument_that_does_not_fit(rt: HostRuntime) -> Result<(), Fail> {
     Ok(())
 }
 
-/// A host with the module `m`, whose number is the greatest that there is.
+/// A host with the module `m`, whose number is the greatest that there is: that stands from 27 on in a file whose image
+/// holds all of the state.
 fn spent(alloc: Global) -> Result<Host<MemoryDisk>, Fail> {
-    let first = used_file(alloc)?;
+    let first = second_generation(used(alloc)?)?;
     let (before, after) = (first.bytes().get(..27), first.bytes().get(35..));
     let mut file = Vec::from_slice(alloc, before.unwrap_or_default())?;
     file.extend_from_slice(&[0xff; 8])?;
@@ -161,6 +171,8 @@ fn a_number_that_is_spent(rt: HostRuntime) -> Result<(), Fail> {
     check(&rt, &load(&mut host, SOURCE).err(), &spent, "load");
     check(&rt, &call(&mut host, &[]).err(), &spent, "call");
     check(&rt, &discard(&mut host).err(), &spent, "discard");
+    // No number is given to a snapshot.
+    check(&rt, &snapshot(&mut host), &Ok(()), "snapshot");
     check_text(
         &rt,
         &shown(rt.alloc(), &global(&host, "n"))?,

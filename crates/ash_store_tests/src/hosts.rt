@@ -65,6 +65,15 @@ pub fn calls(disk: &MemoryDisk) -> usize {
     disk.calls()
 }
 
+/// What a crash after so many calls leaves of a disk, or after all calls where there are fewer.
+pub fn image_after(
+    disk: &MemoryDisk,
+    calls: usize,
+    survives: Survives,
+) -> Result<Vec<u8>, AllocError> {
+    disk.crash_image(calls.min(disk.calls()), survives)
+}
+
 /// What a crash leaves of a disk, where this survives of what was not synced.
 pub fn crashed(
     alloc: Global,
@@ -108,9 +117,26 @@ pub fn load<D: Disk>(host: &mut Host<D>, source: &[u8]) -> Result<Answer, Refusa
     host.load("m", source, 1000)
 }
 
+/// Calls the function `f` of a module.
+pub fn call_in<D: Disk>(
+    host: &mut Host<D>,
+    module: &str,
+    arguments: &[Argument],
+) -> Result<Answer, Refusal> {
+    host.call(module, "f", arguments, 1000)
+}
+
 /// Calls the function `f` of the module `m`.
 pub fn call<D: Disk>(host: &mut Host<D>, arguments: &[Argument]) -> Result<Answer, Refusal> {
-    host.call("m", "f", arguments, 1000)
+    call_in(host, "m", arguments)
+}
+
+/// Calls it with a number.
+pub fn add<D: Disk>(host: &mut Host<D>, number: i128) -> Result<(), Refusal> {
+    match call(host, &[Argument::Number(number)]) {
+        Ok(_) => Ok(()),
+        Err(refusal) => Err(refusal),
+    }
 }
 
 /// Takes the module `m` away.
@@ -126,6 +152,11 @@ pub fn replies_to<D: Disk>(
     host.carry_out_all(alloc, requests, 1000)
 }
 
+/// Puts the whole state into a new generation.
+pub fn snapshot<D: Disk>(host: &mut Host<D>) -> Result<(), Refusal> {
+    host.snapshot()
+}
+
 /// A global of the module `m`.
 pub fn global<D: Disk>(host: &Host<D>, name: &str) -> Result<Word, Refusal> {
     host.global("m", name)
@@ -134,6 +165,16 @@ pub fn global<D: Disk>(host: &Host<D>, name: &str) -> Result<Word, Refusal> {
 /// How many requests have been answered.
 pub fn seq<D: Disk>(host: &Host<D>) -> u64 {
     host.seq()
+}
+
+/// What is looked at of a host's state: its number, and the global `n` of the module `m`, if there is one.
+pub type State = (u64, Option<i32>);
+
+pub fn state<D: Disk>(host: &Host<D>) -> State {
+    match global(host, "n") {
+        Ok(Word::Int(number)) => (seq(host), Some(number)),
+        _ => (seq(host), None),
+    }
 }
 
 /// A host with a new store on such disks and nothing registered.
@@ -146,6 +187,12 @@ pub fn made(alloc: Global, a: &[u8], b: &[u8]) -> Result<Host<MemoryDisk>, Fail>
 pub fn found(alloc: Global, a: &[u8], b: &[u8]) -> Result<Result<u64, StoreFault>, Fail> {
     let (a, b) = (disk(alloc, a)?, disk(alloc, b)?);
     Ok(opened(alloc, a, b, Registry::new(alloc)).map(|host| seq(&host)))
+}
+
+/// The same for the host's state.
+pub fn found_state(alloc: Global, a: &[u8], b: &[u8]) -> Result<Result<State, StoreFault>, Fail> {
+    let (a, b) = (disk(alloc, a)?, disk(alloc, b)?);
+    Ok(opened(alloc, a, b, Registry::new(alloc)).map(|host| state(&host)))
 }
 
 /// A host that has answered two requests, after which `n` is 7.
@@ -169,4 +216,11 @@ pub fn with_modules(alloc: Global, names: &[&str]) -> Result<Host<MemoryDisk>, F
 pub fn used_file(alloc: Global) -> Result<MemoryDisk, Fail> {
     let (first, _) = closed(used(alloc)?);
     Ok(first)
+}
+
+/// The disk of the second generation, which holds the state of a host with a new store, and no record.
+pub fn second_generation(mut host: Host<MemoryDisk>) -> Result<MemoryDisk, Fail> {
+    snapshot(&mut host)?;
+    let (_, second) = closed(host);
+    Ok(second)
 }

@@ -1,10 +1,12 @@
 //! Stores with what is registered: damage to their bytes, and opening them with another registry.
 
-use crate::hosts::{check, closed, created, disk, load};
+use crate::hosts::{
+    check, check_bytes, closed, created, discard, disk, load, opened, second_generation, snapshot,
+};
 use ash_disk::MemoryDisk;
 use ash_durable::{Host, StoreFault};
 use ash_registry::{Registry, RegistryFault};
-use std::alloc::Global;
+use std::alloc::{AllocError, Global};
 use std::process::Abort;
 use std::test::Fail;
 
@@ -15,110 +17,354 @@ fn one_type(alloc: Global, name: &str) -> Result<Registry, RegistryFault> {
     Ok(registry)
 }
 
-/// Why a store of this file isn't opened with that type registered, if it isn't. The disks read as before.
+/// Why a store of this file isn't opened with that type registered, if it isn't. The disks read as before, and have had a
+/// sync each.
 fn refusal(alloc: Global, file: &[u8], name: &str) -> Result<Option<StoreFault>, Fail> {
-    let (a, b) = (disk(alloc, file)?, disk(alloc, &[0])?);
+    let (a, b) = (disk(alloc, file)?, disk(alloc, &[7])?);
     let Err(refused) = Host::open(alloc, a, b, one_type(alloc, name)?) else {
         return Ok(None);
     };
-    if refused.a.bytes() != file || refused.b.bytes() != [0].as_slice() {
+    if refused.a.bytes() != file || refused.b.bytes() != [7].as_slice() {
         return Err("a disk was changed".into());
+    }
+    if refused.a.calls() != 1 || refused.b.calls() != 1 {
+        return Err("a disk was written to".into());
     }
     Ok(Some(refused.fault))
 }
 
-/// The file of a store with the type `Tall` and a module.
-fn stored(alloc: Global) -> Result<MemoryDisk, Fail> {
+const SOURCE: &[u8] = b"int Tale = 2;";
+
+/// A host with the type `Tall` and a module.
+fn loaded(alloc: Global) -> Result<Host<MemoryDisk>, Fail> {
     let (a, b) = (MemoryDisk::new(alloc), MemoryDisk::new(alloc));
     let mut host = created(alloc, a, b, one_type(alloc, "Tall")?)?;
-    load(&mut host, b"int Tale = 2;")?;
-    let (first, _) = closed(host);
-    Ok(first)
+    load(&mut host, SOURCE)?;
+    Ok(host)
+}
+
+/// The files of such a store: with the module in the image, with it in a record after an empty image, and with it in an
+/// image, and a record that takes it away.
+#[derive(Clone, Copy, Debug, PartialEq)]
+enum Place {
+    Image,
+    Record,
+    ImageBeforeRecord,
+}
+
+fn stored(alloc: Global, place: Place) -> Result<MemoryDisk, Fail> {
+    let mut host = loaded(alloc)?;
+    match place {
+        Place::Image => second_generation(host),
+        Place::Record => {
+            let (first, _) = closed(host);
+            Ok(first)
+        }
+        Place::ImageBeforeRecord => {
+            snapshot(&mut host)?;
+            discard(&mut host)?;
+            let (_, second) = closed(host);
+            Ok(second)
+        }
+    }
 }
 
 /// What is done to the file.
 #[derive(Clone, Copy, Debug, PartialEq)]
 enum Damage {
-    None,
     /// Cut short to so many bytes.
     Cut(usize),
-    /// This byte stands at place 35.
-    Byte(u8),
-    /// This word stands in the place of the global's.
-    Word(&'static [u8]),
+    /// This byte stands at a place.
+    Byte(usize, u8),
+    /// The same for two places.
+    Two(usize, usize, u8),
+    /// This word stands in the place of the global's, which begins at a place, and the length that counts it is this at
+    /// another place.
+    Word(usize, &'static [u8], usize, u8),
 }
 
-/// The file with another word in the place of its global's, which is an `int`.
-fn with_word(alloc: Global, file: &[u8], word: &[u8]) -> Result<Vec<u8>, Fail> {
-    // The five bytes of the word stand before the number of objects and the gate.
-    let at = file.len().saturating_sub(10);
-    let behind = file.get(at.saturating_add(5)..).unwrap_or(&[]);
-    let mut changed = Vec::from_slice(alloc, file)?;
-    changed.truncate(at);
-    changed.extend_from_slice(word)?;
-    changed.extend_from_slice(behind)?;
-    // The length of the image.
-    let length = u8::try_from(word.len()).unwrap_or(0);
-    if let Some(old) = changed.get_mut(17) {
-        *old = old.wrapping_add(length).wrapping_sub(5);
+fn put(file: &mut Vec<u8>, place: usize, byte: u8) {
+    if let Some(old) = file.get_mut(place) {
+        *old = byte;
     }
+}
+
+/// The file with another word in the place of its global's, which is an `int` of 5 bytes.
+fn with_word(alloc: Global, file: &[u8], at: usize, word: &[u8]) -> Result<Vec<u8>, AllocError> {
+    let before = file.get(..at).unwrap_or_default();
+    let after = file.get(at.saturating_add(5)..).unwrap_or_default();
+    let mut changed = Vec::from_slice(alloc, before)?;
+    changed.extend_from_slice(word)?;
+    changed.extend_from_slice(after)?;
     Ok(changed)
 }
 
-fn damaged(alloc: Global, file: &[u8], damage: Damage) -> Result<Vec<u8>, Fail> {
+fn damaged(alloc: Global, file: &[u8], damage: Damage) -> Result<Vec<u8>, AllocError> {
     let mut changed = Vec::from_slice(alloc, file)?;
     match damage {
-        Damage::None => {}
-        Damage::Word(word) => return with_word(alloc, file, word),
         Damage::Cut(length) => changed.truncate(length),
-        Damage::Byte(byte) => {
-            if let Some(old) = changed.get_mut(35) {
-                *old = byte;
-            }
+        Damage::Byte(place, byte) => put(&mut changed, place, byte),
+        Damage::Two(first, second, byte) => {
+            put(&mut changed, first, byte);
+            put(&mut changed, second, byte);
+        }
+        Damage::Word(at, word, place, length) => {
+            changed = with_word(alloc, file, at, word)?;
+            put(&mut changed, place, length);
         }
     }
     Ok(changed)
 }
 
-type Row = (Damage, &'static str, Option<StoreFault>);
+/// A file, what is done to it, the registered type, and why it is not opened.
+type Row = (Place, Damage, &'static str, Option<StoreFault>);
 
 const OBJECT_9: &[u8] = &[6, 9, 0, 0, 0, 0, 0, 0, 0];
 
 const NULL: &[u8] = &[5];
 
-static ROWS: [Row; 11] = [
-    (Damage::None, "Tall", None),
-    (Damage::None, "Tale", Some(StoreFault::OtherInterface)),
+const DAMAGED: Option<StoreFault> = Some(StoreFault::Damaged(0));
+
+const OTHER: Option<StoreFault> = Some(StoreFault::OtherInterface);
+
+// The image has 67 bytes from 21 on: 29 where it is empty, 12 of text, `type Tall 1` and a line feed, from 27 on, and the
+// module with 1 + 1 + 4 + 13 + 2 + 5. The last `l` is at 35, the global's word begins at 79, and the next gate is at 88.
+static ROWS_OF_AN_IMAGE: [Row; 13] = [
+    (Place::Image, Damage::Cut(89), "Tall", None),
+    (Place::Image, Damage::Cut(89), "Tale", OTHER),
     // Cut short, the file is damaged for every registry.
-    (Damage::Cut(80), "Tall", Some(StoreFault::Damaged(0))),
-    (Damage::Cut(80), "Tale", Some(StoreFault::Damaged(0))),
+    (Place::Image, Damage::Cut(80), "Tall", DAMAGED),
+    (Place::Image, Damage::Cut(80), "Tale", DAMAGED),
     // With the text `type Tale 1` its source declares what is registered, which that registry alone can find.
-    (Damage::Byte(b'e'), "Tale", Some(StoreFault::Damaged(0))),
-    (Damage::Byte(b'e'), "Tall", Some(StoreFault::OtherInterface)),
+    (Place::Image, Damage::Byte(35, b'e'), "Tale", DAMAGED),
+    (Place::Image, Damage::Byte(35, b'e'), "Tall", OTHER),
     // Object 9 is none of the image's, whatever is registered.
-    (Damage::Word(OBJECT_9), "Tall", Some(StoreFault::Damaged(0))),
-    (Damage::Word(OBJECT_9), "Tale", Some(StoreFault::Damaged(0))),
+    (
+        Place::Image,
+        Damage::Word(79, OBJECT_9, 17, 71),
+        "Tall",
+        DAMAGED,
+    ),
+    (
+        Place::Image,
+        Damage::Word(79, OBJECT_9, 17, 71),
+        "Tale",
+        DAMAGED,
+    ),
     // Null is a word of a store, and none of an `int`.
-    (Damage::Word(NULL), "Tall", Some(StoreFault::Damaged(0))),
-    (Damage::Word(NULL), "Tale", Some(StoreFault::OtherInterface)),
+    (
+        Place::Image,
+        Damage::Word(79, NULL, 17, 63),
+        "Tall",
+        DAMAGED,
+    ),
+    (Place::Image, Damage::Word(79, NULL, 17, 63), "Tale", OTHER),
     // A text that isn't UTF-8.
-    (Damage::Byte(0xff), "Tall", Some(StoreFault::Damaged(0))),
+    (Place::Image, Damage::Byte(35, 0xff), "Tall", DAMAGED),
+    // A gate that a crash left is no damage, and is only written over where the store is opened.
+    (Place::Image, Damage::Byte(88, 2), "Tall", None),
+    (Place::Image, Damage::Byte(88, 2), "Tale", OTHER),
+];
+
+const RECORD_DAMAGED: Option<StoreFault> = Some(StoreFault::Damaged(62));
+
+// The image is the empty one with that text, 41 bytes from 21 on, and the gate before the record is at 62. Its body has 68
+// bytes: a tag and then the image with the module, from 68 on. The last `l` of its text is at 82, and the global's word
+// begins at 126 and the next gate is at 135.
+static ROWS_OF_A_RECORD: [Row; 19] = [
+    (Place::Record, Damage::Cut(136), "Tall", None),
+    (Place::Record, Damage::Cut(136), "Tale", OTHER),
+    (Place::Record, Damage::Cut(80), "Tall", RECORD_DAMAGED),
+    (Place::Record, Damage::Cut(80), "Tale", RECORD_DAMAGED),
+    (Place::Record, Damage::Cut(62), "Tale", DAMAGED),
+    // A record has the text of its generation's image, whatever is registered.
+    (
+        Place::Record,
+        Damage::Byte(82, b'e'),
+        "Tall",
+        RECORD_DAMAGED,
+    ),
+    (
+        Place::Record,
+        Damage::Byte(82, b'e'),
+        "Tale",
+        RECORD_DAMAGED,
+    ),
+    (
+        Place::Record,
+        Damage::Byte(35, b'e'),
+        "Tall",
+        RECORD_DAMAGED,
+    ),
+    (
+        Place::Record,
+        Damage::Byte(35, b'e'),
+        "Tale",
+        RECORD_DAMAGED,
+    ),
+    // With the other text in both its source declares what is registered.
+    (
+        Place::Record,
+        Damage::Two(35, 82, b'e'),
+        "Tale",
+        RECORD_DAMAGED,
+    ),
+    (Place::Record, Damage::Two(35, 82, b'e'), "Tall", OTHER),
+    (
+        Place::Record,
+        Damage::Word(126, OBJECT_9, 63, 72),
+        "Tall",
+        RECORD_DAMAGED,
+    ),
+    (
+        Place::Record,
+        Damage::Word(126, OBJECT_9, 63, 72),
+        "Tale",
+        RECORD_DAMAGED,
+    ),
+    (
+        Place::Record,
+        Damage::Word(126, NULL, 63, 64),
+        "Tall",
+        RECORD_DAMAGED,
+    ),
+    (
+        Place::Record,
+        Damage::Word(126, NULL, 63, 64),
+        "Tale",
+        OTHER,
+    ),
+    // Another tag, and a text that isn't UTF-8.
+    (Place::Record, Damage::Byte(67, 2), "Tale", RECORD_DAMAGED),
+    (
+        Place::Record,
+        Damage::Byte(82, 0xff),
+        "Tall",
+        RECORD_DAMAGED,
+    ),
+    // The next gate.
+    (Place::Record, Damage::Byte(135, 2), "Tall", None),
+    (Place::Record, Damage::Byte(135, 2), "Tale", OTHER),
+];
+
+const LATER_DAMAGED: Option<StoreFault> = Some(StoreFault::Damaged(88));
+
+// The image with the module, whose word is at 79. The gate before the record is at 88, its length follows, and its tag is at
+// 93; the image in it is the empty one with the text, whose last `l` is at 108.
+static ROWS_OF_BOTH: [Row; 8] = [
+    (Place::ImageBeforeRecord, Damage::Cut(500), "Tall", None),
+    // What the image holds must be admitted, though the record leads away from it.
+    (
+        Place::ImageBeforeRecord,
+        Damage::Word(79, NULL, 17, 63),
+        "Tall",
+        DAMAGED,
+    ),
+    (
+        Place::ImageBeforeRecord,
+        Damage::Word(79, NULL, 17, 63),
+        "Tale",
+        OTHER,
+    ),
+    (
+        Place::ImageBeforeRecord,
+        Damage::Two(35, 108, b'e'),
+        "Tale",
+        DAMAGED,
+    ),
+    (
+        Place::ImageBeforeRecord,
+        Damage::Two(35, 108, b'e'),
+        "Tall",
+        OTHER,
+    ),
+    // The shape of the record comes before that, and so does the shape of the image.
+    (
+        Place::ImageBeforeRecord,
+        Damage::Byte(93, 9),
+        "Tale",
+        LATER_DAMAGED,
+    ),
+    (
+        Place::ImageBeforeRecord,
+        Damage::Byte(108, b'e'),
+        "Tale",
+        LATER_DAMAGED,
+    ),
+    (
+        Place::ImageBeforeRecord,
+        Damage::Byte(21, 9),
+        "Tale",
+        DAMAGED,
+    ),
 ];
 
 /// Compares why a damaged file isn't opened.
-fn check_row(rt: &impl Abort, alloc: Global, file: &[u8], row: &Row) -> Result<(), Fail> {
-    let (damage, name, _) = *row;
-    let file = damaged(alloc, file, damage)?;
-    let found = (damage, name, refusal(alloc, &file, name)?);
+fn check_row(rt: &impl Abort, alloc: Global, row: &Row) -> Result<(), Fail> {
+    let (place, damage, name, _) = *row;
+    let first = stored(alloc, place)?;
+    let file = damaged(alloc, first.bytes(), damage)?;
+    let found = (place, damage, name, refusal(alloc, &file, name)?);
     check(rt, &found, row, "damage, and the registered type");
+    Ok(())
+}
+
+fn check_rows(rt: &impl Abort, alloc: Global, rows: &[Row]) -> Result<(), Fail> {
+    for row in rows {
+        check_row(rt, alloc, row)?;
+    }
     Ok(())
 }
 
 #[test]
 fn damage_before_the_interface_and_after_it(rt: HostRuntime) -> Result<(), Fail> {
-    let first = stored(rt.alloc())?;
-    for row in &ROWS {
-        check_row(&rt, rt.alloc(), first.bytes(), row)?;
+    check_rows(&rt, rt.alloc(), &ROWS_OF_AN_IMAGE)
+}
+
+#[test]
+fn a_record_damaged_before_the_interface_and_after_it(rt: HostRuntime) -> Result<(), Fail> {
+    check_rows(&rt, rt.alloc(), &ROWS_OF_A_RECORD)
+}
+
+#[test]
+fn an_image_damaged_before_a_record(rt: HostRuntime) -> Result<(), Fail> {
+    check_rows(&rt, rt.alloc(), &ROWS_OF_BOTH)
+}
+
+/// The damage to a value in an image, and one to the shape of the record after it.
+fn damaged_twice(alloc: Global) -> Result<Vec<u8>, Fail> {
+    let second = stored(alloc, Place::ImageBeforeRecord)?;
+    // The word of the image is 4 bytes shorter, and so the gate before the record is at 84, and its tag at 89.
+    let file = damaged(alloc, second.bytes(), Damage::Word(79, NULL, 17, 63))?;
+    Ok(damaged(alloc, &file, Damage::Byte(89, 9))?)
+}
+
+#[test]
+fn shapes_come_first(rt: HostRuntime) -> Result<(), Fail> {
+    let file = damaged_twice(rt.alloc())?;
+    for name in ["Tall", "Tale"] {
+        let found = refusal(rt.alloc(), &file, name)?;
+        check(&rt, &found, &Some(StoreFault::Damaged(84)), name);
     }
+    Ok(())
+}
+
+#[test]
+fn the_text_in_each_record(rt: HostRuntime) -> Result<(), Fail> {
+    let alloc = rt.alloc();
+    let first = stored(alloc, Place::Record)?;
+    let text = b"type Tall 1\n";
+    let in_image = first.bytes().get(27..39).unwrap_or_default();
+    check_bytes(&rt, in_image, text, "in the image");
+    let in_record = first.bytes().get(74..86).unwrap_or_default();
+    check_bytes(&rt, in_record, text, "in the record");
+    // What is opened goes on with that text.
+    let (a, b) = (disk(alloc, first.bytes())?, disk(alloc, &[0])?);
+    let mut host = opened(alloc, a, b, one_type(alloc, "Tall")?)?;
+    discard(&mut host)?;
+    let (first, _) = closed(host);
+    // The next gate of the first record is at 135, and the second's text 12 bytes after it.
+    let in_record = first.bytes().get(147..159).unwrap_or_default();
+    check_bytes(&rt, in_record, text, "in the second record");
     Ok(())
 }

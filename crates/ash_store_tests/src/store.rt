@@ -1,8 +1,10 @@
 //! Stores on two disks: their bytes, and crashes between requests.
 
+use crate::files::{Module, add_record, generation, image};
 use crate::hosts::{
-    EMPTY, SOURCE, call, calls, check, check_bytes, closed, crashed, discard, found, global, load,
-    made, opened, reopened, seq, used, used_file, with_modules,
+    EMPTY, SOURCE, call, calls, check, check_bytes, closed, crashed, discard, disk, found,
+    found_state, global, load, made, opened, reopened, second_generation, seq, used, used_file,
+    with_modules,
 };
 use ash_disk::{MemoryDisk, Survives};
 use ash_durable::StoreFault;
@@ -10,7 +12,7 @@ use ash_host::Word;
 use ash_meaning::refusal::Refusal;
 use ash_meaning::request::Argument;
 use ash_registry::Registry;
-use std::alloc::Global;
+use std::alloc::{AllocError, Global};
 use std::process::Abort;
 use std::test::Fail;
 
@@ -34,8 +36,8 @@ fn check_calls(
 fn the_bytes_of_an_empty_store(rt: HostRuntime) -> Result<(), Fail> {
     let disks = closed(made(rt.alloc(), &[], &[])?);
     check_disks(&rt, &disks, &[0]);
-    // One write and one sync of each.
-    check_calls(&rt, &disks, (2, 2), "to make a store");
+    // The first gate of each is shut and synced. Then the generation is written and synced, and its gate.
+    check_calls(&rt, &disks, (6, 2), "to make a store");
     Ok(())
 }
 
@@ -44,13 +46,98 @@ fn a_store_over_closed_files(rt: HostRuntime) -> Result<(), Fail> {
     // The first byte of a longer file is overwritten, and a gate that is 0 is only synced.
     let disks = closed(made(rt.alloc(), &[1], &[7, 8, 9])?);
     check_disks(&rt, &disks, &[0, 8, 9]);
+    check_calls(&rt, &disks, (6, 2), "over gates that are not 0");
     let disks = closed(made(rt.alloc(), &[0, 1], &[0, 8])?);
     check_disks(&rt, &disks, &[0, 8]);
-    check(&rt, &calls(&disks.1), &1, "calls of a gate that is 0");
+    check_calls(&rt, &disks, (5, 1), "over gates that are 0");
     Ok(())
 }
 
-static CLOSED: [&[u8]; 4] = [&[], &[1], &[0, 1, 2], &[2; 60]];
+#[test]
+fn a_store_over_a_longer_file(rt: HostRuntime) -> Result<(), Fail> {
+    let (first, second) = closed(made(rt.alloc(), &[2; 60], &[])?);
+    let mut wanted = Vec::from_slice(rt.alloc(), &EMPTY)?;
+    wanted.extend_from_slice(&[2; 9])?;
+    check_bytes(&rt, first.bytes(), &wanted, "the first disk");
+    check_bytes(&rt, second.bytes(), &[0], "the second disk");
+    let found = found(rt.alloc(), first.bytes(), second.bytes())?;
+    check(&rt, &found, &Ok(0), "the store");
+    Ok(())
+}
+
+/// The store of a host with nothing registered, after a load of the module `m` from no source: the gate before the
+/// record is open, and its 43 bytes follow, which are the length of the body, its tag, the image's version, no text,
+/// the number 1, no object's number, no services, one module of that name with no source and no globals, no objects,
+/// and the next gate.
+static LOADED: [u8; 94] = [
+    0x01, 0x41, 0x53, 0x48, 0x4f, 0x53, 0x54, 0x30, 0x31, 0x01, 0x00, 0x00, 0x00, 0x00, 0x00, 0x00,
+    0x00, 0x1d, 0x00, 0x00, 0x00, 0x01, 0x00, 0x00, 0x00, 0x00, 0x00, 0x00, 0x00, 0x00, 0x00, 0x00,
+    0x00, 0x00, 0x00, 0x00, 0x00, 0x00, 0x00, 0x00, 0x00, 0x00, 0x00, 0x00, 0x00, 0x00, 0x00, 0x00,
+    0x00, 0x00, 0x01, 0x26, 0x00, 0x00, 0x00, 0x01, 0x01, 0x00, 0x00, 0x00, 0x00, 0x00, 0x01, 0x00,
+    0x00, 0x00, 0x00, 0x00, 0x00, 0x00, 0x00, 0x00, 0x00, 0x00, 0x00, 0x00, 0x00, 0x00, 0x00, 0x00,
+    0x01, 0x01, 0x6d, 0x00, 0x00, 0x00, 0x00, 0x00, 0x00, 0x00, 0x00, 0x00, 0x00, 0x00,
+];
+
+pub fn loaded() -> &'static [u8] {
+    &LOADED
+}
+
+#[test]
+fn the_bytes_after_a_load(rt: HostRuntime) -> Result<(), Fail> {
+    let (first, second) = closed(with_modules(rt.alloc(), &["m"])?);
+    check_bytes(&rt, first.bytes(), loaded(), "the first disk");
+    check_bytes(&rt, second.bytes(), &[0], "the second disk");
+    Ok(())
+}
+
+/// The module of the host that has answered two requests, whose global holds so much.
+fn used_module(n: i32) -> Module<'static> {
+    Module {
+        name: "m",
+        source: SOURCE,
+        global: Some(n),
+    }
+}
+
+/// The file of that host, by hand: no module, and then a record for each request.
+fn used_by_hand(alloc: Global) -> Result<Vec<u8>, AllocError> {
+    let mut file = generation(alloc, 1, &image(alloc, 0, &[])?)?;
+    add_record(&mut file, &image(alloc, 1, &[used_module(2)])?)?;
+    add_record(&mut file, &image(alloc, 2, &[used_module(7)])?)?;
+    Ok(file)
+}
+
+#[test]
+fn the_bytes_after_two_requests(rt: HostRuntime) -> Result<(), Fail> {
+    let first = used_file(rt.alloc())?;
+    let wanted = used_by_hand(rt.alloc())?;
+    check_bytes(&rt, first.bytes(), &wanted, "the first disk");
+    Ok(())
+}
+
+/// A store whose state is all in its first image, before what is left of a longer file: so an older program left it,
+/// which wrote the whole file for each request.
+fn in_one_image(alloc: Global) -> Result<Vec<u8>, AllocError> {
+    let mut file = generation(alloc, 1, &image(alloc, 2, &[used_module(7)])?)?;
+    file.extend_from_slice(&[1, 2, 3, 4, 1, 0, 0, 0, 5, 1])?;
+    Ok(file)
+}
+
+#[test]
+fn a_store_in_one_image(rt: HostRuntime) -> Result<(), Fail> {
+    let file = in_one_image(rt.alloc())?;
+    let held = found_state(rt.alloc(), &file, &[0])?;
+    check(&rt, &held, &Ok((2, Some(7))), "the state");
+    let (a, b) = (disk(rt.alloc(), &file)?, disk(rt.alloc(), &[0])?);
+    let mut host = opened(rt.alloc(), a, b, Registry::new(rt.alloc()))?;
+    call(&mut host, &[Argument::Number(1)])?;
+    let (first, second) = closed(host);
+    let held = found_state(rt.alloc(), first.bytes(), second.bytes())?;
+    check(&rt, &held, &Ok((3, Some(8))), "the state after a request");
+    Ok(())
+}
+
+static CLOSED: [&[u8]; 5] = [&[], &[1], &[0, 1, 2], &[2; 60], &[0; 51]];
 
 #[test]
 fn no_store(rt: HostRuntime) -> Result<(), Fail> {
@@ -72,11 +159,12 @@ fn device_calls_of_a_request(rt: HostRuntime) -> Result<(), Fail> {
         "a second load",
     );
     let disks = closed(host);
-    // One write and one sync for the store, and for each of the two requests.
-    check_calls(&rt, &disks, (6, 2), "two requests");
+    // To make the store, 6 and 2. Each of the two requests writes its record and syncs, and then the gate before it.
+    check_calls(&rt, &disks, (14, 2), "two requests");
     let (first, second) = disks;
     let disks = closed(opened(rt.alloc(), first, second, Registry::new(rt.alloc()))?);
-    check_calls(&rt, &disks, (6, 2), "an opening");
+    // Both files are synced, and no gate is to be written over.
+    check_calls(&rt, &disks, (15, 3), "an opening");
     Ok(())
 }
 
@@ -143,104 +231,10 @@ fn crashes_between_requests(rt: HostRuntime) -> Result<(), Fail> {
     check_survives(&rt, alloc, &disks, "Ok((3, Err(NoModule)))")
 }
 
-/// Compares what opening gives a file that is cut to so many bytes.
-fn check_cut(rt: &impl Abort, alloc: Global, file: &[u8], length: usize) -> Result<(), Fail> {
-    let wanted = if length < 2 {
-        StoreFault::NoGeneration
-    } else {
-        StoreFault::Damaged(0)
-    };
-    let cut = file.get(..length).unwrap_or_default();
-    let found = (length, found(alloc, cut, &[0])?);
-    check(rt, &found, &(length, Err(wanted)), "cut to a length");
-    Ok(())
-}
-
-#[test]
-fn a_file_cut_short(rt: HostRuntime) -> Result<(), Fail> {
-    let first = used_file(rt.alloc())?;
-    let file = first.bytes();
-    // The empty file, and a module with a name of one byte, 45 bytes of source and one global.
-    check(&rt, &file.len(), &(51 + 2 + 4 + 45 + 2 + 5), "the length");
-    for length in 0..file.len() {
-        check_cut(&rt, rt.alloc(), file, length)?;
-    }
-    // What comes after the file is not read.
-    let mut longer = Vec::from_slice(rt.alloc(), file)?;
-    longer.extend_from_slice(&[1, 2, 3])?;
-    check(
-        &rt,
-        &found(rt.alloc(), &longer, &[0])?,
-        &Ok(2),
-        "a longer file",
-    );
-    Ok(())
-}
-
-type Changed = (usize, u8, Result<u64, StoreFault>);
-
-const DAMAGED: Result<u64, StoreFault> = Err(StoreFault::Damaged(0));
-
-static CHANGED: [Changed; 20] = [
-    // The gate.
-    (0, 0, Err(StoreFault::NoGeneration)),
-    (0, 2, Err(StoreFault::NoGeneration)),
-    // What the file is known by, its generation, its image's length and version.
-    (1, b'a', DAMAGED),
-    (9, 2, DAMAGED),
-    (17, 0x1e, DAMAGED),
-    (21, 2, DAMAGED),
-    // How many requests have been answered.
-    (27, 9, Ok(9)),
-    // How many modules there are, the name's length, and the name.
-    (45, 0, DAMAGED),
-    (45, 2, DAMAGED),
-    (46, 2, DAMAGED),
-    (47, b'k', Ok(2)),
-    (47, b'0', DAMAGED),
-    // The source: another number, no source, one with two globals.
-    (60, b'3', Ok(2)),
-    (52, b'j', DAMAGED),
-    // How many globals there are, and the type of the first.
-    (97, 0, DAMAGED),
-    (97, 2, DAMAGED),
-    (99, 2, DAMAGED),
-    (99, 5, DAMAGED),
-    (100, 9, Ok(2)),
-    // The next gate.
-    (108, 1, DAMAGED),
-];
-
-/// Compares what opening a store gives whose file has another byte at a place.
-fn check_changed(
-    rt: &impl Abort,
-    alloc: Global,
-    file: &[u8],
-    changed: Changed,
-) -> Result<(), Fail> {
-    let (place, byte, _) = changed;
-    let mut file = Vec::from_slice(alloc, file)?;
-    if let Some(old) = file.get_mut(place) {
-        *old = byte;
-    }
-    let found = (place, byte, found(alloc, &file, &[0])?);
-    check(rt, &found, &changed, "another byte at a place");
-    Ok(())
-}
-
-#[test]
-fn a_byte_changed(rt: HostRuntime) -> Result<(), Fail> {
-    let first = used_file(rt.alloc())?;
-    for changed in &CHANGED {
-        check_changed(&rt, rt.alloc(), first.bytes(), *changed)?;
-    }
-    Ok(())
-}
-
-/// The file of a store with these modules, loaded in this order.
-fn file_with(alloc: Global, names: &[&str]) -> Result<Vec<u8>, Fail> {
-    let (first, _) = closed(with_modules(alloc, names)?);
-    Ok(Vec::from_slice(alloc, first.bytes())?)
+/// The file of a generation that holds these modules, loaded in this order, and no records.
+pub fn file_with(alloc: Global, names: &[&str]) -> Result<Vec<u8>, Fail> {
+    let second = second_generation(with_modules(alloc, names)?)?;
+    Ok(Vec::from_slice(alloc, second.bytes())?)
 }
 
 #[test]
@@ -250,31 +244,6 @@ fn one_file_for_modules_in_any_order(rt: HostRuntime) -> Result<(), Fail> {
     for names in [["b", "a", "c"], ["c", "b", "a"], ["c", "a", "b"]] {
         let found = file_with(rt.alloc(), &names)?;
         check_bytes(&rt, &found, &file, "modules in another order");
-    }
-    Ok(())
-}
-
-// A store with the modules `a` and `k`, whose names stand at 47 and 55.
-static NAMED: [Changed; 11] = [
-    (47, b'b', Ok(2)),
-    (47, b'j', Ok(2)),
-    (47, b'k', DAMAGED),
-    (47, b'l', DAMAGED),
-    (55, b'b', Ok(2)),
-    (55, b'a', DAMAGED),
-    (55, b'Z', DAMAGED),
-    // How many modules there are.
-    (45, 0, DAMAGED),
-    (45, 1, DAMAGED),
-    (45, 3, DAMAGED),
-    (45, 17, DAMAGED),
-];
-
-#[test]
-fn modules_out_of_order(rt: HostRuntime) -> Result<(), Fail> {
-    let file = file_with(rt.alloc(), &["k", "a"])?;
-    for changed in &NAMED {
-        check_changed(&rt, rt.alloc(), &file, *changed)?;
     }
     Ok(())
 }

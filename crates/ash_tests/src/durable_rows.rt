@@ -1,10 +1,11 @@
-//! Requests and their replies, byte for byte, of a host that is opened again, and of one whose disk fails.
+//! Requests and their replies, byte for byte, of a host that is opened again, also after a crash, and of one whose disk
+//! fails.
 
-use crate::hosts::{check_text, closed, created, new_host, opened, replies};
-use ash_disk::{FuseDisk, MemoryDisk};
+use crate::hosts::{check, check_text, closed, created, new_host, opened, replies};
+use ash_disk::{FuseDisk, MemoryDisk, Survives};
 use ash_durable::{Host, StoreFault};
 use ash_registry::Registry;
-use std::alloc::Global;
+use std::alloc::{AllocError, Global};
 use std::process::Abort;
 use std::test::Fail;
 
@@ -85,17 +86,62 @@ fn a_discarded_module_after_opening(rt: HostRuntime) -> Result<(), Fail> {
     )
 }
 
-/// A host over disks in memory, the first of which fails after so many calls.
-fn fused(alloc: Global, calls: u64) -> Result<Host<FuseDisk<MemoryDisk>>, StoreFault> {
-    let a = FuseDisk::new(MemoryDisk::new(alloc), calls);
-    let b = FuseDisk::new(MemoryDisk::new(alloc), u64::MAX);
+#[test]
+fn a_snapshot_after_opening(rt: HostRuntime) -> Result<(), Fail> {
+    check_again(
+        &rt,
+        rt.alloc(),
+        (
+            b"load m 45\nint n = 2; int f(int k) { n += k; return n; }\ncall m f 5\nsnapshot\nseq\n",
+            "ok seq 1\nok 7 seq 2\nok\nok 2\n",
+        ),
+        (
+            b"get m n\nseq\nsnapshot\ncall m f 1\ndiscard m\n",
+            "ok 7\nok 2\nok\nok 8 seq 3\nok seq 4\n",
+        ),
+    )
+}
+
+/// The first bytes of both disks of a host that has answered these requests.
+fn gates_after(alloc: Global, requests: &[u8]) -> Result<(Option<u8>, Option<u8>), Fail> {
+    let mut host = new_host(alloc, Registry::new(alloc))?;
+    replies(alloc, &mut host, requests)?;
+    let (a, b) = closed(host);
+    Ok((a.bytes().first().copied(), b.bytes().first().copied()))
+}
+
+#[test]
+fn a_snapshot_opens_the_second_file(rt: HostRuntime) -> Result<(), Fail> {
+    let found = gates_after(rt.alloc(), b"load m 0\n\n")?;
+    check(&rt, &found, &(Some(1), Some(0)), "before a snapshot");
+    let found = gates_after(rt.alloc(), b"load m 0\n\nsnapshot x\nseq\n")?;
+    check(&rt, &found, &(Some(1), Some(0)), "after none");
+    let found = gates_after(rt.alloc(), b"load m 0\n\nsnapshot\n")?;
+    check(&rt, &found, &(Some(1), Some(1)), "after a snapshot");
+    Ok(())
+}
+
+/// A host over disks in memory, each of which fails after so many calls.
+fn fused(alloc: Global, first: u64, second: u64) -> Result<Host<FuseDisk<MemoryDisk>>, StoreFault> {
+    let a = FuseDisk::new(MemoryDisk::new(alloc), first);
+    let b = FuseDisk::new(MemoryDisk::new(alloc), second);
     created(alloc, a, b, Registry::new(alloc))
 }
 
-/// How many calls of the first disk the making of a store takes.
-fn calls_of_create(alloc: Global) -> Result<u64, Fail> {
+/// How many calls a disk may have where the other doesn't fail.
+fn fuses(is_first: bool, calls: u64) -> (u64, u64) {
+    if is_first {
+        (calls, u64::MAX)
+    } else {
+        (u64::MAX, calls)
+    }
+}
+
+/// How many calls of a disk the making of a store takes.
+fn calls_of_create(alloc: Global, is_first: bool) -> Result<u64, Fail> {
     for calls in 0..100 {
-        match fused(alloc, calls) {
+        let (first, second) = fuses(is_first, calls);
+        match fused(alloc, first, second) {
             Ok(_) => return Ok(calls),
             Err(StoreFault::DeviceFailed) => {}
             Err(fault) => return Err(Fail::from(fault)),
@@ -104,76 +150,235 @@ fn calls_of_create(alloc: Global) -> Result<u64, Fail> {
     Err(Fail::new("no fuse is long enough"))
 }
 
-/// What is replied where the first disk fails after so many calls beyond those that make the store.
-static ROWS: [(u64, &str); 5] = [
+/// What is replied where a disk fails after so many calls beyond those that make the store, and from there on up to the
+/// next row.
+type Fused = (u64, &'static str);
+
+/// The replies where a disk fails after so many calls.
+fn wanted_of(rows: &[Fused], calls: u64) -> &'static str {
+    let mut wanted = "";
+    for (from, replies) in rows {
+        if calls >= *from {
+            wanted = *replies;
+        }
+    }
+    wanted
+}
+
+/// Compares what is replied to requests where a disk fails after so many calls beyond those that make the store.
+fn check_fused(
+    rt: &impl Abort,
+    alloc: Global,
+    fuses: (u64, u64),
+    requests: &[u8],
+    wanted: &str,
+) -> Result<(), Fail> {
+    let mut host = fused(alloc, fuses.0, fuses.1)?;
+    let found = replies(alloc, &mut host, requests)?;
+    let what = format!(in alloc; "after {} and {} calls", fuses.0, fuses.1)?;
+    check_text(rt, &found, wanted, &what);
+    Ok(())
+}
+
+/// Compares what is replied where each call of a disk beyond those that make the store fails in turn.
+fn check_each(
+    rt: &impl Abort,
+    alloc: Global,
+    is_first: bool,
+    requests: &[u8],
+    rows: &[Fused],
+) -> Result<(), Fail> {
+    let made = calls_of_create(alloc, is_first)?;
+    for calls in 0..12 {
+        let fuses = fuses(is_first, made.saturating_add(calls));
+        check_fused(rt, alloc, fuses, requests, wanted_of(rows, calls))?;
+    }
+    Ok(())
+}
+
+#[test]
+fn the_calls_that_make_a_store(rt: HostRuntime) -> Result<(), Fail> {
+    // Its length; its length and its first bytes; a write and a sync of its first gate; two of each for the generation.
+    let first = calls_of_create(rt.alloc(), true)?;
+    check(&rt, &first, &(1 + 2 + 2 + 4), "calls of the first disk");
+    // The same without a generation.
+    let second = calls_of_create(rt.alloc(), false)?;
+    check(&rt, &second, &(1 + 2 + 2), "calls of the second disk");
+    Ok(())
+}
+
+// A request that is answered has written its record and synced, and then the gate before it: four calls.
+static CALLS: [Fused; 3] = [
     (
         0,
         "refused 507 DeviceFailed\nrefused 508 Reopen\nrefused 508 Reopen\nok 0\n",
     ),
     (
-        1,
-        "refused 507 DeviceFailed\nrefused 508 Reopen\nrefused 508 Reopen\nok 0\n",
-    ),
-    (
-        2,
+        4,
         "ok seq 1\nrefused 507 DeviceFailed\nrefused 508 Reopen\nok 1\n",
     ),
-    (
-        3,
-        "ok seq 1\nrefused 507 DeviceFailed\nrefused 508 Reopen\nok 1\n",
-    ),
-    (4, "ok seq 1\nok 7 seq 2\nok 7\nok 2\n"),
+    (8, "ok seq 1\nok 7 seq 2\nok 7\nok 2\n"),
 ];
-
-/// Compares what is replied to requests where the first disk fails after so many calls.
-fn check_fused(
-    rt: &impl Abort,
-    alloc: Global,
-    calls: u64,
-    requests: &[u8],
-    wanted: &str,
-) -> Result<(), Fail> {
-    let mut host = fused(alloc, calls)?;
-    let found = replies(alloc, &mut host, requests)?;
-    let what = format!(in alloc; "after {calls} calls")?;
-    check_text(rt, &found, wanted, &what);
-    Ok(())
-}
 
 #[test]
 fn each_call_of_the_first_disk_fails_in_turn(rt: HostRuntime) -> Result<(), Fail> {
-    let made = calls_of_create(rt.alloc())?;
-    for (calls, wanted) in &ROWS {
-        let calls = made.saturating_add(*calls);
-        check_fused(&rt, rt.alloc(), calls, FIRST, wanted)?;
-    }
-    Ok(())
+    check_each(&rt, rt.alloc(), true, FIRST, &CALLS)
 }
 
 const DISCARD: &[u8] = b"load m 0\n\ndiscard m\ndiscard m\nget m n\nseq\n";
 
 /// The same for a discard.
-static DISCARDS: [(u64, &str); 3] = [
+static DISCARDS: [Fused; 3] = [
     (
-        2,
-        "ok seq 1\nrefused 507 DeviceFailed\nrefused 508 Reopen\nrefused 508 Reopen\nok 1\n",
-    ),
-    (
-        3,
-        "ok seq 1\nrefused 507 DeviceFailed\nrefused 508 Reopen\nrefused 508 Reopen\nok 1\n",
+        0,
+        "refused 507 DeviceFailed\nrefused 508 Reopen\nrefused 508 Reopen\nrefused 508 Reopen\nok 0\n",
     ),
     (
         4,
+        "ok seq 1\nrefused 507 DeviceFailed\nrefused 508 Reopen\nrefused 508 Reopen\nok 1\n",
+    ),
+    (
+        8,
         "ok seq 1\nok seq 2\nrefused 401 NoModule\nrefused 401 NoModule\nok 2\n",
     ),
 ];
 
 #[test]
 fn a_discard_that_is_not_kept(rt: HostRuntime) -> Result<(), Fail> {
-    let made = calls_of_create(rt.alloc())?;
-    for (calls, wanted) in &DISCARDS {
-        let calls = made.saturating_add(*calls);
-        check_fused(&rt, rt.alloc(), calls, DISCARD, wanted)?;
+    check_each(&rt, rt.alloc(), true, DISCARD, &DISCARDS)
+}
+
+const SNAPSHOT: &[u8] = b"load m 0\n\nsnapshot\nsnapshot\ndiscard m\nget m n\nseq\n";
+
+/// The same for a snapshot, which is written to the second disk; the one after it is written to the first, and the discard
+/// to that.
+static SNAPSHOTS: [Fused; 2] = [
+    (
+        0,
+        "ok seq 1\nrefused 507 DeviceFailed\nrefused 508 Reopen\nrefused 508 Reopen\nrefused 508 Reopen\nok 1\n",
+    ),
+    (
+        4,
+        "ok seq 1\nok\nok\nok seq 2\nrefused 401 NoModule\nok 2\n",
+    ),
+];
+
+#[test]
+fn a_snapshot_that_is_not_kept(rt: HostRuntime) -> Result<(), Fail> {
+    check_each(&rt, rt.alloc(), false, SNAPSHOT, &SNAPSHOTS)
+}
+
+const SNAPSHOT_ALONE: &[u8] = b"snapshot\nsnapshot\ndiscard m\nseq\n";
+
+/// The second snapshot shuts the gate of the older generation on the first disk, with a write and a sync, and then writes the
+/// new one. No discard is kept, since there is no module.
+static SECOND_SNAPSHOTS: [Fused; 2] = [
+    (
+        0,
+        "ok\nrefused 507 DeviceFailed\nrefused 508 Reopen\nok 0\n",
+    ),
+    (6, "ok\nok\nrefused 401 NoModule\nok 0\n"),
+];
+
+#[test]
+fn a_second_snapshot_that_is_not_kept(rt: HostRuntime) -> Result<(), Fail> {
+    check_each(&rt, rt.alloc(), true, SNAPSHOT_ALONE, &SECOND_SNAPSHOTS)
+}
+
+/// A disk that holds the file of an empty store with a generation of this number.
+fn numbered(alloc: Global, number: u64) -> Result<MemoryDisk, AllocError> {
+    let mut file = Vec::from_slice(alloc, b"\x01ASHOST01")?;
+    file.extend_from_slice(&number.to_le_bytes())?;
+    file.extend_from_slice(&[29, 0, 0, 0, 1, 0])?;
+    file.extend_from_slice(&[0; 28])?;
+    MemoryDisk::with_bytes(alloc, &file)
+}
+
+#[test]
+fn a_generation_that_is_spent(rt: HostRuntime) -> Result<(), Fail> {
+    let alloc = rt.alloc();
+    let (a, b) = (numbered(alloc, u64::MAX)?, MemoryDisk::new(alloc));
+    let mut host = opened(alloc, a, b, Registry::new(alloc))?;
+    let found = replies(alloc, &mut host, b"snapshot\nload m 0\n\nsnapshot\nseq\n")?;
+    let wanted = "refused 511 GenerationSpent\nok seq 1\nrefused 511 GenerationSpent\nok 1\n";
+    check_text(&rt, &found, wanted, "the last generation");
+    Ok(())
+}
+
+/// The disks after the first example.
+fn first_example(alloc: Global) -> Result<(MemoryDisk, MemoryDisk), Fail> {
+    let mut host = new_host(alloc, Registry::new(alloc))?;
+    replies(alloc, &mut host, FIRST)?;
+    Ok(closed(host))
+}
+
+/// What a crash after so many calls leaves of a disk.
+fn crashed(
+    alloc: Global,
+    disk: &MemoryDisk,
+    calls: usize,
+    survives: Survives,
+) -> Result<MemoryDisk, AllocError> {
+    let image = disk.crash_image(calls.min(disk.calls()), survives)?;
+    MemoryDisk::with_bytes(alloc, &image)
+}
+
+/// What is replied after a crash, and after a second one, where the first disk has had so many calls.
+fn replies_after(
+    alloc: Global,
+    disks: &(MemoryDisk, MemoryDisk),
+    calls: usize,
+    survives: Survives,
+) -> Result<String, Fail> {
+    let a = crashed(alloc, &disks.0, calls, survives)?;
+    let b = crashed(alloc, &disks.1, usize::MAX, survives)?;
+    let mut host = opened(alloc, a, b, Registry::new(alloc))?;
+    let mut all = replies(alloc, &mut host, b"get m n\nseq\ncall m f 1\n")?;
+    let (a, b) = closed(host);
+    let a = crashed(alloc, &a, usize::MAX, Survives::Nothing)?;
+    let b = crashed(alloc, &b, usize::MAX, Survives::Nothing)?;
+    let mut host = opened(alloc, a, b, Registry::new(alloc))?;
+    all.push_str(&replies(alloc, &mut host, b"get m n\nseq\n")?)?;
+    Ok(all)
+}
+
+const BEFORE_THE_CALL: &str = "ok 2\nok 1\nok 3 seq 2\nok 3\nok 2\n";
+
+const AFTER_THE_CALL: &str = "ok 7\nok 2\nok 8 seq 3\nok 8\nok 3\n";
+
+// To make the store are 6 writes and syncs of the first disk, and the load 4. So the call's record is on the device after 12,
+// its gate is written after 13 and on the device after 14.
+#[test]
+fn a_crash_after_the_record_is_synced(rt: HostRuntime) -> Result<(), Fail> {
+    let disks = first_example(rt.alloc())?;
+    check(&rt, &disks.0.calls(), &14, "calls of the first disk");
+    for calls in 10..13 {
+        for seed in 0..50 {
+            let found = replies_after(rt.alloc(), &disks, calls, Survives::Part(seed))?;
+            check_text(&rt, &found, BEFORE_THE_CALL, "before the gate is written");
+        }
+        for survives in [Survives::Nothing, Survives::Everything] {
+            let found = replies_after(rt.alloc(), &disks, calls, survives)?;
+            check_text(&rt, &found, BEFORE_THE_CALL, "before the gate is written");
+        }
     }
+    Ok(())
+}
+
+#[test]
+fn a_crash_while_the_gate_is_written(rt: HostRuntime) -> Result<(), Fail> {
+    let disks = first_example(rt.alloc())?;
+    let found = replies_after(rt.alloc(), &disks, 13, Survives::Nothing)?;
+    check_text(&rt, &found, BEFORE_THE_CALL, "nothing survives");
+    let found = replies_after(rt.alloc(), &disks, 13, Survives::Everything)?;
+    check_text(&rt, &found, AFTER_THE_CALL, "everything survives");
+    for seed in 0..200 {
+        let found = replies_after(rt.alloc(), &disks, 13, Survives::Part(seed))?;
+        if found.as_str() != BEFORE_THE_CALL {
+            check_text(&rt, &found, AFTER_THE_CALL, "the gate is torn");
+        }
+    }
+    let found = replies_after(rt.alloc(), &disks, 14, Survives::Nothing)?;
+    check_text(&rt, &found, AFTER_THE_CALL, "the gate is synced");
     Ok(())
 }

@@ -58,8 +58,8 @@ fn a_call_takes_two_ticks(rt: HostRuntime) -> Result<(), Fail> {
 static REFUSALS: [Row; 1] = [Row {
     budget: 1000,
     source: Some(b"int n = 2; int f(int k) { n += k; return n; }"),
-    requests: b"frob\ncall m f x\ncall m nope\ncall m f 1 2\ncall m f 2147483648\ncall z f\nget m q\nload m 0\n\nload 9x 0\n\nseq\nget m n\n",
-    replies: "ok seq 1\nrefused 601 BadRequest\nrefused 601 BadRequest\nrefused 403 NoFunction\nrefused 405 BadArguments\nrefused 405 BadArguments\nrefused 401 NoModule\nrefused 406 NoGlobal\nrefused 402 ModuleTaken\nrefused 409 BadName\nok 1\nok 2\n",
+    requests: b"frob\ncall m f x\ncall m nope\ncall m f 1 2\ncall m f 2147483648\ncall z f\ndiscard z\nget m q\nload m 0\n\nload 9x 0\n\nseq\nget m n\n",
+    replies: "ok seq 1\nrefused 601 BadRequest\nrefused 601 BadRequest\nrefused 403 NoFunction\nrefused 405 BadArguments\nrefused 405 BadArguments\nrefused 401 NoModule\nrefused 401 NoModule\nrefused 406 NoGlobal\nrefused 402 ModuleTaken\nrefused 409 BadName\nok 1\nok 2\n",
     end: Ok(()),
 }];
 
@@ -71,14 +71,27 @@ fn refusals_change_nothing(rt: HostRuntime) -> Result<(), Fail> {
 static LATER: [Row; 1] = [Row {
     budget: 1000,
     source: Some(b"int n = 2; int f(int k) { n += k; return n; }"),
-    requests: b"object 1\nsnapshot\nbatch 1\nseq\n",
-    replies: "ok seq 1\nrefused 601 BadRequest\nrefused 601 BadRequest\nrefused 601 BadRequest\nok 1\n",
+    requests: b"object 1\nbatch 1\nseq\n",
+    replies: "ok seq 1\nrefused 601 BadRequest\nrefused 601 BadRequest\nok 1\n",
     end: Ok(()),
 }];
 
 #[test]
 fn requests_of_later_stages(rt: HostRuntime) -> Result<(), Fail> {
     check_rows(&rt, rt.alloc(), &LATER)
+}
+
+static SNAPSHOTS: [Row; 1] = [Row {
+    budget: 0,
+    source: Some(b""),
+    requests: b"snapshot\nsnapshot x\nsnapshot \nsnapshot\nseq\n",
+    replies: "ok seq 1\nok\nrefused 601 BadRequest\nrefused 601 BadRequest\nok\nok 1\n",
+    end: Ok(()),
+}];
+
+#[test]
+fn a_snapshot_has_no_number(rt: HostRuntime) -> Result<(), Fail> {
+    check_rows(&rt, rt.alloc(), &SNAPSHOTS)
 }
 
 static TWO_MODULES: [Row; 1] = [Row {

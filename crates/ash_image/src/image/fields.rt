@@ -1,7 +1,7 @@
 // Fields at the front of bytes.
 
 ghost use Rattle.std.specs.Prelude.{◌≡◌};
-ghost use Rattle.ash_image.specs.Fields.{Gives, front_at, number_at, past_bytes, past_number};
+ghost use Rattle.ash_image.specs.Fields.{Gives, front_at, number_at, past_number};
 ghost use Rattle.ash_image.specs.declared.image.fields.Unread.TheVariants.{Memory};
 
 use byteorder::{ByteOrder, LittleEndian};
@@ -116,11 +116,4 @@ pub fn past_u64(bytes: &[u8], number: u64) -> Result<&[u8], Unread>
     } else {
         Err(Unread::Damaged)
     }
-}
-
-/// The bytes after bytes that are always these.
-pub fn past<'a>(bytes: &'a [u8], mark: &[u8]) -> Result<&'a [u8], Unread>
-    ensures { Gives (λ x. x.now) result (past_bytes mark.now bytes.now) }
-{
-    bytes.strip_prefix(mark).ok_or(Unread::Damaged)
 }

@@ -1,23 +1,19 @@
-// Reading an image and its file.
+// Reading an image, and the body of a record.
 
-ghost use Rattle.std.specs.Prelude.{◌≡◌, ◌∷◌, ◌++◌, ℕ, List, string_bytes, Some, None, if◌then◌else◌};
-ghost use Rattle.std.specs.Prelude.{IfOk, IfErr, MatchResult};
-ghost use Rattle.ash_journal.specs.Layout.{HasMark, mark};
-ghost use Rattle.ash_journal.specs.Reading.{IsBlock};
+ghost use Rattle.std.specs.Prelude.{◌≡◌, string_bytes, Some, None, if◌then◌else◌};
 ghost use Rattle.ash_meaning.specs.Step.{is_module_name};
 ghost use Rattle.ash_meaning.specs.Kept.{script_of, scripts_of};
 ghost use Rattle.ash_image.specs.Fields.{Gives, times_at, whole};
-ghost use Rattle.ash_image.specs.declared.image.fields.Unread.TheVariants.{Memory};
-ghost use Rattle.ash_image.specs.Image.{HasImage, IsFile, Snapshot, generation, snapshot_read};
+ghost use Rattle.ash_image.specs.Image.{snapshot_read};
 ghost use Rattle.ash_image.specs.ImageReading.{count_at, globals_at, image_at, is_text, module_at, module_count_at};
-ghost use Rattle.ash_image.specs.ImageReading.{modules_at, name_at, registered_at, source_at, word_at};
+ghost use Rattle.ash_image.specs.ImageReading.{modules_at, name_at, registered_at, source_at, whole_body, word_at};
 
 use crate::image::fields::{
-    Unread, front, past, past_u8, past_u16, past_u32, past_u64, u8_at, u16_at, u32_at, u64_at,
+    Unread, front, past_u8, past_u16, past_u32, past_u64, u8_at, u16_at, u32_at, u64_at,
 };
 use crate::image::{
-    GENERATION, LAST_NUMBER, MAGIC, MAX_GLOBALS, MAX_MODULES, MAX_SOURCE, MAX_TEXT, NO_OBJECTS,
-    NO_SERVICES, OPEN, SHUT, Stored, VERSION,
+    LAST_NUMBER, MAX_GLOBALS, MAX_MODULES, MAX_SOURCE, MAX_TEXT, NO_OBJECTS, NO_SERVICES, Stored,
+    VERSION, WHOLE_TAG,
 };
 use ash_host::Word;
 use ash_meaning::kept::{StoredModule, are_ascending};
@@ -235,43 +231,11 @@ pub fn whole_image(alloc: Global, bytes: &[u8]) -> Result<Stored, Unread>
     }
 }
 
-/// The bytes after an open gate, the magic and the generation 1.
-fn after_mark(bytes: &[u8]) -> Result<&[u8], Unread>
-    ensures found { IfOk result (λ rest. bytes.now ≡ 1 ∷ (mark generation ++ rest.now)) }
-    ensures only { IfErr result (λ why. HasMark generation bytes.now → why ≡ Memory) }
+/// The state to which a record's body leads, all of the bytes.
+#[tactic(auto, unfolding(crate::specs::ImageReading::whole_body))]
+pub fn whole_body(alloc: Global, bytes: &[u8]) -> Result<Stored, Unread>
+    ensures { Gives (λ s. snapshot_read s) result (whole_body bytes.now) }
 {
-    let rest = past_u8(bytes, OPEN)?;
-    let rest = past(rest, MAGIC)?;
-    let rest = past_u64(rest, GENERATION)?;
-    Ok(rest)
-}
-
-/// The body of a block that has a shut gate after it.
-fn block_of(bytes: &[u8]) -> Result<&[u8], Unread>
-    ensures found { IfOk result (λ body. IsBlock body.now 0 bytes.now) }
-    ensures only { IfErr result (λ why. (body : List ℕ) → IsBlock body 0 bytes.now → why ≡ Memory) }
-{
-    let (length, rest) = u32_at(bytes)?;
-    let (body, rest) = front(rest, length as usize)?;
-    past_u8(rest, SHUT)?;
-    Ok(body)
-}
-
-/// The image of a file that has no record.
-fn image_in(bytes: &[u8]) -> Result<&[u8], Unread>
-    ensures found { IfOk result (λ image. HasImage bytes.now image.now) }
-    ensures only { IfErr result (λ why. (image : List ℕ) → HasImage bytes.now image → why ≡ Memory) }
-{
-    let rest = after_mark(bytes)?;
-    block_of(rest)
-}
-
-/// The state of which the bytes are the file. What stands after the file isn't read.
-pub fn file_of(alloc: Global, bytes: &[u8]) -> Result<Stored, Unread>
-    ensures found { IfOk result (λ s. IsFile bytes.now (snapshot_read s)) }
-    ensures only { (s : Snapshot) → IsFile bytes.now s
-        → MatchResult result (λ found. snapshot_read found ≡ s) (λ why. why ≡ Memory) }
-{
-    let image = image_in(bytes)?;
+    let image = past_u8(bytes, WHOLE_TAG)?;
     whole_image(alloc, image)
 }

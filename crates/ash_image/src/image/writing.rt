@@ -1,4 +1,4 @@
-// Writing the file of a state.
+// Writing the image of a state.
 
 ghost use Rattle.std.specs.Prelude.{◌≡◌, ◌<◌, ◌≤◌, ◌^◌, ◌*◌, ◌++◌, ℕ, length, OnOk};
 ghost use Rattle.std.specs.List.{flat_map, AllByRecursion};
@@ -28,7 +28,7 @@ fn put_u16(out: &mut Vec<u8>, value: u16) -> Result<(), AllocError>
     out.extend_from_slice(&bytes)
 }
 
-pub fn put_u32(out: &mut Vec<u8>, value: u32) -> Result<(), AllocError>
+fn put_u32(out: &mut Vec<u8>, value: u32) -> Result<(), AllocError>
     ensures { OnOk result (out.new.items ≡ out.old.items ++ number 4 value) }
 {
     let mut bytes = [0; 4];
@@ -36,7 +36,7 @@ pub fn put_u32(out: &mut Vec<u8>, value: u32) -> Result<(), AllocError>
     out.extend_from_slice(&bytes)
 }
 
-pub fn put_u64(out: &mut Vec<u8>, value: u64) -> Result<(), AllocError>
+fn put_u64(out: &mut Vec<u8>, value: u64) -> Result<(), AllocError>
     ensures { OnOk result (out.new.items ≡ out.old.items ++ number 8 value) }
 {
     let mut bytes = [0; 8];

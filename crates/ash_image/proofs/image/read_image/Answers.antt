@@ -1,6 +1,6 @@
 use Rattle.std.proofs.Common.{sym, ◌∙◌, arith}
 use Rattle.ash_image.specs.Image.{snapshot_read}
-use Rattle.ash_image.proofs.Image_laws.{is_depicted, is_read, depicts_one}
+use Rattle.ash_image.proofs.Image_laws.{is_depicted, is_read, depicts_once}
 use Rattle.ash_image.proofs.image.read_image.Goals as goal
 
 pub returns-in-Ok-clause-found : goal.returns-in-Ok-clause-found
@@ -15,10 +15,10 @@ returns-in-Err-Damaged-clause-only c =
     λ s h. sym none ∙ is_read c.args.bytes.now s h
 
 pub returns-in-Ok-clause-one : goal.returns-in-Ok-clause-one
-returns-in-Ok-clause-one c = λ a b h g. depicts_one c.args.bytes.now a b h g
+returns-in-Ok-clause-one c = λ a b h g. depicts_once c.args.bytes.now a b h g
 
 pub returns-in-Err-Damaged-clause-one : goal.returns-in-Err-Damaged-clause-one
-returns-in-Err-Damaged-clause-one c = λ a b h g. depicts_one c.args.bytes.now a b h g
+returns-in-Err-Damaged-clause-one c = λ a b h g. depicts_once c.args.bytes.now a b h g
 
 pub returns-in-Err-Memory-clause-one : goal.returns-in-Err-Memory-clause-one
-returns-in-Err-Memory-clause-one c = λ a b h g. depicts_one c.args.bytes.now a b h g
+returns-in-Err-Memory-clause-one c = λ a b h g. depicts_once c.args.bytes.now a b h g

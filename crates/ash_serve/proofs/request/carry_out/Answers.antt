@@ -1,5 +1,5 @@
 use Rattle.std.proofs.Common.{sym, refl}
-use Rattle.ash_meaning.specs.State.{Call, Discard, Global, Seq}
+use Rattle.ash_meaning.specs.State.{Call, Discard, Global, Seq, Snapshot}
 use Rattle.ash_lines.specs.Lines.{Asked, Quit, BadRequest}
 use Rattle.ash_serve.specs.declared.request.Told.TheVariants as tolds
 use Rattle.ash_serve.proofs.TakenLemmas.{line_told}
@@ -23,6 +23,10 @@ returns-in-Global-clause-taken g c start w =
 pub returns-in-Seq-clause-taken : goal.returns-in-Seq-clause-taken
 returns-in-Seq-clause-taken g c start w =
     line_told g.S.Source.feed g.H.Carrier.carries c.args.budget start c.args.source.now c.args.host.now c.carry_out-in-Seq.new.self c.args.line.now (Asked Seq) (tolds.Replied c.carry_out-in-Seq.result) w c.requires.short c.in-Seq.ensures.spelling c.carry_out-in-Seq.ensures
+
+pub returns-in-Snapshot-clause-taken : goal.returns-in-Snapshot-clause-taken
+returns-in-Snapshot-clause-taken g c start w =
+    line_told g.S.Source.feed g.H.Carrier.carries c.args.budget start c.args.source.now c.args.host.now c.carry_out-in-Snapshot.new.self c.args.line.now (Asked Snapshot) (tolds.Replied c.carry_out-in-Snapshot.result) w c.requires.short c.in-Snapshot.ensures.spelling c.carry_out-in-Snapshot.ensures
 
 pub returns-in-Quit-clause-taken : goal.returns-in-Quit-clause-taken
 returns-in-Quit-clause-taken g c start w =

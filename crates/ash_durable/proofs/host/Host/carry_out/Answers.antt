@@ -7,6 +7,9 @@ use Rattle.ash_durable.proofs.host.Host.carry_out.Goals as goal
 pub returns-in-Discard-clause-carries : goal.returns-in-Discard-clause-carries
 returns-in-Discard-clause-carries g c = rw (c.in-Discard.is, c.into-in-Discard.ensures) (c.discard.ensures.carries c.args.budget)
 
+pub returns-in-Snapshot-clause-carries : goal.returns-in-Snapshot-clause-carries
+returns-in-Snapshot-clause-carries g c = rw (c.in-Snapshot.is, c.into-in-Snapshot.ensures) (c.snapshot.ensures.carries c.args.budget)
+
 pub returns-in-Err-clause-carries : goal.returns-in-Err-clause-carries
 returns-in-Err-clause-carries g c = rw c.in-Global.is (c.in-Err.ensures c.args.budget)
 

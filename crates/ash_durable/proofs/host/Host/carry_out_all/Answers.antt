@@ -1,6 +1,7 @@
 use Rattle.std.proofs.Common.{rules, ◌≡◌, ◌++◌, ◌∷◌, [], arith}
 use Rattle.ash_meaning.specs.State.{request_of, reply_of}
 use Rattle.ash_durable.proofs.Going_on.{one_more, nothing_left}
+use Rattle.ash_durable.proofs.LivesOn.{lives_on}
 use Rattle.ash_durable.proofs.Running.{runs_to_failure}
 use Rattle.ash_durable.proofs.host.Host.carry_out_all.Goals as goal
 
@@ -18,3 +19,6 @@ returns-clause-run g c = nothing_left _ request_of reply_of _ _ _ _ _ _ (omega a
 
 pub returns-clause-defined : goal.returns-clause-defined
 returns-clause-defined g c = runs_to_failure _ _ _ _ _ _ (returns-clause-run g c)
+
+pub returns-clause-lives : goal.returns-clause-lives
+returns-clause-lives g c = lives_on _ _ _ _ _ _ (returns-clause-run g c)

@@ -1,34 +1,30 @@
-use Rattle.std.proofs.Common.{rules, ◌≡◌, inl, false, is_some, subst}
+use Rattle.std.proofs.Common.{inl}
 use Rattle.ash_meaning.specs.Refusals.{refusal_of}
 use Rattle.ash_meaning.specs.State.{Discard, Refused, answer_of}
-use Rattle.ash_durable.specs.Hosting.{Hosted, Carries}
-use Rattle.ash_durable.proofs.Carrying.{WasTold, seen_host, carries_untouched, carries_answer}
+use Rattle.ash_durable.proofs.Carrying.{seen_host, served_runs, served_refused, served, carries_no_room}
 use Rattle.ash_durable.proofs.Refusing.{refuses_first}
 use Rattle.ash_durable.proofs.host.Host.discard.Goals as goal
 
-pub returns-in-Ok-clause-carries : goal.returns-in-Ok-clause-carries
-returns-in-Ok-clause-carries g c =
-    let device = g.D.Disk in
-    let runs : is_some c.self.inside.owed ≡ false = search rules in
-    let told : WasTold device c.self.inside.owed c.self.inside.state c.discard.new.self c.self.inside.first c.self.inside.second c.in-Ok.answer c.keep.result c.keep.new.self = record {
-      kept = c.keep.ensures.kept;
-      lost = search rules;
-      second_is = c.keep.ensures.second;
-      registered_is = c.keep.ensures.registry;
-      keeps = c.keep.ensures.saves;
-    } in
-    λ budget. subst (λ (host : Hosted g.row.D.Denot). Carries device budget (Discard c.args.name.now) host (answer_of c.keep.result) c.keep.new.self) c.self.view_is (carries_answer device budget (Discard c.args.name.now) c.self.inside.owed c.self.inside.state c.discard.new.self c.self.inside.first c.self.inside.second c.in-Ok.answer c.keep.result c.keep.new.self runs (inl (c.in-Ok.ensures budget)) told)
-
 pub returns-in-Err-clause-carries : goal.returns-in-Err-clause-carries
 returns-in-Err-clause-carries g c =
-    let device = g.D.Disk in
-    let runs : is_some c.self.inside.owed ≡ false = search rules in
-    λ budget. subst (λ (host : Hosted g.row.D.Denot). Carries device budget (Discard c.args.name.now) host (Refused (refusal_of c.in-Err.refusal)) (seen_host c.self.inside.owed c.discard.new.self c.self.inside.first c.self.inside.second)) c.self.view_is (carries_untouched device budget (Discard c.args.name.now) c.self.inside.owed c.self.inside.state c.discard.new.self c.self.inside.first c.self.inside.second (Refused (refusal_of c.in-Err.refusal)) runs (λ no. no) (inl (c.in-Err.ensures budget)))
+    λ budget. carries_no_room g.D.Disk budget (Discard c.args.name.now) c.args.self.now c.in-Err.refusal c.make_room.new.self tt c.in-Err.ensures
 
-pub returns-in-Ok-clause-refused : goal.returns-in-Ok-clause-refused
-returns-in-Ok-clause-refused g c =
-    refuses_first g.D.Disk 0 (Discard c.args.name.now) c.args.self.now (answer_of c.keep.result) c.keep.new.self (returns-in-Ok-clause-carries g c 0)
+pub keep-requires-clause-running : goal.keep-requires-clause-running
+keep-requires-clause-running g c =
+    served_runs g.D.Disk (Discard c.args.name.now) c.self.inside.stopped c.self.inside.state c.discard.new.self c.self.inside.journal c.args.self.now c.make_room.new.self tt c.in-Ok.ensures c.self.view_is
 
-pub returns-in-Err-clause-refused : goal.returns-in-Err-clause-refused
-returns-in-Err-clause-refused g c =
-    refuses_first g.D.Disk 0 (Discard c.args.name.now) c.args.self.now (Refused (refusal_of c.in-Err.refusal)) (seen_host c.self.inside.owed c.discard.new.self c.self.inside.first c.self.inside.second) (returns-in-Err-clause-carries g c 0)
+pub returns-in-Ok-discard-clause-carries : goal.returns-in-Ok-discard-clause-carries
+returns-in-Ok-discard-clause-carries g c =
+    λ budget. served g.D.Disk budget (Discard c.args.name.now) c.self.inside.stopped c.self.inside.state c.discard.new.self c.self.inside.journal c.args.self.now c.make_room.new.self c.seq-seq.result c.in-Ok-discard.answer c.keep.result c.keep.new.self tt c.in-Ok.ensures c.self.view_is (inl (c.in-Ok-discard.ensures budget)) c.seq-seq.ensures c.keep.ensures
+
+pub returns-in-Ok-discard-clause-refused : goal.returns-in-Ok-discard-clause-refused
+returns-in-Ok-discard-clause-refused g c =
+    refuses_first g.D.Disk 0 (Discard c.args.name.now) c.args.self.now (answer_of c.keep.result) c.keep.new.self (returns-in-Ok-discard-clause-carries g c 0)
+
+pub returns-in-Err-discard-clause-carries : goal.returns-in-Err-discard-clause-carries
+returns-in-Err-discard-clause-carries g c =
+    λ budget. served_refused g.D.Disk budget (Discard c.args.name.now) c.self.inside.stopped c.self.inside.state c.discard.new.self c.self.inside.journal c.args.self.now c.make_room.new.self c.in-Err-discard.refusal tt c.in-Ok.ensures c.self.view_is (inl (c.in-Err-discard.ensures budget))
+
+pub returns-in-Err-discard-clause-refused : goal.returns-in-Err-discard-clause-refused
+returns-in-Err-discard-clause-refused g c =
+    refuses_first g.D.Disk 0 (Discard c.args.name.now) c.args.self.now (Refused (refusal_of c.in-Err-discard.refusal)) (seen_host c.self.inside.stopped c.discard.new.self c.self.inside.journal) (returns-in-Err-discard-clause-carries g c 0)

@@ -1,12 +1,22 @@
-use Rattle.std.proofs.Common.{Ok, subst}
-use Rattle.ash_meaning.specs.State.{State}
-use Rattle.ash_meaning.specs.declared.request.Answer.{Answer}
-use Rattle.ash_durable.specs.Hosting.{Hosted, IsRunning, Keeps}
-use Rattle.ash_durable.proofs.Carrying.{keeps_running}
+use Rattle.std.proofs.Common.{rules, ◌≡◌, Some, IsSome, Ok, Err, sym, subst}
+use Rattle.ash_durable.specs.Hosting.{Hosted, state_unless}
+use Rattle.ash_durable.specs.Requests.{Keeps}
+use Rattle.ash_durable.proofs.Carrying.{seen_host}
+use Rattle.ash_durable.proofs.Requesting.{keep_ok, keep_err}
 use Rattle.ash_durable.proofs.host.Host.keep.Goals as goal
 
-pub returns-in-Ok-clause-saves : goal.returns-in-Ok-clause-saves
-returns-in-Ok-clause-saves g c =
+pub returns-in-Ok : goal.returns-in-Ok
+returns-in-Ok g c =
     let device = g.D.Disk in
-    subst (λ (host : Hosted g.row.D.Denot). (state : State) → IsRunning state host → Keeps {T = Answer} device state host.first (Ok c.args.answer) c.save.new.disk) c.self.view_is
-    (keeps_running device c.self.inside.owed c.self.inside.state c.self.inside.first c.self.inside.second tt c.args.answer c.save.new.disk c.in-Ok.ensures)
+    let runs : IsSome (state_unless c.self.inside.stopped c.self.inside.state) = subst (λ (host : Hosted g.row.D.Denot). IsSome host.state) (sym c.self.view_is) c.requires.running in
+    subst (λ (host : Hosted g.row.D.Denot). Keeps device c.args.seq c.args.answer host (Ok c.args.answer) (seen_host c.self.inside.stopped c.self.inside.state c.add_state.new.journal)) c.self.view_is
+    (keep_ok device c.args.seq c.args.answer c.self.inside.stopped c.self.inside.state c.self.inside.journal c.add_state.new.journal runs c.in-Ok.ensures)
+
+pub returns-in-Err : goal.returns-in-Err
+returns-in-Err g c =
+    let device = g.D.Disk in
+    let runs : IsSome (state_unless c.self.inside.stopped c.self.inside.state) = subst (λ (host : Hosted g.row.D.Denot). IsSome host.state) (sym c.self.view_is) c.requires.running in
+    let same : seen_host (Some c.args.seq) c.self.inside.state c.add_state.new.journal ≡ c.match-answer.self = search rules in
+    subst (λ (host : Hosted g.row.D.Denot). Keeps device c.args.seq c.args.answer c.args.self.now (Err c.in-Err.refusal) host) same
+    (subst (λ (host : Hosted g.row.D.Denot). Keeps device c.args.seq c.args.answer host (Err c.in-Err.refusal) (seen_host (Some c.args.seq) c.self.inside.state c.add_state.new.journal)) c.self.view_is
+    (keep_err device c.args.seq c.args.answer c.self.inside.stopped c.self.inside.state c.in-Err.refusal c.self.inside.journal c.add_state.new.journal runs c.in-Err.ensures))

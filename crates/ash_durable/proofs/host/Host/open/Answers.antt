@@ -5,5 +5,6 @@ use Rattle.ash_durable.proofs.host.Host.open.Goals as goal
 
 pub returns-in-Ok : goal.returns-in-Ok
 returns-in-Ok g c =
-    let device = g.D.Disk in
-    opened device g.met.D.Disk.seen_may_stay (registered c.args.registry) c.args.a c.args.b c.in-Ok.state (record { registered = c.in-Ok.state.registered; state = Some c.in-Ok.state; seq = c.in-Ok.state.seq; first = c.find.new.a; second = c.find.new.b }) refl refl refl c.in-Ok.ensures
+    let state = c.in-Ok.found.state in
+    opened g.D.Disk g.met.D.Disk.seen_may_stay (registered c.args.registry) c.args.a c.args.b state (record { registered = state.registered; state = Some state; seq = state.seq; journal = c.in-Ok.found.journal })
+    (record { registered_is = refl; state_is = refl; seq_is = refl }) c.in-Ok.ensures

@@ -1,6 +1,7 @@
 use Rattle.std.proofs.Common.{List, subst}
 use Rattle.ash_registry.specs.Calls.{Call}
 use Rattle.ash_registry.specs.Registered.{registered}
+use Rattle.ash_durable.specs.Hosting.{first, second}
 use Rattle.ash_durable.specs.Store.{Opens}
 use Rattle.ash_durable.proofs.Opened.{opens_again}
 use Rattle.ash_durable.proofs.host.Host.reopen.Goals as goal
@@ -9,8 +10,8 @@ pub returns-clause-opens : goal.returns-clause-opens
 returns-clause-opens g c =
     let device = g.D.Disk in
     let parts = c.into_parts-registry.result in
-    subst (λ (r : List Call). Opens device r c.args.self.first c.args.self.second c.open.result) c.into_parts-registry.ensures.registry
-    (subst (λ (a : g.row.D.Denot). Opens device (registered parts.0) a c.args.self.second c.open.result) c.into_parts-registry.ensures.first
+    subst (λ (r : List Call). Opens device r (first c.args.self) (second c.args.self) c.open.result) c.into_parts-registry.ensures.registry
+    (subst (λ (a : g.row.D.Denot). Opens device (registered parts.0) a (second c.args.self) c.open.result) c.into_parts-registry.ensures.first
     (subst (λ (b : g.row.D.Denot). Opens device (registered parts.0) parts.1 b c.open.result) c.into_parts-registry.ensures.second c.open.ensures))
 
 pub returns-clause-again : goal.returns-clause-again
@@ -18,6 +19,6 @@ returns-clause-again g c =
     let device = g.D.Disk in
     let parts = c.into_parts-registry.result in
     opens_again device g.met.D.Disk.seen_may_stay c.args.self c.open.result
-    (subst (λ (r : List Call). Opens device r c.args.self.first c.args.self.second c.open.result) c.into_parts-registry.ensures.registry
-    (subst (λ (a : g.row.D.Denot). Opens device (registered parts.0) a c.args.self.second c.open.result) c.into_parts-registry.ensures.first
+    (subst (λ (r : List Call). Opens device r (first c.args.self) (second c.args.self) c.open.result) c.into_parts-registry.ensures.registry
+    (subst (λ (a : g.row.D.Denot). Opens device (registered parts.0) a (second c.args.self) c.open.result) c.into_parts-registry.ensures.first
     (subst (λ (b : g.row.D.Denot). Opens device (registered parts.0) parts.1 b c.open.result) c.into_parts-registry.ensures.second c.open.ensures)))

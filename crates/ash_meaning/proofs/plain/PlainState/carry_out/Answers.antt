@@ -1,10 +1,24 @@
 use Rattle.std.proofs.Common.{inl, sym, ◌∙◌, ap, subst}
 use Rattle.ash_meaning.specs.declared.request.Request as declared
-use Rattle.ash_meaning.specs.State.{Reply, Discard, Global, Value, Refused, request_of, reply_of}
+use Rattle.ash_meaning.specs.State.{Reply, Load, Call, Discard, Global, Value, Refused, request_of, reply_of}
 use Rattle.ash_meaning.specs.Refusals.{refusal_of}
-use Rattle.ash_meaning.specs.Step.{KeepsRefused}
+use Rattle.ash_meaning.specs.Step.{Steps, KeepsRefused}
 use Rattle.ash_meaning.proofs.StepLaws.{keeps_refused}
 use Rattle.ash_meaning.proofs.plain.PlainState.carry_out.Goals as goal
+
+pub returns-in-Load-clause-refused : goal.returns-in-Load-clause-refused
+returns-in-Load-clause-refused c =
+    let asked = Load c.in-Load.name.now c.in-Load.source.now in
+    subst (λ (request : declared.Request). KeepsRefused (request_of request) c.args.self.now (reply_of c.into.result) c.load.new.self) (sym c.in-Load.is)
+    (keeps_refused c.args.budget asked c.args.self.now (reply_of c.into.result) c.load.new.self
+    (subst (λ (reply : Reply). Steps c.args.budget asked c.args.self.now reply c.load.new.self) (sym c.into.ensures) c.load.ensures))
+
+pub returns-in-Call-clause-refused : goal.returns-in-Call-clause-refused
+returns-in-Call-clause-refused c =
+    let asked = Call c.in-Call.module.now c.in-Call.function.now c.in-Call.arguments.now in
+    subst (λ (request : declared.Request). KeepsRefused (request_of request) c.args.self.now (reply_of c.into-in-Call.result) c.call.new.self) (sym c.in-Call.is)
+    (keeps_refused c.args.budget asked c.args.self.now (reply_of c.into-in-Call.result) c.call.new.self
+    (subst (λ (reply : Reply). Steps c.args.budget asked c.args.self.now reply c.call.new.self) (sym c.into-in-Call.ensures) c.call.ensures))
 
 pub returns-in-Discard-clause-refused : goal.returns-in-Discard-clause-refused
 returns-in-Discard-clause-refused c =

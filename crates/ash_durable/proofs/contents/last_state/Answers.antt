@@ -1,0 +1,30 @@
+use Rattle.std.proofs.Common.{◌+◌, ◌∙◌, ℕ, List, Ok, drop, sym, subst}
+use Rattle.std.specs.List.{AllByRecursion}
+use Rattle.ash_image.specs.Image.{IsBody}
+use Rattle.ash_journal.specs.declared.record.Record.{Record}
+use Rattle.ash_journal.specs.Reading.{bodies_of}
+use Rattle.ash_registry.specs.Calls.{Call}
+use Rattle.ash_registry.specs.Text.{text_of}
+use Rattle.ash_durable.specs.States.{snapshot_of}
+use Rattle.ash_durable.specs.Contents.{IsBodyWith, LeadsOn, LeadsThrough}
+use Rattle.ash_durable.proofs.Reading.{left_from, through_more}
+use Rattle.ash_durable.proofs.contents.last_state.Goals as goal
+
+pub loop-record-preserved : goal.loop-record-preserved
+loop-record-preserved c =
+    let r = c.record-item.result in
+    let before = c.loop-record.state in
+    let next = c.in_ok-state.state in
+    let later = drop (c.loop-record.record-index + 1) c.args.records.now in
+    let left = left_from c.args.records.now c.loop-record.record-index r c.loop-record-test.true c.record-item.is in
+    let shaped = subst (λ (l : List Record). AllByRecursion (IsBodyWith (text_of before.registered)) (bodies_of l)) left c.loop-record.invariant.shaped in
+    let on : LeadsOn before.registered r.body.items r.gate (Ok next) = (
+      c.in_ok-state.ensures.0 ∙ c.into_registry.ensures,
+      subst (λ (body : List ℕ). IsBody body (snapshot_of next)) c.deref.ensures.value c.in_ok-state.ensures.1,
+      c.in_ok-state.ensures.2,
+    ) in
+    record {
+      shaped = subst (λ (of : List Call). AllByRecursion (IsBodyWith (text_of of)) (bodies_of later)) (sym on.0) shaped.1;
+      leads = λ result through.
+          c.loop-record.invariant.leads result (subst (λ (l : List Record). LeadsThrough before l result) (sym left) (through_more before next r later result on through));
+    }

@@ -1,0 +1,122 @@
+// Which state an image and records are read as.
+
+ghost use Rattle.std.specs.Prelude.{◌≡◌, ◌↔◌, IsTrue, IfOk, IfErr};
+ghost use Rattle.std.specs.List.{AllByRecursion};
+ghost use Rattle.ash_image.specs.Image.{snapshot_read};
+ghost use Rattle.ash_journal.specs.Reading.{AreAt, bodies_of};
+ghost use Rattle.ash_registry.specs.Registered.{registered};
+ghost use Rattle.ash_registry.specs.Text.{text_of};
+ghost use Rattle.ash_durable.specs.Contents.{behind_image, IsBodyWith, ReadsAs};
+ghost use Rattle.ash_durable.specs.Contents.{ReadsImage, ChecksShapes, Restores, LeadsOn, LeadsThrough};
+
+use crate::fault::StoreFault;
+use ash_image::image::{Stored, read_body, read_image};
+use ash_journal::Record;
+use ash_meaning::plain::PlainState;
+use ash_registry::Registry;
+use std::alloc::{AllocError, Global};
+
+/// A generation's image, before it is known whether the registry admits it.
+fn stored_image(alloc: Global, image: &[u8]) -> Result<Stored, StoreFault>
+    ensures { ReadsImage image.now result }
+{
+    match read_image(alloc, image)? {
+        Some(stored) => Ok(stored),
+        None => Err(StoreFault::Damaged(0)),
+    }
+}
+
+/// Whether bytes are the body of a record with this text of what was registered.
+fn has_shape(alloc: Global, registered: &str, body: &[u8]) -> Result<bool, AllocError>
+    ensures { IfOk result (λ has_it. IsTrue has_it ↔ IsBodyWith registered.now body.now) }
+{
+    match read_body(alloc, body)? {
+        Some(stored) => Ok(stored.registered.as_str() == registered),
+        None => Ok(false),
+    }
+}
+
+/// Finds the first record that is none, or that has another text of what was registered than this one.
+fn check_shapes(alloc: Global, registered: &str, records: &[Record]) -> Result<(), StoreFault>
+    ensures { ChecksShapes registered.now records.now result }
+{
+    for record in records {
+        if !has_shape(alloc, registered, &record.body)? {
+            return Err(StoreFault::Damaged(record.gate));
+        }
+    }
+    Ok(())
+}
+
+/// The state that was stored, where this registry admits it; else damage at this offset.
+fn restored(
+    alloc: Global,
+    registry: Registry,
+    stored: Stored,
+    offset: u64,
+) -> Result<PlainState, StoreFault>
+    ensures { Restores (registered registry) (snapshot_read stored) offset result }
+{
+    match PlainState::restored(alloc, registry, stored.seq, stored.modules)? {
+        Some(state) => Ok(state),
+        None => Err(StoreFault::Damaged(offset)),
+    }
+}
+
+/// The state to which the body of a record leads, where this registry admits it; else damage at the gate before it.
+fn next_state(
+    alloc: Global,
+    registry: Registry,
+    body: &[u8],
+    gate: u64,
+) -> Result<PlainState, StoreFault>
+    requires { IsBodyWith (text_of (registered registry)) body.now }
+    ensures { LeadsOn (registered registry) body.now gate result }
+{
+    match read_body(alloc, body)? {
+        Some(stored) => restored(alloc, registry, stored, gate),
+        None => Err(StoreFault::Damaged(gate)),
+    }
+}
+
+/// The state to which records lead from this one, whose registry has to admit each state on the way.
+fn last_state(
+    alloc: Global,
+    first: PlainState,
+    records: &[Record],
+) -> Result<PlainState, StoreFault>
+    requires { AllByRecursion (IsBodyWith (text_of first.registered)) (bodies_of records.now) }
+    ensures { LeadsThrough first records.now result }
+{
+    let mut state = first;
+    for record in records {
+        state = next_state(alloc, state.into_registry(), &record.body, record.gate)?;
+    }
+    Ok(state)
+}
+
+/// The state of an image and the records after it, with this registry.
+///
+/// Faults, the first that holds: `Damaged` where the image or a record has not its shape, or a record has another text
+/// of what was registered than the image; `OtherInterface` where that text is not this registry's; `Damaged` where this
+/// registry doesn't admit a source or a value of the image, and then of a record. An offset is that of the gate before
+/// the record, or 0 for the image. `NoMemory` may come at any time.
+pub fn state_in(
+    alloc: Global,
+    registry: Registry,
+    image: &[u8],
+    records: &[Record],
+) -> Result<PlainState, StoreFault>
+    ensures registered { IfOk result (λ state. state.registered ≡ registered registry) }
+    ensures cause { IfErr result (λ fault. fault ≡ StoreFault.DeviceFailed → ⊥) }
+    ensures reads { AreAt (behind_image image.now) records.now
+        → ReadsAs (registered registry) (image.now, bodies_of records.now) result }
+{
+    let first = stored_image(alloc, image)?;
+    check_shapes(alloc, &first.registered, records)?;
+    if first.registered.as_str() != registry.text() {
+        return Err(StoreFault::OtherInterface);
+    }
+    let state = restored(alloc, registry, first, 0)?;
+    last_state(alloc, state, records)
+}

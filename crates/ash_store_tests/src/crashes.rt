@@ -1,0 +1,502 @@
+//! Stops at every call of either disk, and what crashes leave of both, at each moment of the request in progress.
+
+use crate::full::{AT_THE_LIMIT, full_file};
+use crate::hosts::{
+    SOURCE, State, add, check, closed, disk, found_state, image_after, inner, load, opened,
+    snapshot, state,
+};
+use ash_disk::{FuseDisk, MemoryDisk, Survives};
+use ash_durable::{Host, OpenRefused, StoreFault};
+use ash_meaning::refusal::Refusal;
+use ash_registry::Registry;
+use std::alloc::{AllocError, Global};
+use std::process::Abort;
+use std::test::Fail;
+
+/// What a host is asked for.
+#[derive(Clone, Copy)]
+enum Step {
+    Load,
+    Call(i128),
+    Snapshot,
+}
+
+/// What was reached: the state, and how many writes and syncs the first disk and the second have had.
+type Reached = (State, usize, usize);
+
+/// What is done to a store. It is made or opened, and serves; then it is closed and opened again, and serves once more.
+struct Plan {
+    /// Whether it is made.
+    is_new: bool,
+    steps: &'static [Step],
+    steps_again: &'static [Step],
+    /// What is reached before all of it, and after each part that is acknowledged: the making or the opening, each step,
+    /// the opening again, and each step after that.
+    reached: &'static [Reached],
+}
+
+// The first example's requests, two snapshots with a request after each, and a request after it was opened again.
+//
+// To make the store is a write and a sync of the first gate of each disk, and two writes and two syncs of the generation. A
+// request is two writes and two syncs on the current disk, and a snapshot on the other, where the gate of an older generation
+// takes a write and a sync more. An opening syncs both disks.
+static FROM_NOTHING: Plan = Plan {
+    is_new: true,
+    steps: &[
+        Step::Load,
+        Step::Call(5),
+        Step::Snapshot,
+        Step::Call(1),
+        Step::Snapshot,
+        Step::Call(1),
+    ],
+    steps_again: &[Step::Call(-9)],
+    reached: &[
+        ((0, None), 0, 0),
+        ((0, None), 6, 2),
+        ((1, Some(2)), 10, 2),
+        ((2, Some(7)), 14, 2),
+        ((2, Some(7)), 14, 6),
+        ((3, Some(8)), 14, 10),
+        ((3, Some(8)), 20, 10),
+        ((4, Some(9)), 24, 10),
+        ((4, Some(9)), 25, 11),
+        ((5, Some(0)), 29, 11),
+    ],
+};
+
+// A store whose next request installs a generation on the second disk, and what is asked of it after that.
+static FROM_A_FULL_FILE: Plan = Plan {
+    is_new: false,
+    steps: &[Step::Call(5), Step::Call(1)],
+    steps_again: &[Step::Call(1)],
+    reached: &[
+        ((17, Some(2)), 0, 0),
+        ((17, Some(2)), 1, 1),
+        ((18, Some(7)), 1, 9),
+        ((19, Some(8)), 1, 13),
+        ((19, Some(8)), 2, 14),
+        ((20, Some(9)), 2, 18),
+    ],
+};
+
+impl Plan {
+    /// How many parts it has.
+    fn parts(&self) -> usize {
+        self.reached.len().saturating_sub(1)
+    }
+
+    /// What is reached after so many parts.
+    fn reached_after(&self, parts: usize) -> Reached {
+        match self.reached.get(parts) {
+            Some(reached) => *reached,
+            None => ((0, None), 0, 0),
+        }
+    }
+
+    /// Whether a state may be found while the part after so many is in progress.
+    fn is_state(&self, parts: usize, found: State) -> bool {
+        let (before, _, _) = self.reached_after(parts);
+        let (after, _, _) = self.reached_after(parts.wrapping_add(1).min(self.parts()));
+        found == before || found == after
+    }
+}
+
+type Fused = FuseDisk<MemoryDisk>;
+
+/// Where a plan was stopped: how many parts of it were acknowledged, and the disks.
+#[derive(Drop)]
+struct Stopped {
+    done: usize,
+    first: MemoryDisk,
+    second: MemoryDisk,
+}
+
+/// Takes a step. Whether it is acknowledged.
+fn is_acknowledged(host: &mut Host<Fused>, step: Step) -> bool {
+    match step {
+        Step::Load => load(host, SOURCE).is_ok(),
+        Step::Call(number) => add(host, number).is_ok(),
+        Step::Snapshot => snapshot(host).is_ok(),
+    }
+}
+
+/// How many steps are acknowledged, up to the first that is not.
+fn count_acknowledged(host: &mut Host<Fused>, steps: &[Step]) -> usize {
+    let mut done = 0_usize;
+    for step in steps {
+        if !is_acknowledged(host, *step) {
+            return done;
+        }
+        done = done.wrapping_add(1);
+    }
+    done
+}
+
+fn made(alloc: Global, a: Fused, b: Fused) -> Result<Host<Fused>, OpenRefused<Fused>> {
+    Host::create(alloc, a, b, Registry::new(alloc))
+}
+
+fn found(alloc: Global, a: Fused, b: Fused) -> Result<Host<Fused>, OpenRefused<Fused>> {
+    Host::open(alloc, a, b, Registry::new(alloc))
+}
+
+/// How many parts are acknowledged of a store that is made or opened and then serves, and its disks. Only a failure of a disk
+/// may keep it from that.
+fn served(
+    begun: Result<Host<Fused>, OpenRefused<Fused>>,
+    steps: &[Step],
+) -> Result<(usize, Fused, Fused), Fail> {
+    match begun {
+        Ok(mut host) => {
+            let done = count_acknowledged(&mut host, steps);
+            let (first, second) = closed(host);
+            Ok((done.wrapping_add(1), first, second))
+        }
+        Err(refused) => match refused.fault {
+            StoreFault::DeviceFailed => Ok((0, refused.a, refused.b)),
+            fault => Err(Fail::from(fault)),
+        },
+    }
+}
+
+/// Carries out a plan over two disks, each of which fails after so many calls.
+fn carried_out(
+    alloc: Global,
+    plan: &Plan,
+    disks: (MemoryDisk, MemoryDisk),
+    calls: (u64, u64),
+) -> Result<Stopped, Fail> {
+    let first = FuseDisk::new(disks.0, calls.0);
+    let second = FuseDisk::new(disks.1, calls.1);
+    let begun = if plan.is_new {
+        made(alloc, first, second)
+    } else {
+        found(alloc, first, second)
+    };
+    let (mut done, mut first, mut second) = served(begun, plan.steps)?;
+    if done > plan.steps.len() {
+        let (more, a, b) = served(found(alloc, first, second), plan.steps_again)?;
+        done = done.wrapping_add(more);
+        first = a;
+        second = b;
+    }
+    Ok(Stopped {
+        done,
+        first: inner(first),
+        second: inner(second),
+    })
+}
+
+/// The state after one request more, which is a call where there is a module, and a load where there is none.
+fn state_after(found: State) -> State {
+    match found {
+        (seq, Some(number)) => (seq.wrapping_add(1), Some(number.wrapping_add(1))),
+        (seq, None) => (seq.wrapping_add(1), Some(2)),
+    }
+}
+
+/// Carries out that request.
+fn go_on(host: &mut Host<MemoryDisk>) -> Result<(), Refusal> {
+    match state(host) {
+        (_, Some(_)) => add(host, 1),
+        (_, None) => match load(host, SOURCE) {
+            Ok(_) => Ok(()),
+            Err(refusal) => Err(refusal),
+        },
+    }
+}
+
+/// Opens what a crash left, carries out one request more, and opens what a second crash leaves: the state that was found
+/// first, and the last.
+fn states_of(
+    alloc: Global,
+    first: &[u8],
+    second: &[u8],
+) -> Result<Result<(State, State), StoreFault>, Fail> {
+    let (a, b) = (disk(alloc, first)?, disk(alloc, second)?);
+    let mut host = match opened(alloc, a, b, Registry::new(alloc)) {
+        Ok(host) => host,
+        Err(fault) => return Ok(Err(fault)),
+    };
+    let before = state(&host);
+    go_on(&mut host)?;
+    let (a, b) = closed(host);
+    let first = image_after(&a, a.calls(), Survives::Nothing)?;
+    let second = image_after(&b, b.calls(), Survives::Nothing)?;
+    match found_state(alloc, &first, &second)? {
+        Ok(after) => Ok(Ok((before, after))),
+        Err(fault) => Ok(Err(fault)),
+    }
+}
+
+/// Whether the images of both disks hold what was acknowledged, or the part in progress more, and go on from there. Before a
+/// store is made there may be none.
+fn is_held(
+    alloc: Global,
+    plan: &Plan,
+    done: usize,
+    first: &[u8],
+    second: &[u8],
+) -> Result<bool, Fail> {
+    match states_of(alloc, first, second)? {
+        Ok((before, after)) => Ok(plan.is_state(done, before) && after == state_after(before)),
+        Err(fault) => Ok(plan.is_new && done == 0 && fault == StoreFault::NoGeneration),
+    }
+}
+
+/// What survives a crash on the first disk and on the second.
+type Crash = (Survives, Survives);
+
+/// The crash of a number: the extremes, and those that seeds give.
+fn crash_of(number: u64) -> Crash {
+    match number {
+        0 => (Survives::Nothing, Survives::Nothing),
+        1 => (Survives::Nothing, Survives::Everything),
+        2 => (Survives::Everything, Survives::Nothing),
+        3 => (Survives::Everything, Survives::Everything),
+        seed => (
+            Survives::Part(seed),
+            Survives::Part(seed.wrapping_mul(7919)),
+        ),
+    }
+}
+
+/// The first of so many crashes at a moment, a pair of calls, whose images don't hold what they are to hold.
+fn loss_at(
+    alloc: Global,
+    plan: &Plan,
+    stopped: &Stopped,
+    moment: (usize, usize),
+    crashes: u64,
+) -> Result<Option<Crash>, Fail> {
+    for number in 0..crashes {
+        let crash = crash_of(number);
+        let first = image_after(&stopped.first, moment.0, crash.0)?;
+        let second = image_after(&stopped.second, moment.1, crash.1)?;
+        if !is_held(alloc, plan, stopped.done, &first, &second)? {
+            return Ok(Some(crash));
+        }
+    }
+    Ok(None)
+}
+
+/// Looks at what crashes leave at each moment since the last part that was acknowledged.
+fn check_moments(
+    rt: &impl Abort,
+    alloc: Global,
+    plan: &Plan,
+    stopped: &Stopped,
+    crashes: u64,
+) -> Result<(), Fail> {
+    let (_, from_first, from_second) = plan.reached_after(stopped.done);
+    for first in from_first..=stopped.first.calls() {
+        for second in from_second..=stopped.second.calls() {
+            let loss = loss_at(alloc, plan, stopped, (first, second), crashes)?;
+            let found = (stopped.done, first, second, loss);
+            let wanted = (stopped.done, first, second, None);
+            check(
+                rt,
+                &found,
+                &wanted,
+                "parts, calls of both disks, and a loss",
+            );
+        }
+    }
+    Ok(())
+}
+
+/// Two empty disks.
+fn empty_disks(alloc: Global) -> (MemoryDisk, MemoryDisk) {
+    (MemoryDisk::new(alloc), MemoryDisk::new(alloc))
+}
+
+/// How many calls a disk may have where the other doesn't fail.
+fn fuses(is_first: bool, calls: u64) -> (u64, u64) {
+    if is_first {
+        (calls, u64::MAX)
+    } else {
+        (u64::MAX, calls)
+    }
+}
+
+/// Stops the plan that makes a store at each call of one disk, and looks at what crashes leave. Gives how many stops there
+/// were until it ran to its end.
+fn count_stops(rt: &impl Abort, alloc: Global, is_first: bool) -> Result<u64, Fail> {
+    let plan = &FROM_NOTHING;
+    for calls in 0..200 {
+        let stopped = carried_out(alloc, plan, empty_disks(alloc), fuses(is_first, calls))?;
+        check_moments(rt, alloc, plan, &stopped, 20)?;
+        if stopped.done == plan.parts() {
+            return Ok(calls);
+        }
+    }
+    Err(Fail::from("no fuse is long enough"))
+}
+
+#[test]
+fn the_first_disk_fails(rt: HostRuntime) -> Result<(), Fail> {
+    let stops = count_stops(&rt, rt.alloc(), true)?;
+    // The store is made by 9 calls: a length, a length and the first bytes, 2 for the first gate, 4 for the generation. Two
+    // requests, the second snapshot over an older generation, and a request. The opening syncs, looks twice, and reads the
+    // lengths and the bytes of the image and a record. And a request.
+    check(
+        &rt,
+        &stops,
+        &(9 + 2 * 4 + 6 + 4 + (1 + 2 + 2 * 2) + 4),
+        "stops",
+    );
+    Ok(())
+}
+
+#[test]
+fn the_second_disk_fails(rt: HostRuntime) -> Result<(), Fail> {
+    let stops = count_stops(&rt, rt.alloc(), false)?;
+    // To make the store, 1 + 2 and 2 for the first gate; the first snapshot and a request; and the opening looks at it.
+    check(&rt, &stops, &(5 + 4 + 4 + 1 + 2), "stops");
+    Ok(())
+}
+
+/// The disks of a plan that ran to its end, and the first parts of it.
+fn after_parts(stopped: Stopped, done: usize) -> Stopped {
+    let Stopped {
+        done: _,
+        first,
+        second,
+    } = stopped;
+    Stopped {
+        done,
+        first,
+        second,
+    }
+}
+
+/// Looks at each moment of the part after so many, on disks that have outlived it: what was written later is in no image.
+fn check_part(
+    rt: &impl Abort,
+    alloc: Global,
+    plan: &Plan,
+    ended: &Stopped,
+    crashes: u64,
+) -> Result<(), Fail> {
+    let (_, from_first, from_second) = plan.reached_after(ended.done);
+    let (_, to_first, to_second) = plan.reached_after(ended.done.wrapping_add(1));
+    for first in from_first..=to_first {
+        for second in from_second..=to_second {
+            let loss = loss_at(alloc, plan, ended, (first, second), crashes)?;
+            let found = (ended.done, first, second, loss);
+            let wanted = (ended.done, first, second, None);
+            check(
+                rt,
+                &found,
+                &wanted,
+                "parts, calls of both disks, and a loss",
+            );
+        }
+    }
+    Ok(())
+}
+
+#[test]
+fn each_moment_of_a_life(rt: HostRuntime) -> Result<(), Fail> {
+    let alloc = rt.alloc();
+    let plan = &FROM_NOTHING;
+    let mut ended = carried_out(alloc, plan, empty_disks(alloc), (u64::MAX, u64::MAX))?;
+    check(&rt, &ended.done, &plan.parts(), "parts");
+    let (_, first, second) = plan.reached_after(plan.parts());
+    let calls = (ended.first.calls(), ended.second.calls());
+    check(&rt, &calls, &(first, second), "calls of both disks");
+    for done in 0..plan.parts() {
+        ended = after_parts(ended, done);
+        check_part(&rt, alloc, plan, &ended, 20)?;
+    }
+    Ok(())
+}
+
+/// A disk with the records that fill a generation, and one that is shut.
+fn full_disks(alloc: Global, file: &[u8]) -> Result<(MemoryDisk, MemoryDisk), AllocError> {
+    Ok((disk(alloc, file)?, disk(alloc, &[0])?))
+}
+
+/// What survives of the second disk.
+static SURVIVES: [Survives; 4] = [
+    Survives::Nothing,
+    Survives::Everything,
+    Survives::Part(1),
+    Survives::Part(2),
+];
+
+/// The first crash whose image of the second disk, beside the first as it reads, doesn't hold what it is to hold. An image
+/// that is as the one before it is not opened again.
+fn loss_on_second(alloc: Global, stopped: &Stopped) -> Result<Option<Survives>, Fail> {
+    let mut last = Vec::new(alloc);
+    for survives in &SURVIVES {
+        let second = image_after(&stopped.second, stopped.second.calls(), *survives)?;
+        if second.as_slice() == last.as_slice() {
+            continue;
+        }
+        let first = stopped.first.bytes();
+        if !is_held(alloc, &FROM_A_FULL_FILE, stopped.done, first, &second)? {
+            return Ok(Some(*survives));
+        }
+        last = second;
+    }
+    Ok(None)
+}
+
+/// Looks at what crashes leave of a store whose first disk nothing is written to. Before it is opened, nothing is written to
+/// either.
+fn check_full_stop(
+    rt: &impl Abort,
+    alloc: Global,
+    file: &[u8],
+    stopped: &Stopped,
+) -> Result<(), Fail> {
+    let is_same = stopped.first.bytes() == file;
+    check(rt, &is_same, &true, "the first disk");
+    if stopped.done == 0 {
+        let second = stopped.second.bytes();
+        check(rt, &second, &[0].as_slice(), "the second disk");
+        return Ok(());
+    }
+    let found = (stopped.done, loss_on_second(alloc, stopped)?);
+    check(rt, &found, &(stopped.done, None), "parts, and a loss");
+    Ok(())
+}
+
+/// Stops the plan that installs a generation by size at each call of one disk.
+fn count_full_stops(rt: &impl Abort, alloc: Global, is_first: bool) -> Result<u64, Fail> {
+    let file = full_file(alloc, 1, AT_THE_LIMIT)?;
+    let plan = &FROM_A_FULL_FILE;
+    for calls in 0..200 {
+        let disks = full_disks(alloc, &file)?;
+        let stopped = carried_out(alloc, plan, disks, fuses(is_first, calls))?;
+        check_full_stop(rt, alloc, &file, &stopped)?;
+        if stopped.done == plan.parts() {
+            return Ok(calls);
+        }
+    }
+    Err(Fail::from("no fuse is long enough"))
+}
+
+#[test]
+fn the_first_disk_fails_by_an_installation(rt: HostRuntime) -> Result<(), Fail> {
+    let stops = count_full_stops(&rt, rt.alloc(), true)?;
+    // An opening syncs, looks twice, and reads the lengths and the bytes of the image and 17 records. Opened again it is the
+    // older generation, and only looked at.
+    check(&rt, &stops, &(1 + 2 + 18 * 2 + 1 + 2), "stops");
+    Ok(())
+}
+
+#[test]
+fn the_second_disk_fails_by_an_installation(rt: HostRuntime) -> Result<(), Fail> {
+    let stops = count_full_stops(&rt, rt.alloc(), false)?;
+    // An opening looks at it; a generation and two records are added; then it is current, and read; and a record more.
+    check(
+        &rt,
+        &stops,
+        &(1 + 2 + 4 + 2 * 4 + (1 + 2 + 3 * 2) + 4),
+        "stops",
+    );
+    Ok(())
+}

@@ -1,0 +1,292 @@
+//! Damaged stores: files that are cut, and files with another byte at a place.
+
+use crate::hosts::{
+    check, check_bytes, closed, disk, found, opened, second_generation, used, used_file,
+};
+use crate::store::{file_with, loaded};
+use ash_disk::MemoryDisk;
+use ash_durable::StoreFault;
+use ash_registry::Registry;
+use std::alloc::{AllocError, Global};
+use std::process::Abort;
+use std::test::Fail;
+
+/// What opening gives a store: its number, or why it isn't opened.
+type Found = Result<u64, StoreFault>;
+
+const DAMAGED: Found = Err(StoreFault::Damaged(0));
+
+/// Where a file is cut: from these lengths on, this is what opening gives it.
+type Cut = (usize, Found);
+
+/// What opening gives a file that is cut to so many bytes.
+fn wanted_of(cuts: &[Cut], length: usize) -> Found {
+    let mut wanted = Err(StoreFault::NoGeneration);
+    for (from, found) in cuts {
+        if length >= *from {
+            wanted = *found;
+        }
+    }
+    wanted
+}
+
+/// Compares what opening gives a file that is cut to each length.
+fn check_cuts(rt: &impl Abort, alloc: Global, file: &[u8], cuts: &[Cut]) -> Result<(), Fail> {
+    for length in 0..=file.len() {
+        let cut = file.get(..length).unwrap_or_default();
+        let found = (length, found(alloc, cut, &[0])?);
+        check(
+            rt,
+            &found,
+            &(length, wanted_of(cuts, length)),
+            "cut to a length",
+        );
+    }
+    Ok(())
+}
+
+// Of a store with one record. Its first gate counts where something follows, and the first image ends at 50, where the
+// gate before the record is. The record and the next gate end at 94.
+static CUTS_OF_LOADED: [Cut; 4] = [
+    (0, Err(StoreFault::NoGeneration)),
+    (2, DAMAGED),
+    (51, Err(StoreFault::Damaged(50))),
+    (94, Ok(1)),
+];
+
+// The same with two records, of which each has 5 bytes around its body, and this a tag and an image of 87 bytes: an empty
+// one of 29, and a module with a name of one byte, 45 bytes of source and one global, which are 2 + 4 + 45 + 2 + 5.
+static CUTS_OF_USED: [Cut; 5] = [
+    (0, Err(StoreFault::NoGeneration)),
+    (2, DAMAGED),
+    (51, Err(StoreFault::Damaged(50))),
+    (144, Err(StoreFault::Damaged(143))),
+    (237, Ok(2)),
+];
+
+// And with no record. The image has 87 bytes, and its next gate is at 21 + 87.
+static CUTS_OF_ONE_IMAGE: [Cut; 3] = [
+    (0, Err(StoreFault::NoGeneration)),
+    (2, DAMAGED),
+    (109, Ok(2)),
+];
+
+#[test]
+fn a_file_cut_short(rt: HostRuntime) -> Result<(), Fail> {
+    let alloc = rt.alloc();
+    check_cuts(&rt, alloc, loaded(), &CUTS_OF_LOADED)?;
+    let first = used_file(alloc)?;
+    check(&rt, &first.bytes().len(), &237, "the length");
+    check_cuts(&rt, alloc, first.bytes(), &CUTS_OF_USED)?;
+    let second = second_generation(used(alloc)?)?;
+    check(&rt, &second.bytes().len(), &109, "the length of an image");
+    check_cuts(&rt, alloc, second.bytes(), &CUTS_OF_ONE_IMAGE)?;
+    // What comes after the last gate is not read.
+    let mut longer = Vec::from_slice(alloc, first.bytes())?;
+    longer.extend_from_slice(&[1, 2, 3])?;
+    check(&rt, &found(alloc, &longer, &[0])?, &Ok(2), "a longer file");
+    Ok(())
+}
+
+/// A file with another byte at a place.
+fn changed(alloc: Global, file: &[u8], place: usize, byte: u8) -> Result<Vec<u8>, AllocError> {
+    let mut file = Vec::from_slice(alloc, file)?;
+    if let Some(old) = file.get_mut(place) {
+        *old = byte;
+    }
+    Ok(file)
+}
+
+/// The number 1 with another byte at a place, the lowest first.
+fn number_with(place: usize, byte: u8) -> u64 {
+    let mut bytes = [1, 0, 0, 0, 0, 0, 0, 0];
+    if let Some(old) = bytes.get_mut(place) {
+        *old = byte;
+    }
+    u64::from_le_bytes(bytes)
+}
+
+/// What opening gives the store that has loaded `m`, with another byte at a place.
+fn wanted_of_loaded(place: usize, byte: u8) -> Found {
+    match place {
+        // The gate of the file.
+        0 => Err(StoreFault::NoGeneration),
+        // The generation, which no other file is open beside, and the number in the image, before that in the record.
+        9..=16 | 27..=34 => Ok(1),
+        // The length of the image. Two lengths lead to a byte 1 of the record, at 80 and 81, as the gate of a record that
+        // is cut; from the others none is found, or a whole one after an image of another length.
+        17 if byte == 59 => Err(StoreFault::Damaged(80)),
+        17 if byte == 60 => Err(StoreFault::Damaged(81)),
+        // What the file is known by, and the rest of the image.
+        1..=8 | 17..=26 | 35..=49 => DAMAGED,
+        // The gate before the record, which then counts no more.
+        50 => Ok(0),
+        // The length of the body, of which the same is to be said.
+        51 if byte == 25 => Err(StoreFault::Damaged(80)),
+        51 if byte == 26 => Err(StoreFault::Damaged(81)),
+        // The number in the record.
+        62..=69 => Ok(number_with(place.wrapping_sub(62), byte)),
+        // The module's name, of one byte.
+        82 if byte == b'_' || byte.is_ascii_alphabetic() => Ok(1),
+        // The next gate, after which a record would be cut.
+        93 if byte == 1 => Err(StoreFault::Damaged(93)),
+        93 => Ok(1),
+        // The rest of the record.
+        _ => Err(StoreFault::Damaged(50)),
+    }
+}
+
+/// Compares what opening gives that store with each other byte at a place.
+fn check_place(rt: &impl Abort, alloc: Global, place: usize, old: u8) -> Result<(), Fail> {
+    for byte in 0..=255 {
+        if byte == old {
+            continue;
+        }
+        let file = changed(alloc, loaded(), place, byte)?;
+        let found = (place, byte, found(alloc, &file, &[0])?);
+        let wanted = (place, byte, wanted_of_loaded(place, byte));
+        check(rt, &found, &wanted, "another byte at a place");
+    }
+    Ok(())
+}
+
+#[test]
+fn each_byte_changed(rt: HostRuntime) -> Result<(), Fail> {
+    let mut place = 0_usize;
+    for byte in loaded() {
+        check_place(&rt, rt.alloc(), place, *byte)?;
+        place = place.wrapping_add(1);
+    }
+    Ok(())
+}
+
+type Changed = (usize, u8, Found);
+
+// A store whose state is all in its image, with a module of 45 bytes of source and one global.
+static CHANGED: [Changed; 21] = [
+    // The gate.
+    (0, 0, Err(StoreFault::NoGeneration)),
+    (0, 2, Err(StoreFault::NoGeneration)),
+    // What the file is known by, its generation, its image's length and version.
+    (1, b'a', DAMAGED),
+    (9, 0, Ok(2)),
+    (16, 0xff, Ok(2)),
+    (17, 0x1e, DAMAGED),
+    (21, 2, DAMAGED),
+    // How many requests have been answered.
+    (27, 9, Ok(9)),
+    // How many modules there are, the name's length, and the name.
+    (45, 0, DAMAGED),
+    (45, 2, DAMAGED),
+    (46, 2, DAMAGED),
+    (47, b'k', Ok(2)),
+    (47, b'0', DAMAGED),
+    // The source: another number, no source, one with two globals.
+    (60, b'3', Ok(2)),
+    (52, b'j', DAMAGED),
+    // How many globals there are, and the type of the first.
+    (97, 0, DAMAGED),
+    (97, 2, DAMAGED),
+    (99, 2, DAMAGED),
+    (99, 5, DAMAGED),
+    (100, 9, Ok(2)),
+    // The next gate, after which a record would be cut.
+    (108, 1, Err(StoreFault::Damaged(108))),
+];
+
+/// Compares what opening a store gives whose file has another byte at a place.
+fn check_changed(rt: &impl Abort, alloc: Global, file: &[u8], row: Changed) -> Result<(), Fail> {
+    let (place, byte, _) = row;
+    let file = changed(alloc, file, place, byte)?;
+    let found = (place, byte, found(alloc, &file, &[0])?);
+    check(rt, &found, &row, "another byte at a place");
+    Ok(())
+}
+
+#[test]
+fn a_byte_changed(rt: HostRuntime) -> Result<(), Fail> {
+    let second = second_generation(used(rt.alloc())?)?;
+    for row in &CHANGED {
+        check_changed(&rt, rt.alloc(), second.bytes(), *row)?;
+    }
+    Ok(())
+}
+
+// A store with the modules `a` and `k`, whose names stand at 47 and 55.
+static NAMED: [Changed; 11] = [
+    (47, b'b', Ok(2)),
+    (47, b'j', Ok(2)),
+    (47, b'k', DAMAGED),
+    (47, b'l', DAMAGED),
+    (55, b'b', Ok(2)),
+    (55, b'a', DAMAGED),
+    (55, b'Z', DAMAGED),
+    // How many modules there are.
+    (45, 0, DAMAGED),
+    (45, 1, DAMAGED),
+    (45, 3, DAMAGED),
+    (45, 17, DAMAGED),
+];
+
+#[test]
+fn modules_out_of_order(rt: HostRuntime) -> Result<(), Fail> {
+    let file = file_with(rt.alloc(), &["k", "a"])?;
+    for row in &NAMED {
+        check_changed(&rt, rt.alloc(), &file, *row)?;
+    }
+    Ok(())
+}
+
+/// Opens a store with one record, whose next gate is this byte, beside another file, and gives its disks.
+fn repaired(alloc: Global, gate: u8, other: &[u8]) -> Result<(MemoryDisk, MemoryDisk), Fail> {
+    let file = changed(alloc, loaded(), 93, gate)?;
+    let (a, b) = (disk(alloc, &file)?, disk(alloc, other)?);
+    Ok(closed(opened(alloc, a, b, Registry::new(alloc))?))
+}
+
+/// The next gate after a record, the other file, what that is after an opening, and the calls of the first disk and of
+/// the second.
+type Gates = (u8, &'static [u8], &'static [u8], usize, usize);
+
+// Each file is synced. Each gate that is not 0 is written over, and synced once more.
+static GATES: [Gates; 8] = [
+    (0, &[0], &[0], 1, 1),
+    (0, &[0, 1, 2], &[0, 1, 2], 1, 1),
+    (2, &[0], &[0], 3, 1),
+    (255, &[], &[0], 3, 3),
+    (0, &[], &[0], 1, 3),
+    (0, &[1], &[0], 1, 3),
+    (7, &[2, 8, 9], &[0, 8, 9], 3, 3),
+    // An older generation.
+    (
+        2,
+        b"\x01ASHOST01\0\0\0\0\0\0\0\0",
+        b"\x01ASHOST01\0\0\0\0\0\0\0\0",
+        3,
+        1,
+    ),
+];
+
+/// Compares what an opening leaves of gates.
+fn check_gates(rt: &impl Abort, alloc: Global, row: &Gates) -> Result<(), Fail> {
+    let (gate, other, after, first_calls, second_calls) = *row;
+    let (first, second) = repaired(alloc, gate, other)?;
+    check_bytes(rt, first.bytes(), loaded(), "the file with the record");
+    check_bytes(rt, second.bytes(), after, "the other file");
+    let calls = (gate, other, first.calls(), second.calls());
+    check(
+        rt,
+        &calls,
+        &(gate, other, first_calls, second_calls),
+        "calls",
+    );
+    Ok(())
+}
+
+#[test]
+fn gates_that_a_crash_left(rt: HostRuntime) -> Result<(), Fail> {
+    for row in &GATES {
+        check_gates(&rt, rt.alloc(), row)?;
+    }
+    Ok(())
+}
