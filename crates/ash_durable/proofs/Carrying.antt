@@ -59,7 +59,7 @@ stopped_none Seq seq failed = failed
 stopped_none _ seq failed = failed
 
 -- nothing is done
-pub carries_stopped : {D : Type 0} (device : Device D) (budget : ℕ) (request : Request) (host : Hosted D) (reply : Reply) → host.state ≡ None → reply ≡ reply_stopped request host.seq → Carries device budget request host reply host
+carries_stopped : {D : Type 0} (device : Device D) (budget : ℕ) (request : Request) (host : Hosted D) (reply : Reply) → host.state ≡ None → reply ≡ reply_stopped request host.seq → Carries device budget request host reply host
 carries_stopped device budget request host reply none is = record {
   replies = subst (λ (known : Option State). Replies device budget request known host reply host) (sym none) (is, refl);
   saved = λ was. was;

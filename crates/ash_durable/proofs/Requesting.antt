@@ -1,101 +1,46 @@
 -- What the parts of a request do to a host, by what they do to its journal.
-use Rattle.std.proofs.Common.{◌≡◌, ℕ, ◌<◌, ◌≤◌, true, false, Option, Some, None, is_some, IsSome, Result, Ok, Err, OnOk, refl, ap, subst, arith}
+use Rattle.std.proofs.Common.{◌≡◌, ℕ, ◌≤◌, false, Option, Some, None, is_some, IsSome, Result, Ok, Err, OnOk, refl, subst, arith}
 use Rattle.ash_disk.specs.Device.{Device}
 use Rattle.ash_journal.specs.declared.journal.Journal.{Journal}
-use Rattle.ash_journal.specs.Journal.{record_bytes, IsReady}
+use Rattle.ash_journal.specs.Journal.{record_bytes}
 use Rattle.ash_meaning.specs.declared.refusal.Refusal.{Refusal}
 use Rattle.ash_meaning.specs.declared.refusal.Refusal.TheVariants as the
 use Rattle.ash_meaning.specs.declared.request.Answer.{Answer}
 use Rattle.ash_meaning.specs.Refusals.{refusal_of}
 use Rattle.ash_meaning.specs.State.{State, Refused}
 use Rattle.ash_durable.specs.States.{HoldsState, GoesOn}
-use Rattle.ash_durable.specs.Keeping.{IsFailure, HasFailedBy, AddsWith, Adds, InstallsWith, Installs}
-use Rattle.ash_durable.specs.Hosting.{Hosted, first, second, state_unless, IsReadyUnless, IsRunning, IsHonest, IsFull, full_size, Settles, WasInstalled, InstallRefused, WasLost}
-use Rattle.ash_durable.specs.Requests.{KeepsDisks, InstallsInto, TriesInstall, MakesRoom, KeepsWith, Keeps}
-use Rattle.ash_durable.proofs.Composing.{runs_in, stopped_runs, honest_before, counts_none}
+use Rattle.ash_durable.specs.Keeping.{AddsWith, Adds, Installs}
+use Rattle.ash_durable.specs.Hosting.{Hosted, state_unless, IsRunning, IsHonest, IsFull, full_size, Settles, WasInstalled, WasLost}
+use Rattle.ash_durable.specs.Requests.{InstallsInto, TriesInstall, MakesRoom, KeepsWith, Keeps}
+use Rattle.ash_durable.proofs.Composing.{runs_in, honest_before}
 use Rattle.ash_durable.proofs.Carrying.{seen_host, running_seen}
-
--- ---- a host that runs
-
--- its journal is ready
-pub ready_unless : {D : Type 0} (stopped : Option ℕ) (state : State) (journal : Journal D) → IsSome (state_unless stopped state) → IsReadyUnless stopped journal → IsReady journal
-ready_unless None state journal runs ready = ready
-ready_unless (Some seq) state journal runs ready = absurd (cc)
-
--- and whatever its journal is that is ready, so may the host be
-pub unless_ready : {D : Type 0} (stopped : Option ℕ) (journal : Journal D) → IsReady journal → IsReadyUnless stopped journal
-unless_ready None journal ready = ready
-unless_ready (Some seq) journal ready = tt
-
--- ---- a new generation
-
-module _ {D : Type 0} (device : Device D) (state : State) (old new : Journal D) where
-  installed : Installs device state old (Ok tt) new → WasInstalled device state (seen_host None state old) (seen_host None state new)
-  installed installs = record {
-    running = running_seen state new;
-    higher = installs.outcome.1;
-    emptied = installs.outcome.2;
-    saved = λ was honest other runs.
-        let honest_then : IsHonest device (seen_host None state old) = honest_before device (seen_host None state old) (seen_host None state new) installs.honesty_first installs.honesty_second honest in
-        subst (λ (s : State). HoldsState device s new) (runs_in (seen_host None state new) state other (running_seen state new) runs) (installs.holds (was honest_then state (running_seen state old)));
-  }
-
-  -- whatever came of it
-  settles_installing : (result : Result (Unit {0}) Refusal) (after : Hosted D) → Installs device state old result after.journal → Settles device state state (seen_host None state old) after
-  settles_installing result after installs = λ honest was. installs.moments (was honest state (running_seen state old))
-
-  disks_installing : (result : Result (Unit {0}) Refusal) (after : Hosted D) → after.registered ≡ state.registered → Installs device state old result after.journal → KeepsDisks device (seen_host None state old) result after
-  disks_installing result after same installs = record {
-    failures = installs.failures;
-    honesty_first = installs.honesty_first;
-    honesty_second = installs.honesty_second;
-    registered = same;
-  }
-
-  -- for each state in which the host runs, of which there is one
-  tries_installing : (result : Result (Unit {0}) Refusal) (after : Hosted D) → after.registered ≡ state.registered → InstallsInto device state (seen_host None state old) result after → Installs device state old result after.journal → TriesInstall device (seen_host None state old) result after
-  tries_installing result after same into installs = record {
-    installs = λ other runs.
-        subst (λ (s : State). InstallsInto device s (seen_host None state old) result after × Settles device s s (seen_host None state old) after) (runs_in (seen_host None state old) state other (running_seen state old) runs)
-        (into, settles_installing result after installs);
-    disks = disks_installing result after same installs;
-  }
-
--- a new generation was installed
-pub install_ok : {D : Type 0} (device : Device D) (stopped : Option ℕ) (state : State) (old new : Journal D) → IsSome (state_unless stopped state) → Installs device state old (Ok tt) new → TriesInstall device (seen_host stopped state old) (Ok tt) (seen_host stopped state new)
-install_ok device (Some seq) state old new runs installs = absurd (cc)
-install_ok device None state old new runs installs = tries_installing device state old new (Ok tt) (seen_host None state new) refl (installed device state old new installs) installs
-
--- a device failed
-pub install_failed : {D : Type 0} (device : Device D) (stopped : Option ℕ) (state : State) (seq : ℕ) (old new : Journal D) → IsSome (state_unless stopped state) → seq ≡ state.seq → Installs device state old (Err the.DeviceFailed) new → TriesInstall device (seen_host stopped state old) (Err the.DeviceFailed) (seen_host (Some seq) state new)
-install_failed device (Some number) state seq old new runs same installs = absurd (cc)
-install_failed device None state seq old new runs same installs =
-    tries_installing device state old new (Err the.DeviceFailed) (seen_host (Some seq) state new) refl (installs.outcome.0, record { stopped = refl; seq_same = same }) installs
-
--- nothing changed
-unchanged_for : {D : Type 0} (device : Device D) (state : State) (refusal : Refusal) (old new : Journal D) → (IsFailure refusal → ⊥) → InstallsWith old (Err refusal) new → InstallRefused (seen_host None state old) (Refused (refusal_of refusal)) (seen_host None state new)
-unchanged_for {D} device state the.GenerationSpent old new not outcome = (outcome.0, ap (λ (j : Journal D). seen_host None state j) outcome.1)
-unchanged_for {D} device state the.NoMemory old new not outcome = (outcome.0, ap (λ (j : Journal D). seen_host None state j) outcome.1)
-unchanged_for device state the.DeviceFailed old new not outcome = absurd (not tt)
-unchanged_for device state _ old new not outcome = absurd outcome
-
-pub install_refused : {D : Type 0} (device : Device D) (stopped : Option ℕ) (state : State) (refusal : Refusal) (old new : Journal D) → IsSome (state_unless stopped state) → (IsFailure refusal → ⊥) → Installs device state old (Err refusal) new → TriesInstall device (seen_host stopped state old) (Err refusal) (seen_host stopped state new)
-install_refused device (Some seq) state refusal old new runs not installs = absurd (cc)
-install_refused device None state refusal old new runs not installs =
-    tries_installing device state old new (Err refusal) (seen_host None state new) refl (unchanged_for device state refusal old new not installs.outcome) installs
-
--- and the journal is as it was
-pub same_journal : {D : Type 0} (refusal : Refusal) (old new : Journal D) → (IsFailure refusal → ⊥) → InstallsWith old (Err refusal) new → new ≡ old
-same_journal the.GenerationSpent old new not outcome = outcome.1
-same_journal the.NoMemory old new not outcome = outcome.1
-same_journal the.DeviceFailed old new not outcome = absurd (not tt)
-same_journal _ old new not outcome = absurd outcome
-
--- ---- a record more
 
 -- at each state in which a host runs, of which there is one
 at_each : {D : Type 0} (state : State) (journal : Journal D) (P : State → Type 0) → P state → (other : State) → IsRunning other (seen_host None state journal) → P other
 at_each state journal P here other runs = subst P (runs_in (seen_host None state journal) state other (running_seen state journal) runs) here
+
+-- ---- a new generation
+
+installed : {D : Type 0} (device : Device D) (state : State) (old new : Journal D) → Installs device state old (Ok tt) new → WasInstalled device state (seen_host None state old) (seen_host None state new)
+installed device state old new installs = record {
+  running = running_seen state new;
+  higher = installs.outcome.1;
+  emptied = installs.outcome.2;
+  saved = λ was honest other runs.
+      let honest_then : IsHonest device (seen_host None state old) = honest_before device (seen_host None state old) (seen_host None state new) installs.honesty_first installs.honesty_second honest in
+      at_each state new (λ (s : State). HoldsState device s new) (installs.holds (was honest_then state (running_seen state old))) other runs;
+}
+
+pub install_ok : {D : Type 0} (device : Device D) (stopped : Option ℕ) (state : State) (old new : Journal D) → IsSome (state_unless stopped state) → Installs device state old (Ok tt) new → TriesInstall device (seen_host stopped state old) (Ok tt) (seen_host stopped state new)
+install_ok device (Some seq) state old new runs installs = absurd (cc)
+install_ok device None state old new runs installs = record {
+  installs = λ other runs_too.
+      at_each state old (λ (s : State). WasInstalled device s (seen_host None state old) (seen_host None state new) × Settles device s s (seen_host None state old) (seen_host None state new))
+      (installed device state old new installs, λ honest was. installs.moments (was honest state (running_seen state old))) other runs_too;
+  disks = record { failures = installs.failures; honesty_first = installs.honesty_first; honesty_second = installs.honesty_second; registered = refl };
+}
+
+-- ---- a record more
 
 keeps_moments : {D : Type 0} (device : Device D) (state : State) (old new : Journal D) (done : Result (Unit {0}) Refusal) → Adds device state old done new → (before other : State) → IsRunning other (seen_host None state old) → before.registered ≡ other.registered → HoldsState device before old → GoesOn device before other old new
 keeps_moments device state old new done adds before other runs =
@@ -133,45 +78,10 @@ keep_err device seq answer None state refusal old new runs adds = record {
 
 -- ---- room
 
--- nothing was done to a host
-disks_unchanged : {D T : Type 0} (device : Device D) (host : Hosted D) (result : Result T Refusal) → (HasFailedBy result → ⊥) → KeepsDisks device host result host
-disks_unchanged device host result not = record {
-  failures = counts_none (HasFailedBy result) (device.failures (first host)) (device.failures (second host)) not;
-  honesty_first = refl;
-  honesty_second = refl;
-  registered = refl;
-}
-
 -- a host that has a state runs in it
 runs_seen : {D : Type 0} (stopped : Option ℕ) (state : State) (journal : Journal D) (other : State) → state_unless stopped state ≡ Some other → IsRunning other (seen_host stopped state journal)
 runs_seen {D} None state journal other is = let same : state ≡ other = cc in subst (λ (s : State). IsRunning s (seen_host None state journal)) same (running_seen state journal)
 runs_seen (Some seq) state journal other is = let h : None ≡ Some other = is in absurd (cc)
-
--- the host must be reopened
-pub room_stopped : {D : Type 0} (device : Device D) (stopped : Option ℕ) (state : State) (journal : Journal D) → is_some stopped ≡ true → MakesRoom device (seen_host stopped state journal) (Err the.Reopen) (seen_host stopped state journal)
-room_stopped device None state journal stops = absurd (cc)
-room_stopped device (Some seq) state journal stops = record {
-  runs = λ other is. runs_seen (Some seq) state journal other is;
-  stopped = λ none. (refl, refl);
-  enough = λ other runs. absurd (stopped_runs (seen_host (Some seq) state journal) other refl runs);
-  full = λ other runs. absurd (stopped_runs (seen_host (Some seq) state journal) other refl runs);
-  room = tt;
-  disks = disks_unchanged device (seen_host (Some seq) state journal) (Err the.Reopen) (λ failed. failed);
-}
-
--- there is room
-pub room_enough : {D : Type 0} (device : Device D) (stopped : Option ℕ) (state : State) (journal : Journal D) → is_some stopped ≡ false → record_bytes journal < full_size → MakesRoom device (seen_host stopped state journal) (Ok tt) (seen_host stopped state journal)
-room_enough device (Some seq) state journal runs small = absurd (cc)
-room_enough device None state journal runs small =
-    let not : (full_size ≤ record_bytes journal → ⊥) = λ full. omega (arith, small, full) in
-    record {
-      runs = λ other is. runs_seen None state journal other is;
-      stopped = λ none. let h : Some state ≡ None = none in absurd (cc);
-      enough = λ other running was_not. (refl, refl);
-      full = λ other running full. absurd (not full);
-      room = not;
-      disks = disks_unchanged device (seen_host None state journal) (Ok tt) (λ failed. failed);
-    }
 
 -- what was installed has no records
 empty_room : {D : Type 0} (device : Device D) (state : State) (old : Hosted D) (result : Result (Unit {0}) Refusal) (new : Hosted D) → InstallsInto device state old result new → OnOk result (IsFull new → ⊥)

@@ -5,7 +5,7 @@ use std::alloc::{AllocError, Global};
 /// A module as an image has it. Where it has a global, that is an `int`.
 #[derive(Clone, Copy)]
 pub struct Module<'a> {
-    pub name: &'a str,
+    pub name: &'static str,
     pub source: &'a [u8],
     pub global: Option<i32>,
 }
