@@ -6,8 +6,9 @@ use Rattle.ash_host.specs.declared.word.Word.{Word}
 use Rattle.ash_host.specs.Objects.{object_at, IsInOrder, handles_to}
 use Rattle.ash_objects.specs.declared.entry.Item.{Item}
 use Rattle.ash_objects.specs.declared.body.Body.{Body}
-use Rattle.ash_objects.specs.declared.body.Body.TheVariants.{Script, Host}
+use Rattle.ash_objects.specs.declared.body.Body.TheVariants.{Script, Array, Host}
 use Rattle.ash_objects.specs.declared.body.Script as scripts
+use Rattle.ash_objects.specs.declared.body.Array as arrays
 use Rattle.ash_objects.specs.Bodies.{words_of}
 use Rattle.ash_objects.specs.Store.{Placed, AreStored, IsIn, change_in, with_item}
 use Rattle.ash_objects.specs.Table.{Living, change_at}
@@ -44,6 +45,12 @@ module _ {B : Type 0} where
         let no = subst (λ (v : Option B). IsSome v) none some in
         cc
 
+    pub no_array : (array : arrays.Array) → it.body ≡ Array array → IsSome (stored_box n l) → ⊥
+    no_array array is some =
+        let none : stored_box n l ≡ None = stored_is ∙ ap box_of is in
+        let no = subst (λ (v : Option B). IsSome v) none some in
+        cc
+
     pub boxed_at : (slot : ℕ) (s : AreStored l) (here : IsIn n slot l) (after : B) → change_in slot (with_item (record { count = it.count; touched = true; body = Host after })) l ≡ change_at n (boxed after) l
     boxed_at slot s here after =
         change_in_is slot n _ l s here
@@ -64,6 +71,7 @@ module _ {B : Type 0} where
       where
         body : (b : Body B) → box_of b ≡ Some box → words_of b ≡ []
         body (Script script) h = cc
+        body (Array array) h = cc
         body (Host x) h = refl
 
         go : (v : Option (Placed B)) → option_and_then (λ object. box_of (object.item).body) v ≡ Some box → option_map_or (holding m) v 0 ≡ 0

@@ -11,7 +11,7 @@ use Rattle.ash_host.specs.declared.word.Word.{Word}
 use Rattle.ash_host.specs.declared.word.Word.TheVariants as words
 use Rattle.ash_host.specs.Objects.{object_at, IsInOrder, Lives, handles_to, is_handle_to, handle}
 use Rattle.ash_objects.specs.declared.body.Body.{Body}
-use Rattle.ash_objects.specs.declared.body.Body.TheVariants.{Script, Host}
+use Rattle.ash_objects.specs.declared.body.Body.TheVariants.{Script, Array, Host}
 use Rattle.ash_objects.specs.Bodies.{words_of, with_word}
 use Rattle.ash_objects.specs.Store.{Placed}
 use Rattle.ash_objects.specs.Table.{Living, change_at, with_field}
@@ -169,6 +169,7 @@ module _ {B : Type 0} where
   -- words of an object with a word written
   words-written : (place : ℕ) (word before : Word) (body : Body B) → slice_get (words_of body) place ≡ Some before → words_of (with_word place word body) ≡ set (words_of body) place word
   words-written place word before (Script script) there = refl
+  words-written place word before (Array array) there = refl
   words-written place word before (Host box) there = cc
 
   -- what one object holds is part of what all hold
@@ -201,6 +202,7 @@ module _ {B : Type 0} where
 
   length-written : (place : ℕ) (word : Word) (body : Body B) → length (words_of (with_word place word body)) ≡ length (words_of body)
   length-written place word (Script script) = length-set script.fields place word
+  length-written place word (Array array) = length-set array.elements place word
   length-written place word (Host box) = refl
 
   -- A word was written at a place of an object: the new one counted first, the old one uncounted last.

@@ -8,8 +8,9 @@ use Rattle.ash_host.proofs.Order.{same_in_order}
 use Rattle.ash_host.specs.declared.word.Word.{Word}
 use Rattle.ash_objects.specs.declared.entry.Item.{Item}
 use Rattle.ash_objects.specs.declared.body.Body.{Body}
-use Rattle.ash_objects.specs.declared.body.Body.TheVariants.{Script}
+use Rattle.ash_objects.specs.declared.body.Body.TheVariants.{Script, Array}
 use Rattle.ash_objects.specs.declared.body.Script as scripts
+use Rattle.ash_objects.specs.declared.body.Array as arrays
 use Rattle.ash_objects.specs.Bodies.{with_word}
 use Rattle.ash_objects.specs.Store.{Placed, AreStored, IsIn, IsOccupied, change_in, with_item, with_waiting}
 use Rattle.ash_objects.specs.Table.{change_at}
@@ -111,6 +112,19 @@ module _ {B : Type 0} where
         body_is = ap (λ (fs : List Word). Script (record script { fields = fs })) now ∙ sym (ap (λ (b : Body B). with_word place word b) is)
 
         each : (p : Placed B) → p.item ≡ it → with_item (record { count = it.count; touched = true; body = Script (record script { fields = fields }) }) p ≡ written place word p
+        each p same =
+            ap (λ (b : Body B). with_item (record { count = it.count; touched = true; body = b }) p) body_is
+            ∙ ap (λ (i : Item B). with_item (record { count = i.count; touched = true; body = with_word place word i.body }) p) (sym same)
+
+    pub element_written : (place : ℕ) (word : Word) (array : arrays.Array) (elements : List Word) → it.body ≡ Array array → elements ≡ slice_set array.elements place word → change_in slot (with_item (record { count = it.count; touched = true; body = Array (record array { elements = elements }) })) l ≡ change_at n (written place word) l
+    element_written place word array elements is now =
+        change_in_is slot n _ l s here
+        ∙ change_same n _ (written place word) l s.in_order (λ p at. each p (item_is n l it mine p at))
+      where
+        body_is : Array (record array { elements = elements }) ≡ with_word place word it.body
+        body_is = ap (λ (es : List Word). Array (record array { elements = es })) now ∙ sym (ap (λ (b : Body B). with_word place word b) is)
+
+        each : (p : Placed B) → p.item ≡ it → with_item (record { count = it.count; touched = true; body = Array (record array { elements = elements }) }) p ≡ written place word p
         each p same =
             ap (λ (b : Body B). with_item (record { count = it.count; touched = true; body = b }) p) body_is
             ∙ ap (λ (i : Item B). with_item (record { count = i.count; touched = true; body = with_word place word i.body }) p) (sym same)

@@ -10,13 +10,14 @@ use Rattle.ash_host.specs.declared.host_object.HostObject.{Ghosts}
 use Rattle.ash_host.specs.Calls.{HostCall, SameRelation}
 use Rattle.ash_host.specs.Objects.{object_at}
 use Rattle.ash_objects.specs.declared.body.Body.{Body}
-use Rattle.ash_objects.specs.declared.body.Body.TheVariants.{Script, Host}
+use Rattle.ash_objects.specs.declared.body.Body.TheVariants.{Script, Array, Host}
 use Rattle.ash_objects.specs.Store.{Placed, with_item}
 use Rattle.ash_objects.specs.Table.{Living, Table, change_at, with_object}
 
 -- the box of a host object
 abbrev pub box_of : {B : Type 0} → Body B → Option B
 box_of (Script _) = None
+box_of (Array _) = None
 box_of (Host box) = Some box
 
 -- A host object answers a call within its relation, at its state before and after, and keeps its kind and its

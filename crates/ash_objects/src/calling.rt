@@ -24,6 +24,7 @@ pub(crate) fn start_in<B: HostObject>(
     match &mut item.body {
         Body::Host(object) => object.start(args),
         Body::Script(_) => unreachable!(),
+        Body::Array(_) => unreachable!(),
     }
 }
 
@@ -43,6 +44,7 @@ pub(crate) fn invoke_in<B: HostObject>(
     match &mut item.body {
         Body::Host(object) => object.invoke(method, args),
         Body::Script(_) => unreachable!(),
+        Body::Array(_) => unreachable!(),
     }
 }
 
@@ -57,6 +59,7 @@ pub(crate) fn set_in<B: HostObject>(store: &mut Store<B>, slot: usize, prop: u16
     match &mut item.body {
         Body::Host(object) => object.set(prop, value),
         Body::Script(_) => unreachable!(),
+        Body::Array(_) => unreachable!(),
     }
 }
 
@@ -69,5 +72,6 @@ pub(crate) fn box_in<B>(store: &Store<B>, slot: usize) -> &B
     match &store.item(slot).body {
         Body::Host(object) => object,
         Body::Script(_) => unreachable!(),
+        Body::Array(_) => unreachable!(),
     }
 }

@@ -100,6 +100,7 @@ pub(crate) fn read_word<B>(store: &Store<B>, slot: usize, place: usize) -> Word
 {
     match &store.item(slot).body {
         Body::Script(script) => script.fields.get(place),
+        Body::Array(array) => array.elements.get(place),
         Body::Host(_) => unreachable!(),
     }
 }
@@ -120,6 +121,11 @@ pub(crate) fn write_word<B>(store: &mut Store<B>, slot: usize, place: usize, wor
         Body::Script(script) => {
             let before = script.fields.get(place);
             script.fields.set(place, word);
+            before
+        }
+        Body::Array(array) => {
+            let before = array.elements.get(place);
+            array.elements.set(place, word);
             before
         }
         Body::Host(_) => unreachable!(),

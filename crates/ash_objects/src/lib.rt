@@ -21,8 +21,8 @@ mod store;
 mod sweeping;
 mod words;
 
-pub use body::{Body, Script};
-pub use making::{MAX_OBJECTS, MakeFault};
+pub use body::{Array, Body, Element, Script};
+pub use making::{MAX_ELEMENTS, MAX_OBJECTS, MakeFault};
 pub use marking::Touched;
 pub use objects::Objects;
 pub use words::Words;

@@ -1,20 +1,25 @@
 //! The making of objects.
-ghost use Rattle.std.specs.Prelude.{All, ◌≡◌, ◌≢◌, ◌<◌, ◌≤◌, ◌+◌, ◌↔◌, ◌++◌, ◌∷◌, [], ℕ, length, Some, None, IsSomeAnd, IfOk, OnOk, OnErr, IsErrOf, slice_get, nat_eq};
+ghost use Rattle.std.specs.Prelude.{All, ◌≡◌, ◌≢◌, ◌<◌, ◌≤◌, ◌+◌, ◌↔◌, ◌++◌, ◌∷◌, [], ℕ, length, Some, None, IsSomeAnd, IfOk, OnOk, OnErr, IsErrOf, slice_get, nat_eq, replicate};
 ghost use Rattle.std.specs.List.{remove, position};
 ghost use Rattle.ash_host.specs.declared.event.Event.{Event};
 ghost use Rattle.ash_objects.specs.declared.making.MakeFault.{MakeFault};
 ghost use Rattle.ash_objects.specs.declared.body.Body.{Body};
+ghost use Rattle.ash_objects.specs.Bodies.{words_of, initial_of};
 ghost use Rattle.ash_objects.specs.Table.{slot_of, IsAlive};
 ghost use Rattle.ash_objects.specs.Making.{IsFull, IsSpent, first_of_kind, with_made};
 
-use crate::body::{Body, Script};
+use crate::body::{Array, Body, Element, Script};
 use crate::counting::refer_words;
 use crate::entry::Item;
 use crate::objects::Objects;
-use ash_host::{Event, HostObject};
+use crate::words::Words;
+use ash_host::{Event, HostObject, NoMemory};
 
 /// How many objects may live at once.
 pub const MAX_OBJECTS: usize = 4096;
+
+/// How many elements an array may have.
+pub const MAX_ELEMENTS: usize = 4096;
 
 /// Why no object was made.
 #[derive(Clone, Copy, Debug, PartialEq, Eq)]
@@ -25,6 +30,8 @@ pub enum MakeFault {
     NumbersSpent,
     /// No free box is of the kind.
     PoolEmpty,
+    /// An array would be longer than it may be.
+    ArrayLimit,
     /// Memory ran out.
     NoMemory,
 }
@@ -44,6 +51,7 @@ impl<B> Objects<B> {
         ensures full { IsErrOf result MakeFault.ObjectLimit ↔ IsFull self.now }
         ensures spent { IsErrOf result MakeFault.NumbersSpent ↔ ((IsFull self.now → ⊥) × IsSpent self.now) }
         ensures pool { IsErrOf result MakeFault.PoolEmpty → ⊥ }
+        ensures long { IsErrOf result MakeFault.ArrayLimit → ⊥ }
         ensures memory { IsErrOf result MakeFault.NoMemory → ⊥ }
     {
         if self.store.len() >= MAX_OBJECTS {
@@ -57,31 +65,84 @@ impl<B> Objects<B> {
 }
 
 impl<B: HostObject> Objects<B> {
-    /// Makes an object of a script's class, with its fields in order of declaration, and gives it the next number. The
-    /// objects that its fields are handles to are counted once more for each; nothing holds the new one yet.
-    pub fn new_script(&mut self, script: Script) -> Result<u64, MakeFault>
-        requires short { length script.fields ≤ 4096 }
-        requires alive { All (λ word. IsAlive word self.old) script.fields }
-        ensures full { IsErrOf result MakeFault.ObjectLimit ↔ IsFull self.old }
-        ensures spent { IsErrOf result MakeFault.NumbersSpent ↔ ((IsFull self.old → ⊥) × IsSpent self.old) }
-        ensures pool { IsErrOf result MakeFault.PoolEmpty → ⊥ }
+    // Puts a new object into the table under the next number.
+    fn make(&mut self, next: u64, body: Body<B>) -> Result<(), NoMemory>
+        requires next { next ≡ self.old.last + 1 }
+        requires room { length self.old.objects < 4096 }
+        requires short { length (words_of body) ≤ 4096 }
+        requires alive { All (λ word. IsAlive word self.old) (words_of body) }
         ensures unchanged { OnErr result (self.new ≡ self.old) }
-        ensures number { IfOk result (λ number. number ≡ self.old.last + 1) }
-        ensures made { IfOk result (λ number. IsSomeAnd (slot_of number self.new)
-            (λ slot. self.new ≡ with_made slot (Body.Script script) self.old)) }
+        ensures made { OnOk result (IsSomeAnd (slot_of next self.new) (λ slot. self.new ≡ with_made slot body self.old)) }
     {
-        let next = self.next_number()?;
         let item = Item {
             count: 0,
             touched: true,
-            body: Body::Script(script),
+            body,
         };
         let Ok(slot) = self.store.insert(next, item) else {
-            return Err(MakeFault::NoMemory);
+            return Err(NoMemory);
         };
         refer_words(&mut self.store, slot);
         self.last = next;
-        Ok(next)
+        Ok(())
+    }
+
+    /// Makes an object of the class at a place in the source of its owner, the module in a slot, with its fields in order of declaration, and
+    /// gives it the next number. The objects that its fields are handles to are counted once more for each; nothing
+    /// holds the new one yet.
+    pub fn new_script(&mut self, owner: u8, class: u16, fields: Words) -> Result<u64, MakeFault>
+        requires short { length fields ≤ 4096 }
+        requires alive { All (λ word. IsAlive word self.old) fields }
+        ensures full { IsErrOf result MakeFault.ObjectLimit ↔ IsFull self.old }
+        ensures spent { IsErrOf result MakeFault.NumbersSpent ↔ ((IsFull self.old → ⊥) × IsSpent self.old) }
+        ensures pool { IsErrOf result MakeFault.PoolEmpty → ⊥ }
+        ensures long { IsErrOf result MakeFault.ArrayLimit → ⊥ }
+        ensures unchanged { OnErr result (self.new ≡ self.old) }
+        ensures number { IfOk result (λ number. number ≡ self.old.last + 1) }
+        ensures made { IfOk result (λ number. IsSomeAnd (slot_of number self.new) (λ slot. self.new
+            ≡ with_made slot (Body.Script (record { «module» = owner; class = class; fields = fields })) self.old)) }
+    {
+        let number = self.next_number()?;
+        let script = Script {
+            module: owner,
+            class,
+            fields,
+        };
+        match self.make(number, Body::Script(script)) {
+            Ok(()) => Ok(number),
+            Err(_) => Err(MakeFault::NoMemory),
+        }
+    }
+
+    /// Makes an array of so many elements, each zero or null, and gives it the next number. Nothing holds it yet.
+    pub fn new_array(&mut self, element: Element, length: usize) -> Result<u64, MakeFault>
+        ensures full { IsErrOf result MakeFault.ObjectLimit ↔ IsFull self.old }
+        ensures spent { IsErrOf result MakeFault.NumbersSpent ↔ ((IsFull self.old → ⊥) × IsSpent self.old) }
+        ensures long { IsErrOf result MakeFault.ArrayLimit
+            ↔ ((IsFull self.old → ⊥) × (IsSpent self.old → ⊥) × (4096 < length)) }
+        ensures pool { IsErrOf result MakeFault.PoolEmpty → ⊥ }
+        ensures unchanged { OnErr result (self.new ≡ self.old) }
+        ensures number { IfOk result (λ number. number ≡ self.old.last + 1) }
+        ensures made { IfOk result (λ number. IsSomeAnd (slot_of number self.new) (λ slot. self.new
+            ≡ with_made slot (Body.Array (record { element = element; elements = replicate length (initial_of element) }))
+            self.old)) }
+    {
+        let number = self.next_number()?;
+        if length > MAX_ELEMENTS {
+            return Err(MakeFault::ArrayLimit);
+        }
+        let alloc = *self.gone.allocator();
+        let Ok(elements) = vec![in alloc; element.initial(); length] else {
+            return Err(MakeFault::NoMemory);
+        };
+        let array = Array {
+            element,
+            elements: Words::new(elements),
+        };
+        match self.make(number, Body::Array(array)) {
+            Ok(()) => Ok(number),
+            Err(_) => Err(MakeFault::NoMemory),
+        }
     }
 
     /// Takes the first free box of a kind from the pool and gives it the next number. Nothing holds it yet.
@@ -90,6 +151,7 @@ impl<B: HostObject> Objects<B> {
         ensures spent { IsErrOf result MakeFault.NumbersSpent ↔ ((IsFull self.old → ⊥) × IsSpent self.old) }
         ensures pool { IsErrOf result MakeFault.PoolEmpty
             ↔ ((IsFull self.old → ⊥) × (IsSpent self.old → ⊥) × (first_of_kind B.HostObject kind self.old ≡ None)) }
+        ensures long { IsErrOf result MakeFault.ArrayLimit → ⊥ }
         ensures unchanged { OnErr result (self.new ≡ self.old) }
         ensures no_event { OnErr result (events.new.items ≡ events.old.items) }
         ensures number { IfOk result (λ number. number ≡ self.old.last + 1) }

@@ -6,7 +6,7 @@ ghost use Rattle.ash_objects.specs.Responses.{box_at};
 
 use crate::reporter::{Log, Reporter};
 use ash_host::{Counter, Event, HostAnswer, Word};
-use ash_objects::{MakeFault, Objects, Script, Words};
+use ash_objects::{MakeFault, Objects, Words};
 use std::alloc::Global;
 use std::cell::RefCell;
 use std::rc::Rc;
@@ -69,12 +69,7 @@ pub fn make(
 {
     let mut words = Vec::new(alloc);
     words.resize(fields, Word::Null)?;
-    let script = Script {
-        module: 0,
-        class: 0,
-        fields: Words::new(words),
-    };
-    Ok(objects.new_script(script))
+    Ok(objects.new_script(0, 0, Words::new(words)))
 }
 
 /// Draws a counter and starts it with a number.

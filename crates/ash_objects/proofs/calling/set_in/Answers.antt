@@ -1,9 +1,13 @@
-use Rattle.ash_objects.proofs.Boxes.{box_was, no_script, boxed_at}
+use Rattle.ash_objects.proofs.Boxes.{box_was, no_script, no_array, boxed_at}
 use Rattle.ash_objects.proofs.calling.set_in.Goals as goal
 
 pub unreachable-requires : goal.unreachable-requires
 unreachable-requires g c =
     no_script c.requires.0 c.args.store.now.objects c.item_mut-item.result.now (c.item_mut-item.ensures.value c.requires.0 c.requires.1) _ c.in-Script.is c.requires.2
+
+pub unreachable-requires-in-Array : goal.unreachable-requires-in-Array
+unreachable-requires-in-Array g c =
+    no_array c.requires.0 c.args.store.now.objects c.item_mut-item.result.now (c.item_mut-item.ensures.value c.requires.0 c.requires.1) _ c.in-Array.is c.requires.2
 
 pub returns : goal.returns
 returns g c = λ number is_in.

@@ -1,4 +1,4 @@
-use Rattle.std.proofs.Common.{sym, ap, ◌∙◌, Option, Some}
+use Rattle.std.proofs.Common.{sym, ap, ◌∙◌, Option}
 use Rattle.std.specs.Option.{option_map}
 use Rattle.ash_objects.specs.Store.{Placed}
 use Rattle.ash_objects.proofs.Steps.{is_in_from, none_from}

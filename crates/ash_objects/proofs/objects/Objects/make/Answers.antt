@@ -1,23 +1,23 @@
 use Rattle.std.proofs.Common.{◌≡◌, refl, arith, ap, ◌∙◌, ◌<◌, ◌+◌, length, true}
 use Rattle.ash_host.specs.Objects.{with_at}
-use Rattle.ash_objects.specs.declared.body.Body.TheVariants.{Script}
+use Rattle.ash_objects.specs.Bodies.{words_of}
 use Rattle.ash_objects.specs.Store.{Placed}
 use Rattle.ash_objects.specs.Counting.{living_in, refer_all}
 use Rattle.ash_objects.specs.Making.{made}
 use Rattle.ash_objects.proofs.Referring.{all_alive_view}
 use Rattle.ash_objects.proofs.Newcomers.{length-living, made_is, view_new, table_new, absent, slot_new, words_new, alive_new, fits_new}
-use Rattle.ash_objects.proofs.objects.Objects.new_script.Goals as goal
+use Rattle.ash_objects.proofs.objects.Objects.make.Goals as goal
 
 pub refer_words-requires : goal.refer_words-requires
 refer_words-requires g c =
     let l = c.self.inside.store.objects in
     let t = c.self.invariant in
-    let n = c.in_ok-next.next in
-    let p : Placed _ = record { slot = c.in-Ok.slot; waiting = true; item = record { count = 0; touched = true; body = Script c.args.script } } in
-    let number : n ≡ c.self.inside.last + 1 = rw (← c.self.view_is) at c.in_ok-next.ensures.number in
+    let n = c.args.next in
+    let p : Placed _ = record { slot = c.in-Ok.slot; waiting = true; item = record { count = 0; touched = true; body = c.args.body } } in
+    let number : n ≡ c.self.inside.last + 1 = rw (← c.self.view_is) at c.requires.next in
     let later : c.self.inside.last < n = omega (arith, number) in
     let none = absent l c.self.inside.last n t.given later in
-    let alive = all_alive_view c.args.script.fields l (rw (← c.self.view_is) at c.requires.alive) in
+    let alive = all_alive_view (words_of c.args.body) l (rw (← c.self.view_is) at c.requires.alive) in
     let short = c.requires.short in
     rw c.in-Ok.ensures.objects (
       n,
@@ -30,14 +30,14 @@ pub invariant_of-self-2 : goal.invariant_of-self-2
 invariant_of-self-2 g c =
     let l = c.self.inside.store.objects in
     let t = c.self.invariant in
-    let n = c.in_ok-next.next in
-    let p : Placed _ = record { slot = c.in-Ok.slot; waiting = true; item = record { count = 0; touched = true; body = Script c.args.script } } in
-    let number : n ≡ c.self.inside.last + 1 = rw (← c.self.view_is) at c.in_ok-next.ensures.number in
+    let n = c.args.next in
+    let p : Placed _ = record { slot = c.in-Ok.slot; waiting = true; item = record { count = 0; touched = true; body = c.args.body } } in
+    let number : n ≡ c.self.inside.last + 1 = rw (← c.self.view_is) at c.requires.next in
     let later : c.self.inside.last < n = omega (arith, number) in
     let none = absent l c.self.inside.last n t.given later in
-    let alive = all_alive_view c.args.script.fields l (rw (← c.self.view_is) at c.requires.alive) in
+    let alive = all_alive_view (words_of c.args.body) l (rw (← c.self.view_is) at c.requires.alive) in
     let short = c.requires.short in
-    let room = rw (← c.self.view_is) at c.in_ok-next.ensures.room in
+    let room = rw (← c.self.view_is) at c.requires.room in
     let few : length l < 4096 = omega (arith, room, length-living l l) in
     let here = slot_new n p l t.in_order t.counted none alive refl in
     let referred = rw c.in-Ok.ensures.objects at (c.refer_words.ensures n) in
@@ -48,15 +48,15 @@ pub returns-clause-made : goal.returns-clause-made
 returns-clause-made g c =
     let l = c.self.inside.store.objects in
     let t = c.self.invariant in
-    let n = c.in_ok-next.next in
-    let p : Placed _ = record { slot = c.in-Ok.slot; waiting = true; item = record { count = 0; touched = true; body = Script c.args.script } } in
-    let number : n ≡ c.self.inside.last + 1 = rw (← c.self.view_is) at c.in_ok-next.ensures.number in
+    let n = c.args.next in
+    let p : Placed _ = record { slot = c.in-Ok.slot; waiting = true; item = record { count = 0; touched = true; body = c.args.body } } in
+    let number : n ≡ c.self.inside.last + 1 = rw (← c.self.view_is) at c.requires.next in
     let later : c.self.inside.last < n = omega (arith, number) in
     let none = absent l c.self.inside.last n t.given later in
-    let alive = all_alive_view c.args.script.fields l (rw (← c.self.view_is) at c.requires.alive) in
+    let alive = all_alive_view (words_of c.args.body) l (rw (← c.self.view_is) at c.requires.alive) in
     let here = slot_new n p l t.in_order t.counted none alive refl in
     let referred = rw c.in-Ok.ensures.objects at (c.refer_words.ensures n) in
-    let put : living_in c.refer_words.new.store.objects ≡ with_at n (made c.in-Ok.slot (Script c.args.script)) (living_in l) =
+    let put : living_in c.refer_words.new.store.objects ≡ with_at n (made c.in-Ok.slot c.args.body) (living_in l) =
     ap living_in (referred here ∙ ap (λ ws. refer_all ws (with_at n p l)) (words_new n p l t.in_order t.counted none alive refl))
     ∙ view_new n p l t.in_order t.counted none alive refl refl in
-    rw (← c.self.view_is) (made_is _ n c.in-Ok.slot (Script c.args.script) (living_in c.refer_words.new.store.objects) number put)
+    rw (← c.self.view_is) (made_is _ n c.in-Ok.slot c.args.body (living_in c.refer_words.new.store.objects) number put)
