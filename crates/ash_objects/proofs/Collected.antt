@@ -5,6 +5,7 @@ use Rattle.std.specs.Option.{option_map, option_map_or, is_none}
 use Rattle.std.specs.Map.{keys_of, values_of}
 use Rattle.std.specs.List.Sorted.{IsStrictlyIncreasing}
 use Rattle.std.proofs.lemmas.Bool.{eqb-true}
+use Rattle.std.proofs.lemmas.List.{append-nil}
 use Rattle.std.proofs.lemmas.List.Sums.{sum_by-cons}
 use Rattle.std.proofs.lemmas.List.Filters.{sum_by-filter_both}
 use Rattle.std.proofs.lemmas.List.Kept.{IsStrictlyIncreasing-filter}
@@ -279,3 +280,41 @@ module _ {B : Type 0} where
 
     pub leaves_reachable : LeavesReachable old new
     leaves_reachable n = (λ lives. live_reached top n (omega arith) lives, λ reached. reached_lives n reached)
+
+module _ {B : Type 0} where
+  -- nothing was taken out
+  pub none_gone : (l : List (ℕ × Placed B)) → IsInOrder l → AreCounted l → HaveGone l l []
+  none_gone l o s = record {
+    in_order = o;
+    covered = s.covered;
+    balance = λ n lives. refl;
+    waiting = s.waiting;
+    stay = λ n lives. refl;
+    go = λ n none. let zero = ap (λ (v : Option (Placed B)). option_map_or (λ object. (object.item).count) v 0) none in omega (arith, zero);
+    whole = λ measure. omega arith;
+    many = omega arith;
+  }
+
+  pub none_marked : (went : List (ℕ × Bool)) → AreInOrder {B = B} [] went → went ≡ []
+  none_marked [] h = refl
+  none_marked (e ∷ went) h =
+      let one = h.same (λ x. 1) in
+      let cons = sum_by-cons (λ (x : ℕ × Bool). 1) e went in
+      absurd (omega (arith, one, cons))
+
+  -- a sweep that has nothing to take
+  module _ (l : List (ℕ × Placed B)) (o : IsInOrder l) (s : AreCounted l) (done : NoneWaits l) where
+    no_marks : map living_mark (gone_from (living_in l) (living_in l)) ≡ []
+    no_marks = none_marked _ (gone_marks l l [] o s (none_gone l o s))
+
+    pub collects_none : (pool services : List B) (last settled : ℕ) (gone : List ℕ) → Collects (record { objects = living_in l; pool = pool; services = services; last = last; settled = settled; gone = gone }) (record { objects = living_in l; pool = pool; services = services; last = last; settled = settled; gone = gone })
+    collects_none pool services last settled gone =
+        let now = collects_now l l [] o s (none_gone l o s) done pool services last settled gone in
+        let P : List ℕ → Type 0 = λ (k : List ℕ). Collects (record { objects = living_in l; pool = pool; services = services; last = last; settled = settled; gone = gone }) (record { objects = living_in l; pool = pool; services = services; last = last; settled = settled; gone = k }) in
+        subst P (ap (λ (k : List (ℕ × Bool)). gone ++ marked_since settled k) no_marks ∙ append-nil gone) now
+
+    pub drops_none : (events : List Event) → events ≡ events ++ drops (gone_from (living_in l) (living_in l))
+    drops_none events = sym (ap (λ (k : List Event). events ++ k) (drops_is (gone_from (living_in l) (living_in l)) ∙ ap marked_drops no_marks) ∙ append-nil events)
+
+    pub order_none : IsInOrder (living_in l)
+    order_none = order_now l l [] (none_gone l o s)

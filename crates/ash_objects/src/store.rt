@@ -144,6 +144,13 @@ impl<B> Store<B> {
         }
     }
 
+    /// Whether no slot is listed for the next sweep.
+    pub fn none_waits(&self) -> bool
+        ensures { IsTrue result → NoneWaits self.now.objects }
+    {
+        self.idle.is_empty()
+    }
+
     /// Takes a slot from the list of those that the next sweep looks at. The slot may be empty.
     pub fn next_waiting(&mut self) -> Option<usize>
         ensures objects { IfSome result (λ slot. self.new.objects ≡ change_in slot (with_waiting false) self.old.objects) }

@@ -74,8 +74,23 @@ fn report<B>(taken: &[Entry<B>], settled: u64, gone: &mut Vec<u64>, events: &mut
 
 impl<B: HostObject> Objects<B> {
     /// Takes away what no hold and no object that stays leads to: gives its boxes up, and appends `Dropped` for each, by
-    /// ascending number. Where memory is refused nothing is taken.
+    /// ascending number. Where memory is refused nothing is taken. Where no object was made and no count fell to zero
+    /// since the last sweep it costs one test.
     pub fn sweep(&mut self, events: &mut Vec<Event>) -> Result<(), NoMemory>
+        ensures collected { OnOk result (Collects self.old self.new) }
+        ensures dropped { OnOk result (events.new.items ≡ events.old.items ++ drops (gone_from self.old.objects self.new.objects)) }
+        ensures reachable { OnOk result ((rank : ℕ → ℕ) (top : ℕ) → RanksFall rank top self.old → LeavesReachable self.old self.new) }
+        ensures unchanged { OnErr result (self.new ≡ self.old) }
+        ensures no_event { OnErr result (events.new.items ≡ events.old.items) }
+    {
+        if self.store.none_waits() {
+            return Ok(());
+        }
+        self.sweep_waiting(events)
+    }
+
+    // The sweep, where objects may wait for it.
+    fn sweep_waiting(&mut self, events: &mut Vec<Event>) -> Result<(), NoMemory>
         ensures collected { OnOk result (Collects self.old self.new) }
         ensures dropped { OnOk result (events.new.items ≡ events.old.items ++ drops (gone_from self.old.objects self.new.objects)) }
         ensures reachable { OnOk result ((rank : ℕ → ℕ) (top : ℕ) → RanksFall rank top self.old → LeavesReachable self.old self.new) }

@@ -1,46 +1,23 @@
-use Rattle.std.proofs.Common.{◌≡◌, ◌++◌, ℕ, Bool, List, map, ap, ◌∙◌}
-use Rattle.ash_host.specs.declared.event.Event.{Event}
-use Rattle.ash_objects.specs.declared.entry.Entry.{Entry}
-use Rattle.ash_objects.specs.Counting.{living_in}
-use Rattle.ash_objects.specs.Collecting.{entry_mark, marked_since, marked_drops}
-use Rattle.ash_objects.specs.Sweeping.{gone_from}
-use Rattle.ash_objects.proofs.Collected.{living_mark, table_now, collects_now, gone_marks, drops_is, leaves_reachable, order_now}
+use Rattle.ash_objects.proofs.Collected.{collects_none, drops_none, order_none, leaves_reachable}
 use Rattle.ash_objects.proofs.objects.Objects.sweep.Goals as goal
 
-pub invariant_of-self-2 : goal.invariant_of-self-2
-invariant_of-self-2 g c =
-    table_now c.self.inside.store.objects c.collect.new.store.objects c.collect.new.taken.items c.self.invariant.in_order c.self.invariant.counted c.collect.ensures.gone c.self.inside.last c.self.inside.settled c.self.invariant
-
-pub returns-clause-collected : goal.returns-clause-collected
-returns-clause-collected g c =
-    let l = c.self.inside.store.objects in
-    let now = c.collect.new.store.objects in
+pub returns-then-none_waits-clause-collected : goal.returns-then-none_waits-clause-collected
+returns-then-none_waits-clause-collected g c =
     let t = c.self.invariant in
-    let h = c.collect.ensures.gone in
-    let marks = map living_mark (gone_from (living_in l) (living_in now)) in
-    let sorted = ap (λ (k : List (Entry _)). map entry_mark k) c.deref.ensures.value ∙ c.sort_taken.ensures.order marks (gone_marks l now c.collect.new.taken.items t.in_order t.counted h) in
-    let gone : c.report.new.gone.items ≡ c.self.inside.gone.items ++ marked_since c.self.inside.settled marks =
-    c.report.ensures.gone ∙ ap (λ (k : List ℕ). k ++ marked_since c.self.inside.settled (map entry_mark c.deref.result.now)) c.reserve-else-is_err.ensures.items ∙ ap (λ (k : List (ℕ × Bool)). c.self.inside.gone.items ++ marked_since c.self.inside.settled k) sorted in
-    rw (← c.self.view_is, gone)
-    (collects_now l now c.collect.new.taken.items t.in_order t.counted h c.collect.ensures.done c.self.inside.pool.items c.self.inside.services.items c.self.inside.last c.self.inside.settled c.self.inside.gone.items)
+    let done = c.none_waits.ensures c.if-none_waits.true in
+    rw (← c.self.view_is) (collects_none c.self.inside.store.objects t.in_order t.counted done c.self.inside.pool.items c.self.inside.services.items c.self.inside.last c.self.inside.settled c.self.inside.gone.items)
 
-pub returns-clause-dropped : goal.returns-clause-dropped
-returns-clause-dropped g c =
-    let l = c.self.inside.store.objects in
-    let now = c.collect.new.store.objects in
+pub returns-then-none_waits-clause-dropped : goal.returns-then-none_waits-clause-dropped
+returns-then-none_waits-clause-dropped g c =
     let t = c.self.invariant in
-    let h = c.collect.ensures.gone in
-    let marks = map living_mark (gone_from (living_in l) (living_in now)) in
-    let sorted = ap (λ (k : List (Entry _)). map entry_mark k) c.deref.ensures.value ∙ c.sort_taken.ensures.order marks (gone_marks l now c.collect.new.taken.items t.in_order t.counted h) in
-    rw (← c.self.view_is, drops_is (gone_from (living_in l) (living_in now)))
-    (c.report.ensures.events ∙ ap (λ (k : List Event). k ++ marked_drops (map entry_mark c.deref.result.now)) c.reserve-else-is_err-2.ensures.items ∙ ap (λ (k : List (ℕ × Bool)). c.args.events.now.items ++ marked_drops k) sorted)
+    let done = c.none_waits.ensures c.if-none_waits.true in
+    rw (← c.self.view_is) (drops_none c.self.inside.store.objects t.in_order t.counted done c.args.events.now.items)
 
-pub returns-clause-reachable : goal.returns-clause-reachable
-returns-clause-reachable g c = λ rank top ranks.
+pub returns-then-none_waits-clause-reachable : goal.returns-then-none_waits-clause-reachable
+returns-then-none_waits-clause-reachable g c = λ rank top ranks.
     let l = c.self.inside.store.objects in
-    let now = c.collect.new.store.objects in
     let t = c.self.invariant in
-    let h = c.collect.ensures.gone in
+    let done = c.none_waits.ensures c.if-none_waits.true in
     let falls = rw (← c.self.view_is) at ranks in
-    let collected = collects_now l now c.collect.new.taken.items t.in_order t.counted h c.collect.ensures.done c.self.inside.pool.items c.self.inside.services.items c.self.inside.last c.self.inside.settled c.self.inside.gone.items in
-    rw (← c.self.view_is) (leaves_reachable _ _ collected (order_now l now c.collect.new.taken.items h) rank top falls)
+    let collected = collects_none l t.in_order t.counted done c.self.inside.pool.items c.self.inside.services.items c.self.inside.last c.self.inside.settled c.self.inside.gone.items in
+    rw (← c.self.view_is) (leaves_reachable _ _ collected (order_none l t.in_order t.counted done) rank top falls)
