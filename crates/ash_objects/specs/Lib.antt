@@ -8,3 +8,4 @@ pub mod Making
 pub mod Sweeping
 pub mod Collecting
 pub mod Marking
+pub mod Arrays
