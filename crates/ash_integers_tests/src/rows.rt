@@ -8,10 +8,15 @@ use ash_integers::{
 use std::process::Abort;
 
 const LEAST_INT: i128 = -2_147_483_648;
+
 const GREATEST_INT: i128 = 2_147_483_647;
+
 const GREATEST_UINT: i128 = 4_294_967_295;
+
 const LEAST_INT64: i128 = -9_223_372_036_854_775_808;
+
 const GREATEST_INT64: i128 = 9_223_372_036_854_775_807;
+
 const GREATEST_UINT64: i128 = 18_446_744_073_709_551_615;
 
 // An operator, its type, its operands and the result.
@@ -36,7 +41,12 @@ fn is_of(of: IntType, word: Word) -> bool {
     }
 }
 
-fn result(operator: Arithmetic, of: IntType, left: i128, right: i128) -> Result<Word, DivisionFault> {
+fn result(
+    operator: Arithmetic,
+    of: IntType,
+    left: i128,
+    right: i128,
+) -> Result<Word, DivisionFault> {
     calculate(operator, of, word(of, left), word(of, right))
 }
 
@@ -91,9 +101,21 @@ fn products(rt: HostRuntime) {
             (Multiply, Uint, 65_536, 65_537, Ok(65_536)),
             (Multiply, Uint, GREATEST_UINT, GREATEST_UINT, Ok(1)),
             (Multiply, Int64, LEAST_INT64, -1, Ok(LEAST_INT64)),
-            (Multiply, Int64, 4_294_967_296, 2_147_483_648, Ok(LEAST_INT64)),
+            (
+                Multiply,
+                Int64,
+                4_294_967_296,
+                2_147_483_648,
+                Ok(LEAST_INT64),
+            ),
             (Multiply, Uint64, GREATEST_UINT64, GREATEST_UINT64, Ok(1)),
-            (Multiply, Uint64, 4_294_967_296, 4_294_967_297, Ok(4_294_967_296)),
+            (
+                Multiply,
+                Uint64,
+                4_294_967_296,
+                4_294_967_297,
+                Ok(4_294_967_296),
+            ),
         ],
     );
 }
@@ -119,7 +141,13 @@ fn quotients_and_remainders(rt: HostRuntime) {
             (Divide, Int64, LEAST_INT64, -1, Err(Overflow)),
             (Divide, Int64, LEAST_INT, -1, Ok(2_147_483_648)),
             (Divide, Int64, 0, 0, Err(ByZero)),
-            (Divide, Uint64, GREATEST_UINT64, 10, Ok(1_844_674_407_370_955_161)),
+            (
+                Divide,
+                Uint64,
+                GREATEST_UINT64,
+                10,
+                Ok(1_844_674_407_370_955_161),
+            ),
             (Divide, Uint64, 1, 0, Err(ByZero)),
             (Remainder, Int, -7, 2, Ok(-1)),
             (Remainder, Int, 7, -2, Ok(1)),
@@ -146,7 +174,13 @@ fn bits(rt: HostRuntime) {
             (BitAnd, Int, -4, -6, Ok(-8)),
             (BitOr, Int, -8, 3, Ok(-5)),
             (BitXor, Int, -1, GREATEST_INT, Ok(LEAST_INT)),
-            (BitAnd, Uint, GREATEST_UINT, 2_147_483_648, Ok(2_147_483_648)),
+            (
+                BitAnd,
+                Uint,
+                GREATEST_UINT,
+                2_147_483_648,
+                Ok(2_147_483_648),
+            ),
             (BitOr, Uint, 2_147_483_648, 1, Ok(2_147_483_649)),
             (BitXor, Uint, GREATEST_UINT, 1, Ok(4_294_967_294)),
             (BitAnd, Int64, LEAST_INT64, -1, Ok(LEAST_INT64)),
@@ -185,9 +219,21 @@ fn shifts(rt: HostRuntime) {
         (Right, Uint64, GREATEST_UINT64, Word::Uint64(63), 1),
         (RightArithmetic, Int, -1, Word::Int(28), -1),
         (RightArithmetic, Int, GREATEST_INT, Word::Int(28), 7),
-        (RightArithmetic, Uint, 2_147_483_648, Word::Int(31), GREATEST_UINT),
+        (
+            RightArithmetic,
+            Uint,
+            2_147_483_648,
+            Word::Int(31),
+            GREATEST_UINT,
+        ),
         (RightArithmetic, Int64, LEAST_INT64, Word::Int(62), -2),
-        (RightArithmetic, Uint64, 9_223_372_036_854_775_808, Word::Int(63), GREATEST_UINT64),
+        (
+            RightArithmetic,
+            Uint64,
+            9_223_372_036_854_775_808,
+            Word::Int(63),
+            GREATEST_UINT64,
+        ),
     ];
     for row in &rows {
         let (operator, of, left, count, expected) = *row;
@@ -219,7 +265,11 @@ fn conversions(rt: HostRuntime) {
         (Int, Word::Int(-5), -5),
         (Uint, Word::Int(-1), GREATEST_UINT),
         (Uint, Word::Int64(-1), GREATEST_UINT),
-        (Uint, Word::Uint64(18_446_744_073_709_551_615), GREATEST_UINT),
+        (
+            Uint,
+            Word::Uint64(18_446_744_073_709_551_615),
+            GREATEST_UINT,
+        ),
         (Uint, Word::Uint(7), 7),
         (Int64, Word::Int(-1), -1),
         (Int64, Word::Uint(4_294_967_295), GREATEST_UINT),
@@ -227,7 +277,11 @@ fn conversions(rt: HostRuntime) {
         (Int64, Word::Int64(-9), -9),
         (Uint64, Word::Int(-1), GREATEST_UINT64),
         (Uint64, Word::Uint(4_294_967_295), GREATEST_UINT),
-        (Uint64, Word::Int64(-9_223_372_036_854_775_808), 9_223_372_036_854_775_808),
+        (
+            Uint64,
+            Word::Int64(-9_223_372_036_854_775_808),
+            9_223_372_036_854_775_808,
+        ),
         (Uint64, Word::Uint64(1), 1),
     ];
     for row in &rows {
@@ -253,8 +307,16 @@ fn operators_of_one_operand(rt: HostRuntime) {
     ];
     for row in &rows {
         let (of, operand, minus, complement) = *row;
-        assert_eq!(rt; value(negated(of, word(of, operand))), minus, "-x of {row:?}");
-        assert_eq!(rt; value(complemented(of, word(of, operand))), complement, "~x of {row:?}");
+        assert_eq!(rt;
+            value(negated(of, word(of, operand))),
+            minus,
+            "-x of {row:?}"
+        );
+        assert_eq!(rt;
+            value(complemented(of, word(of, operand))),
+            complement,
+            "~x of {row:?}"
+        );
     }
 }
 
@@ -266,9 +328,21 @@ fn holds(comparison: Comparison, left: Word, right: Word) -> bool {
 fn comparisons(rt: HostRuntime) {
     use Comparison::{Equal, Greater, GreaterOrEqual, Less, LessOrEqual, NotEqual};
     let rows: [(Word, Word, [bool; 6]); 5] = [
-        (Word::Int(-1), Word::Int(0), [true, true, false, false, false, true]),
-        (Word::Uint(4_294_967_295), Word::Uint(0), [false, false, true, true, false, true]),
-        (Word::Int64(7), Word::Int64(7), [false, true, false, true, true, false]),
+        (
+            Word::Int(-1),
+            Word::Int(0),
+            [true, true, false, false, false, true],
+        ),
+        (
+            Word::Uint(4_294_967_295),
+            Word::Uint(0),
+            [false, false, true, true, false, true],
+        ),
+        (
+            Word::Int64(7),
+            Word::Int64(7),
+            [false, true, false, true, true, false],
+        ),
         (
             Word::Int64(-9_223_372_036_854_775_808),
             Word::Int64(9_223_372_036_854_775_807),
