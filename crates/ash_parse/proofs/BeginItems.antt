@@ -9,7 +9,8 @@ use Rattle.ash_tree.specs.declared.tree.places.Place.{Place}
 use Rattle.ash_tree.specs.Tree.{Parameter, AMethod, AField, AConstructor, Item, AClass, AFunction, AGlobal}
 use Rattle.ash_tree.specs.Tokens.{Tokens}
 use Rattle.ash_tree.specs.Expressions.{DEPTH}
-use Rattle.ash_tree.specs.Statements.{IsType, IsVars, IsBlock}
+use Rattle.ash_tree.specs.Types.{IsType}
+use Rattle.ash_tree.specs.Statements.{IsVars, IsBlock}
 use Rattle.ash_tree.specs.Grammar.{IsResultType, void, typed, IsParameter, parameter, AreMoreParameters, no_more_parameters, more_parameters, AreParameters, no_parameters, parameters, IsFunction, function, IsMember, method, fields, constructor, AreMembers, no_members, more_members, IsClass, class, IsItem, a_class, a_function, globals, Derives, no_items, semicolon, item}
 use Rattle.ash_parse.specs.Signs.{is_sign}
 use Rattle.ash_parse.specs.Reading.{Halt, Unexpected, TooDeep, Reading, ◌>>=◌, next_is_sign}
@@ -125,13 +126,13 @@ begin_class p ts =
     (λ n a. sign_then _ signs.OpenBrace _ a
     (λ o b. then AreMembers _ (members_at b) _ b (begin_members b)
     (λ xs c. sign_then _ signs.CloseBrace _ c
-    (λ z d. done _ (record { place = n.1; name = n.0; members = xs }) d (λ free left before ms. class ms)))))
+    (λ z d. done _ (record { place = n.1; name = n.0; interfaces = []; members = xs }) d (λ free left before ms. class ms)))))
 
 -- a class without members
 fill_item : Filled IsItem
 fill_item =
     fill_behind _ (reserved words.Class, nowhere) (fill_behind _ (name some_name, nowhere) (fill_behind _ (sign signs.OpenBrace, nowhere) (fill_behind _ (sign signs.CloseBrace, nowhere)
-    (fill_here _ (AClass (record { place = nowhere; name = some_name; members = [] })) (λ free left. a_class (class no_members))))))
+    (fill_here _ (AClass (record { place = nowhere; name = some_name; interfaces = []; members = [] })) (λ free left. a_class (class no_members))))))
 
 begin_item : (ts : Tokens) → Law (item_at ts) ts IsItem
 unfolding item_at

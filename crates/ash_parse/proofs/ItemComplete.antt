@@ -22,7 +22,7 @@ use Rattle.ash_parse.specs.Unique.{HasOneModule, HasOneDeclaration}
 use Rattle.ash_parse.proofs.Readings.{ok_is, expect_again, next_is_sign-again, name_again}
 use Rattle.ash_parse.proofs.ItemShorter.{parameter_shorter, member_shorter, item_shorter, unnamed_shorter, strip_shorter, strip-done, no_more_left}
 use Rattle.ash_parse.proofs.Rereading.{no_true, Reads, whole, as_read, then_reads, is_cut, is_whole, ReadsAll, none_again, one_again}
-use Rattle.ash_parse.proofs.ExpressionComplete.{Closes, begins_no_close, close_ends}
+use Rattle.ash_parse.proofs.ExpressionComplete.{Closes, starts, starts_no_close, close_ends}
 use Rattle.ash_parse.proofs.VarsComplete.{Follows, ends_follow, type_read, type_begins, declared_read}
 use Rattle.ash_parse.proofs.StatementComplete.{brace_rests, block_read}
 use Rattle.ash_parse.proofs.ItemHeads.{begins_no_void, function_heads, vars_heads, member_goes, item_heads, function_function, vars_no_function, function_no_constructor, vars_no_constructor, constructor_constructor}
@@ -31,7 +31,7 @@ name_no_handle : (text : List ℕ) (p : Place) (ts : Tokens) → next_is_sign si
 unfolding next_is_sign is_sign
 name_no_handle text p ts = refl
 
-typed_again : (from left : Tokens) (t : Named) → next_is begins from ≡ true → type_at from ≡ Ok (t, left) → result_type_at from ≡ Ok (Some t, left)
+typed_again : (from left : Tokens) (t : Named) → next_is starts from ≡ true → type_at from ≡ Ok (t, left) → result_type_at from ≡ Ok (Some t, left)
 unfolding result_type_at
 typed_again [] left t b h = absurd (no_true b)
 typed_again ((m, p) ∷ ts) left t b h = rw (begins_no_void ((m, p) ∷ ts) b, h) refl
@@ -45,7 +45,7 @@ parameter_read : {from left : Tokens} {x : Parameter} → IsParameter from x lef
 unfolding parameter_at
 parameter_read (parameter {p = p} {text = text} {left = left} a) = rw (type_read a (name_no_handle text p left), name_again text p left) refl
 
-parameter_begins : {from left : Tokens} {x : Parameter} → IsParameter from x left → next_is begins from ≡ true
+parameter_begins : {from left : Tokens} {x : Parameter} → IsParameter from x left → next_is starts from ≡ true
 parameter_begins (parameter a) = type_begins a
 
 next_parameter_again : (p : Place) (from left : Tokens) (x : Parameter) → parameter_at from ≡ Ok (x, left) → next_parameter_at ((sign signs.Comma, p) ∷ from) ≡ Ok (x, left)
@@ -62,7 +62,7 @@ parameters_read : {from left : Tokens} {xs : List Parameter} → AreParameters f
 unfolding parameters_at parameter_list_at more_parameters_at
 parameters_read (no_parameters {p = p} {q = q} {left = left}) = rw (expect_again signs.OpenParenthesis p ((sign signs.CloseParenthesis, q) ∷ left), next_is_sign-again signs.CloseParenthesis q left, expect_again signs.CloseParenthesis q left) refl
 parameters_read (parameters {p = p} {q = q} {from = from} {behind = next} {left = left} {x = x} {xs = xs} a b) =
-    rw (expect_again signs.OpenParenthesis p from, begins_no_close from (parameter_begins a), parameter_read a, is_whole (more_parameters_read b (next_is_sign-again signs.CloseParenthesis q left) (length next) (omega arith)) refl, expect_again signs.CloseParenthesis q left) refl
+    rw (expect_again signs.OpenParenthesis p from, starts_no_close from (parameter_begins a), parameter_read a, is_whole (more_parameters_read b (next_is_sign-again signs.CloseParenthesis q left) (length next) (omega arith)) refl, expect_again signs.CloseParenthesis q left) refl
 
 body_read : {free : ℕ} {from left : Tokens} {ss : List Stmt} → IsBlock free 0 from ss left → Reads (List Stmt) free (body_at from) (ss, left)
 unfolding body_at
@@ -91,7 +91,7 @@ members_read (no_members {left = left}) s = none_again _ goes_on member_at left 
 members_read (more_members {from = from} {behind = next} {left = left} {x = x} {xs = xs} a b) s =
     one_again _ goes_on member_at from next left x xs (member_goes a) (member_read a) (member_shorter a) (members_read b s)
 
-class_again : {free : ℕ} (q o w : Place) (text : List ℕ) (from left : Tokens) (xs : List Member) → ReadsAll free goes_on member_at from xs ((sign signs.CloseBrace, w) ∷ left) → Reads Class free (class_at ((name text, q) ∷ (sign signs.OpenBrace, o) ∷ from)) (record { place = q; name = text; members = xs }, left)
+class_again : {free : ℕ} (q o w : Place) (text : List ℕ) (from left : Tokens) (xs : List Member) → ReadsAll free goes_on member_at from xs ((sign signs.CloseBrace, w) ∷ left) → Reads Class free (class_at ((name text, q) ∷ (sign signs.OpenBrace, o) ∷ from)) (record { place = q; name = text; interfaces = []; members = xs }, left)
 unfolding class_at members_at
 class_again q o w text from left xs r = rw (name_again text q ((sign signs.OpenBrace, o) ∷ from), expect_again signs.OpenBrace o from) (then_reads _ (r (length from) (omega arith)) (rw (expect_again signs.CloseBrace w left) whole))
 
@@ -168,7 +168,7 @@ unnamed_read : {from left : Tokens} {x : Named} → IsUnnamed from x left → Fo
 unnamed_read (unnamed {from = from} {left = left} {t = t} a) s = unnamed_again from left t (type_read a s.1) s.0
 unnamed_read (with_name {p = p} {text = text} {from = from} {left = left} {t = t} a) s = with_name_again p text from left t (type_read a (name_no_handle text p left))
 
-unnamed_begins : {from left : Tokens} {x : Named} → IsUnnamed from x left → next_is begins from ≡ true
+unnamed_begins : {from left : Tokens} {x : Named} → IsUnnamed from x left → next_is starts from ≡ true
 unnamed_begins (unnamed a) = type_begins a
 unnamed_begins (with_name a) = type_begins a
 
@@ -192,7 +192,7 @@ unfolding unnamed_parameters_at unnamed_list_at more_unnamed_at
 unnamed_list_read (no_unnamed {p = p} {q = q} {left = left}) = rw (expect_again signs.OpenParenthesis p ((sign signs.CloseParenthesis, q) ∷ left), next_is_sign-again signs.CloseParenthesis q left, expect_again signs.CloseParenthesis q left) refl
 unnamed_list_read (some_unnamed {p = p} {q = q} {from = from} {behind = next} {left = left} {x = x} {xs = xs} a b) =
     let s = next_is_sign-again signs.CloseParenthesis q left in
-    rw (expect_again signs.OpenParenthesis p from, begins_no_close from (unnamed_begins a), unnamed_read a (unnamed_follow b s), is_whole (more_unnamed_read b s (length next) (omega arith)) refl, expect_again signs.CloseParenthesis q left) refl
+    rw (expect_again signs.OpenParenthesis p from, starts_no_close from (unnamed_begins a), unnamed_read a (unnamed_follow b s), is_whole (more_unnamed_read b s (length next) (omega arith)) refl, expect_again signs.CloseParenthesis q left) refl
 
 unnamed_opens : {from left : Tokens} {xs : List Named} → AreUnnamed from xs left → next_is_sign signs.OpenParenthesis from ≡ true
 unfolding next_is_sign is_sign same_sign

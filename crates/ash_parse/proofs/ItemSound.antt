@@ -7,7 +7,8 @@ use Rattle.ash_tree.specs.declared.tree.places.Place.{Place}
 use Rattle.ash_tree.specs.Tree.{Vars, Parameter, Constructor, AMethod, AField, AConstructor, Class, Item, AClass, AFunction, AGlobal}
 use Rattle.ash_tree.specs.Tokens.{Tokens}
 use Rattle.ash_tree.specs.Expressions.{DEPTH}
-use Rattle.ash_tree.specs.Statements.{IsType, IsVars, IsBlock}
+use Rattle.ash_tree.specs.Types.{IsType}
+use Rattle.ash_tree.specs.Statements.{IsVars, IsBlock}
 use Rattle.ash_tree.specs.Grammar.{IsResultType, void, typed, IsParameter, parameter, AreMoreParameters, no_more_parameters, more_parameters, AreParameters, no_parameters, parameters, IsFunction, function, IsMember, method, fields, constructor, AreMembers, no_members, more_members, IsClass, class, IsItem, a_class, a_function, globals, Derives, no_items, semicolon, item}
 use Rattle.ash_parse.specs.Signs.{is_sign}
 use Rattle.ash_parse.specs.Reading.{Unexpected, ◌>>=◌, put, loop, next_is_sign, expect_at, name_at}
@@ -114,11 +115,11 @@ member_sound ts x rest h =
 class_sound : (p : Place) (ts : Tokens) (x : Class) (rest : Tokens) → class_at ts ≡ Ok (x, rest) → IsClass 0 ((reserved words.Class, p) ∷ ts) x rest
 unfolding class_at members_at
 class_sound p ts x rest h =
-    let n = bind_ok (name_at ts) (λ n. expect_at signs.OpenBrace n.1 >>= λ o. loop goes_on member_at o.1 >>= λ xs. expect_at signs.CloseBrace xs.1 >>= λ z. Ok (record { place = (n.0).1; name = (n.0).0; members = xs.0 }, z.1)) (x, rest) h in
-    let o = bind_ok (expect_at signs.OpenBrace (n.0).1) (λ o. loop goes_on member_at o.1 >>= λ xs. expect_at signs.CloseBrace xs.1 >>= λ z. Ok (record { place = ((n.0).0).1; name = ((n.0).0).0; members = xs.0 }, z.1)) (x, rest) n.2 in
-    let xs = bind_ok (loop goes_on member_at (o.0).1) (λ xs. expect_at signs.CloseBrace xs.1 >>= λ z. Ok (record { place = ((n.0).0).1; name = ((n.0).0).0; members = xs.0 }, z.1)) (x, rest) o.2 in
-    let z = bind_ok (expect_at signs.CloseBrace (xs.0).1) (λ z. Ok (record { place = ((n.0).0).1; name = ((n.0).0).0; members = (xs.0).0 }, z.1)) (x, rest) xs.2 in
-    let c : Class = record { place = ((n.0).0).1; name = ((n.0).0).0; members = (xs.0).0 } in
+    let n = bind_ok (name_at ts) (λ n. expect_at signs.OpenBrace n.1 >>= λ o. loop goes_on member_at o.1 >>= λ xs. expect_at signs.CloseBrace xs.1 >>= λ z. Ok (record { place = (n.0).1; name = (n.0).0; interfaces = []; members = xs.0 }, z.1)) (x, rest) h in
+    let o = bind_ok (expect_at signs.OpenBrace (n.0).1) (λ o. loop goes_on member_at o.1 >>= λ xs. expect_at signs.CloseBrace xs.1 >>= λ z. Ok (record { place = ((n.0).0).1; name = ((n.0).0).0; interfaces = []; members = xs.0 }, z.1)) (x, rest) n.2 in
+    let xs = bind_ok (loop goes_on member_at (o.0).1) (λ xs. expect_at signs.CloseBrace xs.1 >>= λ z. Ok (record { place = ((n.0).0).1; name = ((n.0).0).0; interfaces = []; members = xs.0 }, z.1)) (x, rest) o.2 in
+    let z = bind_ok (expect_at signs.CloseBrace (xs.0).1) (λ z. Ok (record { place = ((n.0).0).1; name = ((n.0).0).0; interfaces = []; members = (xs.0).0 }, z.1)) (x, rest) xs.2 in
+    let c : Class = record { place = ((n.0).0).1; name = ((n.0).0).0; interfaces = []; members = (xs.0).0 } in
     let m : AreMembers 0 (o.0).1 (xs.0).0 (xs.0).1 = repeat_sound goes_on member_at (AreMembers 0) (λ s. no_members) (λ from behind left x xs e a. more_members (member_sound from x behind e) a) (length (o.0).1) (o.0).1 (xs.0).0 (xs.0).1 xs.1 in
     at_pair (λ y l. IsClass 0 ((reserved words.Class, p) ∷ ts) y l) c (z.0).1 x rest z.2
     (name_sound ts (n.0).0 (n.0).1 (λ l. IsClass 0 ((reserved words.Class, p) ∷ l) c (z.0).1) n.1

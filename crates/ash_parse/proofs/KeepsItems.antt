@@ -75,7 +75,7 @@ module _ {slack : ℕ} where
 
   class_lawful : Lawful slack class_at
   unfolding class_at
-  class_lawful = bind_lawful _ name_lawful λ n. bind_lawful _ (expect_lawful signs.OpenBrace) λ o. bind_lawful _ members_lawful λ xs. bind_lawful _ (expect_lawful signs.CloseBrace) λ z. ok_lawful (record { place = n.1; name = n.0; members = xs })
+  class_lawful = bind_lawful _ name_lawful λ n. bind_lawful _ (expect_lawful signs.OpenBrace) λ o. bind_lawful _ members_lawful λ xs. bind_lawful _ (expect_lawful signs.CloseBrace) λ z. ok_lawful (record { place = n.1; name = n.0; interfaces = []; members = xs })
 
   item_led : (m : Meaning) (p : Place) → Led slack (m, p) (λ s. item_at ((m, p) ∷ s))
   unfolding item_at

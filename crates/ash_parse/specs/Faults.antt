@@ -24,8 +24,6 @@ part_text (parts.Word w) = unsupported_text w
 part_text parts.Power = codes "**"
 part_text parts.Scope = codes "::"
 part_text parts.Interface = codes "interface"
-part_text parts.Cast = codes "cast"
-part_text parts.Array = codes "array"
 
 -- these two tokens are `class NAME`
 abbrev pub is_class_head : Option (Meaning × Place) → Option (Meaning × Place) → Bool
@@ -41,10 +39,7 @@ unfoldable pub part_behind : Tokens → Meaning → Option UnsupportedPart
 part_behind front (unsupported w) = Some (parts.Word w)
 part_behind front (sign signs.Power) = Some parts.Power
 part_behind front (sign signs.Scope) = Some parts.Scope
-part_behind front (sign signs.OpenBracket) = Some parts.Array
 part_behind front (sign signs.Colon) = if ends_in_class_head front then Some parts.Interface else None
-part_behind front (reserved words.Array) = Some parts.Array
-part_behind front (reserved words.Cast) = Some parts.Cast
 part_behind front (reserved words.Interface) = Some parts.Interface
 part_behind front _ = None
 

@@ -9,6 +9,7 @@ use Rattle.ash_tree.specs.Tokens.{Tokens}
 use Rattle.ash_tree.specs.Expressions.{DEPTH}
 use Rattle.ash_parse.specs.Signs.{is_sign}
 use Rattle.ash_parse.specs.Reading.{Reading, Unexpected, ◌>>=◌, put, loop, next_is_sign, expect_at, name_at}
+use Rattle.ash_parse.specs.TypeReader.{is_array, behind_element}
 use Rattle.ash_parse.specs.ExpressionReader.{below_at}
 use Rattle.ash_parse.specs.StatementReader.{next_is_name, type_at, is_vars, declared_with, goes_on, block_with, nested_at}
 
@@ -82,10 +83,18 @@ unfoldable pub names_function : Tokens → Bool
 names_function ts =
     if next_is_name ts then (if next_is_sign signs.OpenParenthesis (behind ts) then (if is_vars (behind (behind ts)) then true else opens_body (behind (behind ts))) else false) else false
 
+-- ["@"], and behind it NAME "(" and what begins parameters
+unfoldable pub handle_names_function : Tokens → Bool
+handle_names_function ts = if next_is_sign signs.Handle ts then names_function (behind ts) else names_function ts
+
+abbrev pub array_names_function : Option Tokens → Bool
+array_names_function None = false
+array_names_function (Some ts) = handle_names_function ts
+
 -- the tokens begin a function, and no declaration of variables
 unfoldable pub is_function : Tokens → Bool
 is_function [] = false
-is_function ((m, p) ∷ ts) = if is_void m then true else (if next_is_sign signs.Handle ts then names_function (behind ts) else names_function ts)
+is_function ((m, p) ∷ ts) = if is_void m then true else (if is_array m then array_names_function (behind_element ts) else handle_names_function ts)
 
 unfoldable pub is_constructor : Tokens → Bool
 is_constructor ts = if next_is_name ts then next_is_sign signs.OpenParenthesis (behind ts) else false
@@ -112,7 +121,7 @@ class_at ts = do
   o ← expect_at signs.OpenBrace n.1
   xs ← members_at o.1
   z ← expect_at signs.CloseBrace xs.1
-  Ok (record { place = (n.0).1; name = (n.0).0; members = xs.0 }, z.1)
+  Ok (record { place = (n.0).1; name = (n.0).0; interfaces = []; members = xs.0 }, z.1)
 
 unfoldable pub item_at : Tokens → Reading Item
 item_at [] = Err (Unexpected [])

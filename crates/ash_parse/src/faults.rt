@@ -18,10 +18,6 @@ pub enum UnsupportedPart {
     Scope,
     /// Interfaces, and the `:` behind the name of a class.
     Interface,
-    /// Casts.
-    Cast,
-    /// Arrays, and the bracket `[`.
-    Array,
 }
 
 impl UnsupportedPart {
@@ -34,8 +30,6 @@ impl UnsupportedPart {
             UnsupportedPart::Power => "**",
             UnsupportedPart::Scope => "::",
             UnsupportedPart::Interface => "interface",
-            UnsupportedPart::Cast => "cast",
-            UnsupportedPart::Array => "array",
         }
     }
 }

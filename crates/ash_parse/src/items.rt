@@ -10,8 +10,9 @@ ghost use Rattle.ash_parse.specs.Reading.{Gives, put};
 ghost use Rattle.ash_parse.specs.ItemReader as reader;
 
 use crate::cursor::{expect, is_sign, name, next_is_sign};
+use crate::data_types::{behind_element, is_array, is_vars, next_is_name, type_name};
 use crate::expressions::DEPTH;
-use crate::statements::{block, declared, goes_on, is_vars, next_is_name, type_name};
+use crate::statements::{block, declared, goes_on};
 use crate::stop::{Reading, Stop};
 use ash_lex::{ReservedWord, Sign, Token, TokenKind};
 use ash_tree::{
@@ -183,7 +184,18 @@ fn names_function(tokens: &[Token]) -> bool
     is_vars(inner) || opens_body(inner)
 }
 
-/// Whether the tokens begin a function, and no declaration of variables. The first six of them decide.
+/// Whether `NAME "("` stands here or behind an `@`, and parameters behind it and no arguments.
+#[tactic(auto, unfolding(crate::specs::ItemReader::handle_names_function))]
+fn handle_names_function(tokens: &[Token]) -> bool
+    ensures { result ≡ reader.handle_names_function (tokens_of tokens.now) }
+{
+    if next_is_sign(Sign::Handle, tokens) {
+        return names_function(behind(tokens));
+    }
+    names_function(tokens)
+}
+
+/// Whether the tokens begin a function, and no declaration of variables. The first ten of them decide.
 #[tactic(auto, unfolding(crate::specs::ItemReader::is_function))]
 fn is_function(tokens: &[Token]) -> bool
     ensures { result ≡ reader.is_function (tokens_of tokens.now) }
@@ -194,10 +206,13 @@ fn is_function(tokens: &[Token]) -> bool
     if is_void(&next.kind) {
         return true;
     }
-    if next_is_sign(Sign::Handle, rest) {
-        return names_function(behind(rest));
+    if !is_array(&next.kind) {
+        return handle_names_function(rest);
     }
-    names_function(rest)
+    let Some(rest) = behind_element(rest) else {
+        return false;
+    };
+    handle_names_function(rest)
 }
 
 #[tactic(auto, unfolding(crate::specs::ItemReader::is_constructor))]
@@ -267,6 +282,7 @@ fn class(alloc: Global, tokens: &[Token]) -> Reading<'_, Class>
     let class = Class {
         place,
         name,
+        interfaces: Vec::new(alloc),
         members,
     };
     Ok((class, rest))

@@ -129,7 +129,11 @@ pub fn begins_expression(kind: &TokenKind) -> bool
         | TokenKind::Number(_)
         | TokenKind::Sign(Sign::OpenParenthesis)
         | TokenKind::Reserved(
-            ReservedWord::True | ReservedWord::False | ReservedWord::Null | ReservedWord::This,
+            ReservedWord::True
+            | ReservedWord::False
+            | ReservedWord::Null
+            | ReservedWord::This
+            | ReservedWord::Cast,
         ) => true,
         kind => primitive(kind).is_some() || unary_operator(kind).is_some(),
     }

@@ -44,7 +44,6 @@ fn part_behind(front: &[Token], kind: &TokenKind) -> Option<UnsupportedPart>
         TokenKind::Unsupported(word) => Some(UnsupportedPart::Word(*word)),
         TokenKind::Sign(Sign::Power) => Some(UnsupportedPart::Power),
         TokenKind::Sign(Sign::Scope) => Some(UnsupportedPart::Scope),
-        TokenKind::Sign(Sign::OpenBracket) => Some(UnsupportedPart::Array),
         TokenKind::Sign(Sign::Colon) => {
             if ends_in_class_head(front) {
                 Some(UnsupportedPart::Interface)
@@ -52,8 +51,6 @@ fn part_behind(front: &[Token], kind: &TokenKind) -> Option<UnsupportedPart>
                 None
             }
         }
-        TokenKind::Reserved(ReservedWord::Array) => Some(UnsupportedPart::Array),
-        TokenKind::Reserved(ReservedWord::Cast) => Some(UnsupportedPart::Cast),
         TokenKind::Reserved(ReservedWord::Interface) => Some(UnsupportedPart::Interface),
         _ => None,
     }
