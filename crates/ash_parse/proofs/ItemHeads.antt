@@ -5,46 +5,47 @@ use Rattle.ash_lex.specs.declared.signs.Sign.TheVariants as signs
 use Rattle.ash_lex.specs.declared.words.ReservedWord.TheVariants as words
 use Rattle.ash_tree.specs.declared.tree.places.Place.{Place}
 use Rattle.ash_tree.specs.declared.tree.types.Primitive.{Primitive}
-use Rattle.ash_tree.specs.Tree.{Named, Expr, Decl, Vars, Stmt, Parameter, Function, Member, Item}
+use Rattle.ash_tree.specs.Tree.{Named, Expr, Decl, Vars, Stmt, Parameter, Function, Member, InterfaceMethod, Item}
 use Rattle.ash_tree.specs.Tokens.{Tokens}
 use Rattle.ash_tree.specs.Operators.{primitive, unary_operator}
 use Rattle.ash_tree.specs.Expressions.{AreExprs, no_exprs, some_exprs, args}
 use Rattle.ash_tree.specs.Types.{IsType, prim, object, handle, array, array_handle}
 use Rattle.ash_tree.specs.Statements.{IsDecl, bare, valued, made, IsVars, vars, IsBlock, block}
-use Rattle.ash_tree.specs.Grammar.{IsResultType, void, typed, IsParameter, parameter, AreParameters, no_parameters, parameters, IsFunction, function, IsMember, method, fields, constructor, class, IsItem, a_class, a_function, globals}
+use Rattle.ash_tree.specs.Grammar.{IsResultType, void, typed, IsParameter, parameter, AreParameters, no_parameters, parameters, IsFunction, function, IsMember, method, fields, constructor, class, IsItem, a_class, a_function, globals, IsInterfaceMethod, interface_method, interface, an_interface}
 use Rattle.ash_parse.specs.Signs.{is_sign, same_sign}
 use Rattle.ash_parse.specs.Reading.{next_is, next_is_sign}
 use Rattle.ash_parse.specs.ExpressionReader.{begins}
 use Rattle.ash_parse.specs.TypeReader.{is_array}
 use Rattle.ash_parse.specs.StatementReader.{is_name, next_is_name, is_vars, goes_on, leading}
-use Rattle.ash_parse.specs.ItemReader.{is_void, is_class, behind, opens_body, names_function, handle_names_function, is_function, is_constructor, is_left}
+use Rattle.ash_parse.specs.ItemReader.{is_void, is_class, behind, opens_body, names_function, handle_names_function, is_function, is_constructor, is_left, is_interface}
 use Rattle.ash_parse.proofs.Rereading.{no_some, no_true}
 use Rattle.ash_parse.proofs.ExpressionComplete.{Closes, starts, begins_no_close, inner_begins, more_end}
 use Rattle.ash_parse.proofs.VarsComplete.{Next, Done, ends_follow, inner_no_vars, element_passed, type_begins, type_vars, decl_begins, decls_next, next_ends, ends_decl}
 use Rattle.ash_parse.proofs.StatementComplete.{starts_no_semicolon, starts_further}
 
--- neither a class nor a ";" stands here, and an item or a member does
+-- neither a class, an interface nor a ";" stands here, and an item or a member does
 abbrev pub Heads : Tokens → Type 0
-Heads ts = (next_is is_class ts ≡ false) × (next_is_sign signs.Semicolon ts ≡ false) × (is_left ts ≡ true) × (goes_on ts ≡ true)
+Heads ts = (next_is is_class ts ≡ false) × (next_is_sign signs.Semicolon ts ≡ false) × (is_left ts ≡ true) × (goes_on ts ≡ true) × (next_is is_interface ts ≡ false)
 
-begins_heads_at : (m : Meaning) → starts m ≡ true → (is_class m ≡ false) × (is_void m ≡ false)
-unfolding starts begins is_class is_void primitive unary_operator
+begins_heads_at : (m : Meaning) → starts m ≡ true → (is_class m ≡ false) × (is_void m ≡ false) × (is_interface m ≡ false)
+unfolding starts begins is_class is_void is_interface primitive unary_operator
 begins_heads_at (reserved words.Class) h = absurd (no_true h)
 begins_heads_at (reserved words.Void) h = absurd (no_true h)
-begins_heads_at m h = (refl, refl)
+begins_heads_at (reserved words.Interface) h = absurd (no_true h)
+begins_heads_at m h = (refl, refl, refl)
 
 pub begins_heads : (ts : Tokens) → next_is starts ts ≡ true → Heads ts
 unfolding is_left
 begins_heads [] h = absurd (no_true h)
-begins_heads ((m, p) ∷ ts) h = ((begins_heads_at m h).0, starts_no_semicolon ((m, p) ∷ ts) h, refl, (starts_further ((m, p) ∷ ts) h).0)
+begins_heads ((m, p) ∷ ts) h = ((begins_heads_at m h).0, starts_no_semicolon ((m, p) ∷ ts) h, refl, (starts_further ((m, p) ∷ ts) h).0, (begins_heads_at m h).2)
 
 pub begins_no_void : (ts : Tokens) → next_is starts ts ≡ true → next_is is_void ts ≡ false
 begins_no_void [] h = refl
 begins_no_void ((m, p) ∷ ts) h = (begins_heads_at m h).1
 
 result_heads : {from left : Tokens} {r : Option Named} → IsResultType from r left → Heads from
-unfolding is_left is_class next_is_sign is_sign same_sign goes_on leading
-result_heads void = (refl, refl, refl, refl)
+unfolding is_left is_class is_interface next_is_sign is_sign same_sign goes_on leading
+result_heads void = (refl, refl, refl, refl, refl)
 result_heads (typed {from = from} t) = begins_heads from (type_begins t)
 
 pub function_heads : {free : ℕ} {from left : Tokens} {f : Function} → IsFunction free from f left → Heads from
@@ -59,9 +60,13 @@ member_goes (method f) = (function_heads f).3
 member_goes (fields v) = (vars_heads v).3
 member_goes (constructor p b) = refl
 
+pub interface_method_goes : {from left : Tokens} {x : InterfaceMethod} → IsInterfaceMethod from x left → goes_on from ≡ true
+interface_method_goes (interface_method r p) = (result_heads r).3
+
 pub item_heads : {free : ℕ} {from left : Tokens} {x : Item} → IsItem free from x left → (next_is_sign signs.Semicolon from ≡ false) × (is_left from ≡ true)
 unfolding next_is_sign is_sign same_sign is_left
-item_heads (a_class (class ms)) = (refl, refl)
+item_heads (a_class (class is ms)) = (refl, refl)
+item_heads (an_interface (interface ms)) = (refl, refl)
 item_heads (a_function f) = let q = function_heads f in (q.1, q.2)
 item_heads (globals v) = let q = vars_heads v in (q.1, q.2)
 

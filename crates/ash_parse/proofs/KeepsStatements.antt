@@ -1,6 +1,6 @@
 -- What is answered of types, declarations of variables and statements hangs only on the tokens that are taken and the
 -- next one.
-use Rattle.std.proofs.Common.{◌≡◌, ℕ, zero, suc, ◌+◌, ◌<◌, ◌≤◌, ◌⊎◌, inl, inr, List, [], ◌∷◌, ◌++◌, length, Bool, true, false, cond, not, Option, Some, None, is_some, Ok, Err, refl, sym, ◌∙◌, arith}
+use Rattle.std.proofs.Common.{◌≡◌, ℕ, zero, suc, ◌+◌, ◌≤◌, inl, inr, List, [], ◌∷◌, ◌++◌, length, Bool, true, false, cond, not, Option, Some, None, is_some, Ok, Err, refl, sym, ◌∙◌, arith}
 use Rattle.ash_lex.specs.Tokens.{Meaning, name, number, sign, reserved, unsupported}
 use Rattle.ash_lex.specs.declared.signs.Sign.TheVariants as signs
 use Rattle.ash_lex.specs.declared.words.ReservedWord.TheVariants as words

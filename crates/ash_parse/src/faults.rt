@@ -16,8 +16,6 @@ pub enum UnsupportedPart {
     Power,
     /// The scope sign `::`.
     Scope,
-    /// Interfaces, and the `:` behind the name of a class.
-    Interface,
 }
 
 impl UnsupportedPart {
@@ -29,7 +27,6 @@ impl UnsupportedPart {
             UnsupportedPart::Word(word) => word.as_str(),
             UnsupportedPart::Power => "**",
             UnsupportedPart::Scope => "::",
-            UnsupportedPart::Interface => "interface",
         }
     }
 }

@@ -19,8 +19,7 @@ use Rattle.ash_tree.specs.declared.tree.statements.StmtKind.{Row_of-Stmt, end_of
 use Rattle.ash_tree.specs.declared.tree.statements.StmtKind.TheViews as stmt_views
 use Rattle.ash_tree.specs.declared.tree.statements.Stmt as code_stmt
 use Rattle.ash_tree.specs.declared.tree.statements.Case as code_case
-use Rattle.ash_tree.specs.declared.tree.statements.Label.{Label}
-use Rattle.ash_tree.specs.Tree.{Stmt, Stmts, Block, Switch, Case, labelled, stmt, stmts, next_case, cases, Expr, Call, NewArray, Method, Binary, Postfix, Suffix, Operation, expr, exprs, suffix, suffixes, link, links, chained, suffixed, place_of, place_of_type}
+use Rattle.ash_tree.specs.Tree.{Block, Switch, stmt, stmts, next_case, cases, Expr, Call, NewArray, Method, Binary, Postfix, Suffix, Operation, expr, exprs, suffix, suffixes, link, links, chained, suffixed, place_of, place_of_type}
 use Rattle.ash_tree.specs.Views.{element_of, type_at, expr_at, expr_of, exprs_of, suffix_of, suffixes_of, links_of, operation_of, stmt_at, stmt_of, stmts_of, case_of, cases_of}
 
 pub exprs_of-row : {n : _} (row : Row_of-Expr n) → exprs_of row ≡ exprs (map expr_of (items-the_row-Expr n row))

@@ -4,7 +4,7 @@
 --   assign  = cond [ aop assign ]
 --   cond    = binary [ "?" assign ":" assign ]
 --   unary   = ( + - ! ~ ++ -- @ ) unary | postfix
---   postfix = primary { "." NAME [args] | "[" assign "]" | "++" | "--" }
+--   postfix = primary { "." NAME [args] | "++" | "--" }
 --   primary = NUMBER | "true" | "false" | "null" | "this" | NAME [args] | "(" assign ")" | prim "(" assign ")"
 --           | "cast" "<" NAME ">" "(" assign ")"
 --
@@ -13,7 +13,7 @@
 --
 -- `IsAssign free depth from tree left`: the tokens `from` begin with an `assign` that has this tree, and `left` is left
 -- behind it. `depth` is how many phrases its tokens stand in of those that count: statements, bracketed expressions (the
--- expression between the brackets of a condition, of arguments or of an index among them), operands of unary operators, right sides
+-- expression between the brackets of a condition or of arguments among them), operands of unary operators, right sides
 -- of assignments, and branches of `? :`. No token stands deeper than 64, but for the last `free` of all tokens.
 use Rattle.std.specs.Prelude.{◌≡◌, ℕ, zero, suc, ◌<◌, ◌≤◌, true, false, length, List, [], ◌∷◌, Some}
 use Rattle.ash_lex.specs.Tokens.{Meaning, name, number, sign, reserved}
@@ -80,7 +80,7 @@ mutual
     applied : {free depth : ℕ} {m : Meaning} {p : Place} {from left : Tokens} {operator : UnaryOp} {e : Expr} → unary_operator m ≡ Some operator → Within free (suc depth) from → IsUnary free (suc depth) from e left → IsUnary free depth ((m, p) ∷ from) (Unary p operator e) left
     postfix : {free depth : ℕ} {from behind left : Tokens} {e : Expr} {more : List Suffix} → IsPrimary free depth from e behind → AreSuffixes free depth behind more left → IsUnary free depth from (suffixed e more) left
 
-  -- { "." NAME [args] | "[" assign "]" | "++" | "--" }
+  -- { "." NAME [args] | "++" | "--" }
   pub data AreSuffixes : ℕ → ℕ → Tokens → List Suffix → Tokens → Type 0 where
     no_suffixes : {free depth : ℕ} {left : Tokens} → AreSuffixes free depth left [] left
     more_suffixes : {free depth : ℕ} {from behind left : Tokens} {s : Suffix} {more : List Suffix} → IsSuffix free depth from s behind → AreSuffixes free depth behind more left → AreSuffixes free depth from (s ∷ more) left
@@ -88,7 +88,6 @@ mutual
   pub data IsSuffix : ℕ → ℕ → Tokens → Suffix → Tokens → Type 0 where
     field : {free depth : ℕ} {p q : Place} {text : List ℕ} {left : Tokens} → IsSuffix free depth ((sign signs.Dot, p) ∷ (name text, q) ∷ left) (Field q text) left
     method : {free depth : ℕ} {p q : Place} {text : List ℕ} {from left : Tokens} {es : List Expr} → IsArgs free depth from es left → IsSuffix free depth ((sign signs.Dot, p) ∷ (name text, q) ∷ from) (Method q text (exprs es)) left
-    index : {free depth : ℕ} {p q : Place} {from left : Tokens} {e : Expr} → IsInner free depth from e ((sign signs.CloseBracket, q) ∷ left) → IsSuffix free depth ((sign signs.OpenBracket, p) ∷ from) (Index e) left
     increment : {free depth : ℕ} {p : Place} {left : Tokens} → IsSuffix free depth ((sign signs.Increment, p) ∷ left) Increment left
     decrement : {free depth : ℕ} {p : Place} {left : Tokens} → IsSuffix free depth ((sign signs.Decrement, p) ∷ left) Decrement left
 
