@@ -57,7 +57,7 @@ syntactic faults.NoMemory = refusals.NoMemory
 
 -- the refusal that tells of a fault of tokens
 abbrev pub refusal_at : List Lexeme → Halt → Refusal
-refusal_at tokens halt = syntactic (fault_of (tokens_in tokens) (end_in tokens) halt)
+refusal_at tokens halt = syntactic (fault_of (end_in tokens) halt)
 
 -- the tokens are no script, and are refused for their first fault by the grammar
 pub record IsNoScript (tokens : List Lexeme) (refusal : Refusal) : Type 0 where
