@@ -208,7 +208,6 @@ module _ {D : Type 0} (device : Device D) where
     ready = settled.ready is.sound;
     reads = λ honest. (contents_of opened, is.represents honest, settled.reads (is.placed honest));
     holds = λ honest. record { contents = contents_of opened; holds = settled.holds (is.holds honest); tells = settled.reads (is.placed honest) };
-    nothing_added = λ honest. (contents_of opened, is.represents honest, settled.holds (is.holds honest));
     moments = λ p q s t honest settle.
         settle_still device p q (first_disk opened.journal) (second_disk opened.journal) (first_disk journal) (second_disk journal) (IsEither s t) (settled.extends (is.holds honest))
         (settle_still device p q a b (first_disk opened.journal) (second_disk opened.journal) (IsEither s t) (is.extends honest) settle);

@@ -144,7 +144,6 @@ pub record WasFound {D : Type 0} (device : Device D) (registered : List Registra
   pub ready : IsReady journal
   pub reads : AreHonest device a b → (contents : Contents) × Represent contents (device.seen a) (device.seen b) × Tells state contents
   pub holds : AreHonest device a b → HoldsState device state journal
-  pub nothing_added : AreHonest device a b → (contents : Contents) × Represent contents (device.seen a) (device.seen b) × Holds device journal contents.0 contents.1
   pub moments : StaySettled device a b (first_disk journal) (second_disk journal)
   pub disks : HandsBack device ⊥ a b (first_disk journal) (second_disk journal)
 

@@ -6,7 +6,7 @@ use Rattle.ash_lex.specs.declared.signs.Sign.TheVariants as signs
 use Rattle.ash_tree.specs.declared.tree.places.Place.{Place}
 use Rattle.ash_tree.specs.Tree.{Named, Prim, Declaration, ASignature, AProperty}
 use Rattle.ash_tree.specs.Tokens.{Tokens}
-use Rattle.ash_tree.specs.Types.{IsType}
+use Rattle.ash_tree.specs.Statements.{IsType}
 use Rattle.ash_tree.specs.Grammar.{IsResultType, typed, IsUnnamed, unnamed, with_name, AreMoreUnnamed, no_more_unnamed, more_unnamed, AreUnnamed, no_unnamed, some_unnamed, Declares, signature, property}
 use Rattle.ash_parse.specs.Reading.{Unexpected, next_is_sign}
 use Rattle.ash_parse.specs.StatementReader.{is_name, next_is_name, type_at}

@@ -7,18 +7,16 @@ use Rattle.ash_tree.specs.declared.tree.places.Place.{Place}
 use Rattle.ash_tree.specs.declared.tree.types.Primitive.{Primitive}
 use Rattle.ash_tree.specs.declared.tree.statements.Label.{Label}
 use Rattle.ash_tree.specs.declared.tree.statements.Label.TheVariants as labels
-use Rattle.ash_tree.specs.Tree.{Element, PrimElement, HandleElement, Named, Prim, Object, Handle, Array, ArrayHandle, Expr, Name, Initializer, Default, Value, Arguments, Decl, Stmt, Empty, Declare, Evaluate, Block, If, IfElse, While, DoWhile, For, Switch, Break, Continue, Return, Case, labelled, place_of, place_of_type, stmts, cases}
+use Rattle.ash_tree.specs.Tree.{Named, Prim, Object, Handle, Expr, Name, Initializer, Default, Value, Arguments, Decl, Stmt, Empty, Declare, Evaluate, Block, If, IfElse, While, DoWhile, For, Switch, Break, Continue, Return, Case, labelled, place_of, place_of_type, stmts, cases}
 use Rattle.ash_tree.specs.Tokens.{Tokens}
 use Rattle.ash_tree.specs.Operators.{primitive}
 use Rattle.ash_tree.specs.Expressions.{IsInner, AreExprs, no_exprs, IsArgs, IsAssign, named, postfix, no_suffixes}
-use Rattle.ash_tree.specs.Types.{IsElement, prim_element, handle_element, IsType, prim, object, handle, array, array_handle}
-use Rattle.ash_tree.specs.Statements.{IsDecl, bare, valued, made, AreMoreDecls, no_more_decls, more_decls, IsVars, vars, IsFirst, no_first, first_vars, first_expr, IsTest, no_test, test, IsResult, no_result, value, IsLabel, case, case_minus, default, is_open, IsNested, nested, AreLocals, no_locals, local_vars, local_stmt, IsBlock, block, IsStmt, inner_block, empty, evaluate, if_only, if_else, while, do_while, for, switch, break, continue, return, AreCases, no_cases, more_cases, AreStmts, no_stmts, more_stmts}
+use Rattle.ash_tree.specs.Statements.{IsType, prim, object, handle, IsDecl, bare, valued, made, AreMoreDecls, no_more_decls, more_decls, IsVars, vars, IsFirst, no_first, first_vars, first_expr, IsTest, no_test, test, IsResult, no_result, value, IsLabel, case, case_minus, default, is_open, IsNested, nested, AreLocals, no_locals, local_vars, local_stmt, IsBlock, block, IsStmt, inner_block, empty, evaluate, if_only, if_else, while, do_while, for, switch, break, continue, return, AreCases, no_cases, more_cases, AreStmts, no_stmts, more_stmts}
 use Rattle.ash_parse.specs.declared.statements.Leading.{Leading}
 use Rattle.ash_parse.specs.declared.statements.Leading.TheVariants as leads
 use Rattle.ash_parse.specs.Reading.{Reading, Unexpected, TooDeep, ◌>>=◌, next_is_sign, expect_at}
 use Rattle.ash_parse.specs.ExpressionReader.{Below, begins, arguments_with, bracketed_with, exprs_with, assign_with, below_at}
-use Rattle.ash_parse.specs.TypeReader.{is_array, elem_by, elem_at, element_at}
-use Rattle.ash_parse.specs.StatementReader.{Nested, is_name, handle_by, type_by, type_at, is_vars, initializer_with, decl_with, next_decl_with, more_decls_with, decls_with, vars_with, declared_with, first_with, test_with, result_with, leading, begins_by, begins_stmt, stmt_limit_at, goes_on, case_goes_on, evaluate_with, is_else, else_with, if_with, while_with, is_while, while_at, do_with, for_with, number_at, case_value_at, label_by, label_at, stmts_with, case_with, cases_with, switch_with, local_with, locals_with, block_with, stmt_by, stmt_with, nested_at}
+use Rattle.ash_parse.specs.StatementReader.{Nested, is_name, type_by, type_at, is_vars, initializer_with, decl_with, next_decl_with, more_decls_with, decls_with, vars_with, declared_with, first_with, test_with, result_with, leading, begins_by, begins_stmt, stmt_limit_at, goes_on, case_goes_on, evaluate_with, is_else, else_with, if_with, while_with, is_while, while_at, do_with, for_with, number_at, case_value_at, label_by, label_at, stmts_with, case_with, cases_with, switch_with, local_with, locals_with, block_with, stmt_by, stmt_with, nested_at}
 use Rattle.ash_parse.proofs.Readings.{expect_again}
 use Rattle.ash_parse.proofs.Rereading.{no_true}
 use Rattle.ash_parse.proofs.ExpressionSound.{IsPart}
@@ -29,56 +27,12 @@ use Rattle.ash_parse.proofs.BeginExpressions.{IsBracketed, bracketed, inner_alon
 fill_type : Filled (λ free. IsType)
 fill_type = fill_behind _ (name some_name, nowhere) (fill_here _ (Object nowhere some_name) (λ free left. object))
 
--- the "@" of an elem
-abbrev HandlePart : Place → Place → List ℕ → ℕ → Tokens → Element → Tokens → Type 0
-HandlePart o p text free from e left = (q : Place) × (from ≡ (sign signs.Handle, q) ∷ left) × (e ≡ HandleElement p text)
-
-handle_part : (o p : Place) (text : List ℕ) (z : Place) (left before : Tokens) (e : Element) → HandlePart o p text 0 before e ((sign signs.Greater, z) ∷ left) → IsElement ((sign signs.Less, o) ∷ (name text, p) ∷ before) e left
-handle_part o p text z left before e d =
-    subst (λ (b : Tokens). IsElement ((sign signs.Less, o) ∷ (name text, p) ∷ b) e left) (sym d.1)
-    (subst (λ (x : Element). IsElement ((sign signs.Less, o) ∷ (name text, p) ∷ (sign signs.Handle, d.0) ∷ (sign signs.Greater, z) ∷ left) x left) (sym d.2) handle_element)
-
-fill_elem : (o : Place) → Filled (Behind (sign signs.Less, o) (λ free. IsElement))
-fill_elem o =
-    fill_behind _ (name some_name, nowhere) (fill_behind _ (sign signs.Handle, nowhere) (fill_behind _ (sign signs.Greater, nowhere)
-    (fill_here _ (HandleElement nowhere some_name) (λ free left. handle_element))))
-
-begin_handle_elem : (o p : Place) (text : List ℕ) (ts : Tokens) → Law ((expect_at signs.Handle ts >>= λ h. Ok (HandleElement p text, h.1)) >>= λ e. expect_at signs.Greater e.1 >>= λ z. Ok (e.0, z.1)) ts (Behind (name text, p) (Behind (sign signs.Less, o) (λ free. IsElement)))
-begin_handle_elem o p text ts =
-    then (HandlePart o p text) _ (expect_at signs.Handle ts >>= λ h. Ok (HandleElement p text, h.1)) _ ts
-    (sign_then _ signs.Handle _ ts (λ q r. done _ (HandleElement p text) r (λ free left. (q, refl, refl))))
-    (λ e r. sign_then _ signs.Greater _ r
-    (λ z s. done _ e s (λ free left before d. handle_part o p text z left before e d)))
-
--- an elem and the ">", behind the "<"
-begin_elem_by : (o : Place) (k : Option Primitive) (m : Meaning) (p : Place) (ts : Tokens) → primitive m ≡ k → Law (elem_by k m p ts >>= λ e. expect_at signs.Greater e.1 >>= λ z. Ok (e.0, z.1)) ((m, p) ∷ ts) (Behind (sign signs.Less, o) (λ free. IsElement))
-begin_elem_by o (Some k) m p ts g =
-    behind _ (m, p) _ ts (sign_then _ signs.Greater _ ts (λ z r. done _ (PrimElement p k) r (λ free left. prim_element g)))
-begin_elem_by o None (name text) p ts g = behind _ (name text, p) _ ts (begin_handle_elem o p text ts)
-begin_elem_by o None m p ts g = stops_here _ ((m, p) ∷ ts) (fill_elem o)
-
-begin_elem : (o : Place) (ts : Tokens) → Law (elem_at ts >>= λ e. expect_at signs.Greater e.1 >>= λ z. Ok (e.0, z.1)) ts (Behind (sign signs.Less, o) (λ free. IsElement))
-unfolding elem_at
-begin_elem o [] = stops_here _ [] (fill_elem o)
-begin_elem o ((m, p) ∷ ts) = begin_elem_by o (primitive m) m p ts refl
-
-begin_element : (ts : Tokens) → Law (element_at ts) ts (λ free. IsElement)
-unfolding element_at
-begin_element ts = sign_then _ signs.Less _ ts (λ o r. begin_elem o r)
-
--- ["@"] behind a type
-begin_handle_by : (Q : ℕ → Tokens → Named → Tokens → Type 0) (plain handled : Named) (ts : Tokens) → ((free : ℕ) (left : Tokens) → Q free left plain left) → ((q : Place) (free : ℕ) (left : Tokens) → Q free ((sign signs.Handle, q) ∷ left) handled left) → Law (handle_by plain handled ts) ts Q
-begin_handle_by Q plain handled ts off on =
-    either (next_is_sign signs.Handle ts) _ _ ts _
-    (sign_then _ signs.Handle _ ts (λ q r. done _ handled r (on q)))
-    (done _ plain ts off)
-
 begin_type_by : (k : Option Primitive) (m : Meaning) (p : Place) (ts : Tokens) → primitive m ≡ k → Law (type_by k m p ts) ((m, p) ∷ ts) (λ free. IsType)
 begin_type_by (Some k) m p ts g = behind _ (m, p) _ ts (done _ (Prim p k) ts (λ free left. prim g))
-begin_type_by None (name t) p ts g = behind _ (name t, p) _ ts (begin_handle_by _ (Object p t) (Handle p t) ts (λ free left. object) (λ q free left. handle))
-begin_type_by None (reserved words.Array) p ts g =
-    behind _ (reserved words.Array, p) _ ts (then (λ free. IsElement) _ (element_at ts) _ ts (begin_element ts)
-    (λ e r. begin_handle_by _ (Array p e) (ArrayHandle p e) r (λ free left before d. array d) (λ q free left before d. array_handle d)))
+begin_type_by None (name t) p ts g =
+    behind _ (name t, p) _ ts (either (next_is_sign signs.Handle ts) _ _ ts _
+    (sign_then _ signs.Handle _ ts (λ q r. done _ (Handle p t) r (λ free left. handle)))
+    (done _ (Object p t) ts (λ free left. object)))
 begin_type_by None m p ts g = stops_here (λ free. IsType) ((m, p) ∷ ts) fill_type
 
 pub begin_type : (ts : Tokens) → Law (type_at ts) ts (λ free. IsType)
@@ -414,7 +368,7 @@ Begun : ℕ → Place → Meaning → Type 0
 Begun depth p m = FilledBy (m, p) (λ free. IsStmt free depth)
 
 leads_stmt : (depth : ℕ) (k : Leading) (m : Meaning) (p : Place) → Leads k m → begins_by k (begins m) ≡ true → Begun depth p m
-unfolding Begun is_vars is_name is_array primitive
+unfolding Begun is_vars is_name primitive
 leads_stmt depth leads.Block m p d b = subst (Begun depth p) (sym d) (record { text = (sign signs.CloseBrace, nowhere) ∷ []; tree = Block p (stmts []); is = λ free left big. inner_block (block no_locals); no_vars = λ behind. refl })
 leads_stmt depth leads.Empty m p d b = subst (Begun depth p) (sym d) (record { text = []; tree = Empty p; is = λ free left big. empty; no_vars = λ behind. refl })
 leads_stmt depth leads.If m p d b = subst (Begun depth p) (sym d) (record { text = name_text semicolon_text; tree = If p (Name nowhere some_name) (Empty nowhere); is = λ free left big. if_only (name_inside _ (omega arith)) (empty_nested left (omega arith)); no_vars = λ behind. refl })

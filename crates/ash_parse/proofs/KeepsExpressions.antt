@@ -8,13 +8,12 @@ use Rattle.ash_tree.specs.declared.tree.types.Primitive.{Primitive}
 use Rattle.ash_tree.specs.declared.tree.operators.UnaryOp.{UnaryOp}
 use Rattle.ash_tree.specs.declared.tree.operators.BinaryOp.{BinaryOp}
 use Rattle.ash_tree.specs.declared.tree.operators.AssignOp.{AssignOp}
-use Rattle.ash_tree.specs.Tree.{Expr, Number, Truth, Null, This, Name, Call, Brackets, Convert, Cast, Unary, Conditional, Assign, TypeName, Field, Method, Index, Increment, Decrement, place_of, exprs, chained, suffixed}
+use Rattle.ash_tree.specs.Tree.{Expr, Number, Truth, Null, This, Name, Call, Brackets, Convert, Unary, Conditional, Assign, Field, Method, Increment, Decrement, place_of, exprs, chained, suffixed}
 use Rattle.ash_tree.specs.Tokens.{Tokens}
 use Rattle.ash_tree.specs.Operators.{primitive, unary_operator, binary_operator, level, LEVELS, assign_operator}
 use Rattle.ash_parse.specs.Signs.{is_sign}
 use Rattle.ash_parse.specs.Reading.{Reading, ◌>>=◌, next_is_sign}
-use Rattle.ash_parse.specs.ExpressionReader.{begins, limit_at, next_expr_with, more_exprs_with, exprs_with, arguments_with, bracketed_with, named_with, cast_with, primary_by, primary_with, begins_suffix, is_suffix, member_with, index_with, suffix_with, suffixes_with, postfix_with, unary_by, unary_with, operator_by, operator_at, is_link, link_from, link_by, links_by, chain_by, binary_with, branches_with, assign_by, assign_from, assign_with, below_at}
-use Rattle.ash_parse.specs.TypeReader.{target_at}
+use Rattle.ash_parse.specs.ExpressionReader.{begins, limit_at, next_expr_with, more_exprs_with, exprs_with, arguments_with, bracketed_with, named_with, primary_by, primary_with, begins_suffix, is_suffix, member_with, suffix_with, suffixes_with, postfix_with, unary_by, unary_with, operator_by, operator_at, is_link, link_from, link_by, links_by, chain_by, binary_with, branches_with, assign_by, assign_from, assign_with, below_at}
 use Rattle.ash_parse.proofs.ExpressionLoops.{next_expr_shrinks, suffix_shrinks, link_shrinks}
 use Rattle.ash_parse.proofs.Rereading.{no_some}
 use Rattle.ash_parse.proofs.Keeps.{past_more, Lawful, ok_lawful, bind_lawful, put_lawful, Steady, next_steady, sign_steady, if_lawful, Led, led_behind, led_from, led_stop, led_deep, led_if, led_lawful, expect_lawful, name_lawful, Takes, bind_takes, loop_lawful}
@@ -40,10 +39,6 @@ module _ {slack : ℕ} where
   limit_lawful : Lawful slack limit_at
   unfolding limit_at
   limit_lawful = led_lawful (λ n. omega arith) (λ m p. led_if (begins m) led_deep led_stop)
-
-  target_lawful : Lawful slack target_at
-  unfolding target_at
-  target_lawful = bind_lawful _ (expect_lawful signs.Less) λ o. bind_lawful _ name_lawful λ n. bind_lawful _ (expect_lawful signs.Greater) λ z. ok_lawful (record { place = n.1; name = n.0 })
 
 -- the token begins a type
 pub data BeginsType : Meaning → Type 0 where
@@ -86,10 +81,6 @@ module _ {slack : ℕ} where
     convert_lawful : (p : Place) (k : Primitive) → Lawful slack (λ s. bracketed_with (below_at room) s >>= λ e. Ok (Convert p k e.0, e.1))
     convert_lawful p k = bind_lawful _ bracketed_lawful λ e. ok_lawful (Convert p k e)
 
-    cast_lawful : (p : Place) → Lawful slack (cast_with (below_at room) p)
-    unfolding cast_with
-    cast_lawful p = bind_lawful _ target_lawful λ t. bind_lawful _ bracketed_lawful λ e. ok_lawful (Cast p t e)
-
     primary_led : (k : Option Primitive) (m : Meaning) (p : Place) → Led slack (m, p) (λ s. primary_by (below_at room) k m p s)
     primary_led (Some k) m p = led_behind (convert_lawful p k)
     primary_led None (name text) p = led_behind (named_lawful p text)
@@ -99,7 +90,6 @@ module _ {slack : ℕ} where
     primary_led None (reserved words.False) p = led_behind (ok_lawful (Truth p false))
     primary_led None (reserved words.Null) p = led_behind (ok_lawful (Null p))
     primary_led None (reserved words.This) p = led_behind (ok_lawful (This p))
-    primary_led None (reserved words.Cast) p = led_behind (cast_lawful p)
     primary_led None m p = led_stop
 
     primary_lawful : Lawful slack (primary_with (below_at room))
@@ -110,14 +100,9 @@ module _ {slack : ℕ} where
     unfolding member_with
     member_lawful = bind_lawful _ name_lawful λ n. if_lawful _ (sign_steady signs.OpenParenthesis) (bind_lawful _ arguments_lawful λ es. ok_lawful (Method n.1 n.0 (exprs es))) (ok_lawful (Field n.1 n.0))
 
-    index_lawful : Lawful slack (index_with (below_at room))
-    unfolding index_with
-    index_lawful = bind_lawful _ (deeper true) λ e. bind_lawful _ (expect_lawful signs.CloseBracket) λ z. ok_lawful (Index e)
-
     suffix_led : (m : Meaning) (p : Place) → Led slack (m, p) (λ s. suffix_with (below_at room) ((m, p) ∷ s))
     unfolding suffix_with
     suffix_led (sign signs.Dot) p = led_behind member_lawful
-    suffix_led (sign signs.OpenBracket) p = led_behind index_lawful
     suffix_led (sign signs.Increment) p = led_behind (ok_lawful Increment)
     suffix_led (sign signs.Decrement) p = led_behind (ok_lawful Decrement)
     suffix_led m p = led_stop

@@ -1,28 +1,25 @@
 -- What is answered where a function or variables begin hangs only on the tokens that are taken and the next one. Six
 -- tokens tell at most which of the two it is, and both readers take each of them that leaves it open.
-use Rattle.std.proofs.Common.{◌≡◌, ℕ, ◌≤◌, ◌⊎◌, inl, inr, List, [], ◌∷◌, ◌++◌, length, Bool, true, false, cond, Option, Some, None, Ok, Err, refl, sym, ap, subst, ◌∙◌, arith}
+use Rattle.std.proofs.Common.{◌≡◌, ℕ, ◌≤◌, ◌⊎◌, inl, inr, List, [], ◌∷◌, ◌++◌, length, Bool, true, false, cond, Option, Some, None, Ok, Err, refl, sym, subst, arith}
 use Rattle.ash_lex.specs.Tokens.{Meaning, name, number, sign, reserved, unsupported}
-use Rattle.ash_lex.specs.declared.signs.Sign.{Sign}
 use Rattle.ash_lex.specs.declared.signs.Sign.TheVariants as signs
-use Rattle.ash_lex.specs.declared.words.ReservedWord.TheVariants as words
 use Rattle.ash_tree.specs.declared.tree.places.Place.{Place}
 use Rattle.ash_tree.specs.declared.tree.types.Primitive.{Primitive}
-use Rattle.ash_tree.specs.Tree.{Element, HandleElement, Named, Prim, Object, Handle, Array, ArrayHandle, Expr, Decl, Initializer, Arguments, Vars, Parameter, Function}
+use Rattle.ash_tree.specs.Tree.{Named, Prim, Object, Handle, Expr, Decl, Initializer, Arguments, Vars, Parameter, Function}
 use Rattle.ash_tree.specs.Tokens.{Tokens}
 use Rattle.ash_tree.specs.Operators.{primitive}
 use Rattle.ash_tree.specs.Expressions.{DEPTH}
 use Rattle.ash_parse.specs.Signs.{is_sign, same_sign}
 use Rattle.ash_parse.specs.Reading.{Unexpected, Reading, ◌>>=◌, put, next_is_sign, expect_at, name_at}
 use Rattle.ash_parse.specs.ExpressionReader.{below_at, exprs_with, arguments_with, more_exprs_with}
-use Rattle.ash_parse.specs.TypeReader.{is_array, elem_by, elem_at, element_at, behind_sign, behind_elem_by, behind_elem, and_behind, behind_element}
-use Rattle.ash_parse.specs.StatementReader.{is_name, next_is_name, handle_by, type_by, type_at, is_vars, initializer_with, decl_with, more_decls_with, decls_with, vars_with, declared_with}
-use Rattle.ash_parse.specs.ItemReader.{is_void, result_type_at, parameter_at, next_parameter_at, more_parameters_at, parameter_list_at, parameters_at, body_at, function_at, globals_at, behind, opens_body, names_function, handle_names_function, array_names_function, is_function}
+use Rattle.ash_parse.specs.StatementReader.{is_name, next_is_name, type_by, type_at, is_vars, initializer_with, decl_with, more_decls_with, decls_with, vars_with, declared_with}
+use Rattle.ash_parse.specs.ItemReader.{is_void, result_type_at, parameter_at, next_parameter_at, more_parameters_at, parameter_list_at, parameters_at, body_at, function_at, globals_at, behind, opens_body, names_function, is_function}
 use Rattle.ash_parse.proofs.Readings.{sign_is}
 use Rattle.ash_parse.proofs.ItemShorter.{next_parameter_shrinks}
-use Rattle.ash_parse.proofs.Rereading.{no_some, no_true}
+use Rattle.ash_parse.proofs.Rereading.{no_true}
 use Rattle.ash_parse.proofs.Keeps.{differs_on, differs_off, alike, Past, past_more, past, Lawful, ok_lawful, bind_past, bind_lawful, put_lawful, sign_steady, Crosses, choice_lawful, if_lawful, Led, led_behind, led_from, led_if, led_lawful, expect_lawful, name_lawful, Takes, bind_takes, loop_lawful}
 use Rattle.ash_parse.proofs.KeepsExpressions.{BeginsType, by_name, below_lawful, below_takes, more_exprs_lawful}
-use Rattle.ash_parse.proofs.KeepsStatements.{type_lawful, type_takes, array_is_vars, no_array_by, vars_type, vars_behind, more_decls_lawful, initializer_lawful, declared_lawful, block_lawful, nested_lawful}
+use Rattle.ash_parse.proofs.KeepsStatements.{type_lawful, type_takes, vars_type, vars_behind, more_decls_lawful, initializer_lawful, declared_lawful, block_lawful, nested_lawful}
 
 pub within : DEPTH ≤ 64
 within = omega arith
@@ -50,50 +47,6 @@ module _ {slack : ℕ} where
   more_parameters_lawful : Lawful slack more_parameters_at
   unfolding more_parameters_at
   more_parameters_lawful = loop_lawful (next_is_sign signs.Comma) next_parameter_at next_parameter_shrinks (sign_steady signs.Comma) next_parameter_lawful
-
--- what is left behind what is read
-abbrev left_of : {A : Type 0} → Reading A → Option Tokens
-left_of (Ok x) = Some x.1
-left_of (Err e) = None
-
--- what passes an array's elements' type reads it
-sign_passed : (s : Sign) (ts : Tokens) → behind_sign s ts ≡ left_of (expect_at s ts)
-unfolding behind_sign expect_at
-sign_passed s [] = refl
-sign_passed s ((m, p) ∷ ts) = by_sign (is_sign s m)
-  where
-    by_sign : (b : Bool) → cond b (Some ts) None ≡ left_of (cond b (Ok (p, ts)) (Err (Unexpected ((m, p) ∷ ts))))
-    by_sign true = refl
-    by_sign false = refl
-
-then_passed : {A B : Type 0} (o : Reading A) (f : A × Tokens → Reading B) (g : Tokens → Option Tokens) → ((x : A) (s : Tokens) → g s ≡ left_of (f (x, s))) → and_behind (left_of o) g ≡ left_of (o >>= f)
-then_passed (Ok x) f g h = h x.0 x.1
-then_passed (Err e) f g h = refl
-
-map_passed : {A B : Type 0} (o : Reading A) (x : B) → left_of o ≡ left_of (o >>= λ y. Ok (x, y.1))
-map_passed (Ok y) x = refl
-map_passed (Err e) x = refl
-
-elem_by_passed : (k : Option Primitive) (m : Meaning) (p : Place) (ts : Tokens) → behind_elem_by k m ts ≡ left_of (elem_by k m p ts)
-elem_by_passed (Some k) m p ts = refl
-elem_by_passed None (name text) p ts = sign_passed signs.Handle ts ∙ map_passed (expect_at signs.Handle ts) (HandleElement p text)
-elem_by_passed None (number n) p ts = refl
-elem_by_passed None (sign n) p ts = refl
-elem_by_passed None (reserved n) p ts = refl
-elem_by_passed None (unsupported n) p ts = refl
-
-elem_passed : (ts : Tokens) → behind_elem ts ≡ left_of (elem_at ts)
-unfolding behind_elem elem_at
-elem_passed [] = refl
-elem_passed ((m, p) ∷ ts) = elem_by_passed (primitive m) m p ts
-
-passed_is_read : (ts : Tokens) → behind_element ts ≡ left_of (element_at ts)
-unfolding behind_element element_at
-passed_is_read ts =
-    ap (λ o. and_behind o (λ o. and_behind (behind_elem o) (λ e. behind_sign signs.Greater e))) (sign_passed signs.Less ts)
-    ∙ then_passed (expect_at signs.Less ts) (λ o. elem_at o.1 >>= λ e. expect_at signs.Greater e.1 >>= λ z. Ok (e.0, z.1)) (λ o. and_behind (behind_elem o) (λ e. behind_sign signs.Greater e))
-    (λ x s. ap (λ o. and_behind o (λ e. behind_sign signs.Greater e)) (elem_passed s)
-    ∙ then_passed (elem_at s) (λ e. expect_at signs.Greater e.1 >>= λ z. Ok (e.0, z.1)) (λ e. behind_sign signs.Greater e) (λ e r. sign_passed signs.Greater r ∙ map_passed (expect_at signs.Greater r) e))
 
 -- a list with its ")", where `some` reads a list with an element at least
 abbrev closed : {A : Type 0} → (Tokens → Reading (List A)) → Tokens → Reading (List A)
@@ -156,29 +109,21 @@ opens_sign m p s h = by_sign (is_sign signs.OpenParenthesis m) refl h
     by_sign true e h = sign_is signs.OpenParenthesis m e
     by_sign false e h = absurd (no_true h)
 
-opens_parameters : (a : Meaning × Place) (m : Meaning) (p : Place) (s : Tokens) → is_array m ≡ false → opens_function (a ∷ (m, p) ∷ s) ≡ true → BeginsParameters m
+opens_parameters : (a : Meaning × Place) (m : Meaning) (p : Place) (s : Tokens) → opens_function (a ∷ (m, p) ∷ s) ≡ true → BeginsParameters m
 unfolding opens_function next_is_sign behind opens_body BeginsParameters
-opens_parameters a m p s n h = by_sign (is_sign signs.OpenParenthesis a.0) h
+opens_parameters a m p s h = by_sign (is_sign signs.OpenParenthesis a.0) h
   where
     by_close : (v : Bool) → is_sign signs.CloseParenthesis m ≡ v → cond v (next_is_sign signs.OpenBrace s) false ≡ true → BeginsParameters m
     by_close true e h = inr e
     by_close false e h = absurd (no_true h)
 
     by_vars : (v : Bool) → is_vars ((m, p) ∷ s) ≡ v → cond v true (cond (is_sign signs.CloseParenthesis m) (next_is_sign signs.OpenBrace s) false) ≡ true → BeginsParameters m
-    by_vars true e h = inl (vars_type m p s n e)
+    by_vars true e h = inl (vars_type m p s e)
     by_vars false e h = by_close (is_sign signs.CloseParenthesis m) refl h
 
     by_sign : (v : Bool) → cond v (cond (is_vars ((m, p) ∷ s)) true (cond (is_sign signs.CloseParenthesis m) (next_is_sign signs.OpenBrace s) false)) false ≡ true → BeginsParameters m
     by_sign true h = by_vars (is_vars ((m, p) ∷ s)) refl h
     by_sign false h = absurd (no_true h)
-
--- where what is behind a token tells a function, the token is not the word `array`
-array_opens : (a : Meaning × Place) (m : Meaning) (p : Place) (s r : Tokens) → is_array m ≡ true → opens_function (a ∷ (m, p) ∷ s) ≡ opens_function (a ∷ (m, p) ∷ r)
-unfolding opens_function next_is_sign behind
-array_opens a m p s r e = rw (array_is_vars m p s e, array_is_vars m p r e) refl
-
-no_array_opens : (a : Meaning × Place) (m : Meaning) (p : Place) (s r : Tokens) → (opens_function (a ∷ (m, p) ∷ s) ≡ opens_function (a ∷ (m, p) ∷ r) → ⊥) → is_array m ≡ false
-no_array_opens a m p s r differs = no_array_by (is_array m) (λ e. differs (array_opens a m p s r e))
 
 brace_steady : (a t : Meaning × Place) (more other front : Tokens) → opens_body (a ∷ front ++ t ∷ more) ≡ opens_body (a ∷ front ++ t ∷ other)
 unfolding opens_body
@@ -200,7 +145,7 @@ module _ {slack : ℕ} where
     -- what tells a function is taken
     takes_told : (t : Meaning × Place) (more other seen front : Tokens) → opens_function (front ++ t ∷ seen) ≡ true → (opens_function (front ++ t ∷ more) ≡ opens_function (front ++ t ∷ other) → ⊥) → Past slack (length more) (read (front ++ t ∷ more))
     takes_told (m, p) more other seen [] h differs = takes_open m p (length more) more (opens_sign m p seen h) (omega arith)
-    takes_told t more other seen ((m, p) ∷ []) h differs = takes_parameters m p t (length more) more (opens_sign m p (t ∷ seen) h) (opens_parameters (m, p) t.0 t.1 seen (no_array_opens (m, p) t.0 t.1 more other differs) h) (omega arith)
+    takes_told t more other seen ((m, p) ∷ []) h differs = takes_parameters m p t (length more) more (opens_sign m p (t ∷ seen) h) (opens_parameters (m, p) t.0 t.1 seen h) (omega arith)
     takes_told t more other seen (a ∷ b ∷ front) h differs = absurd (differs (opens_behind a b t more other front))
 
 -- a function's parameters and its body, behind its name
@@ -343,46 +288,21 @@ module _ {B : Type 0} (of_function : Function → B) (of_globals : Vars → B) w
   by_next t ((reserved n, p) ∷ s) = refl
   by_next t ((unsupported n, p) ∷ s) = refl
 
-  by_handle : (v : Bool) (plain handle : Named) (q : Place) (m : Meaning) (s : Tokens) →
-      cond (cond v (names_function s) (names_function ((m, q) ∷ s))) (on_type (cond v (cond v (Ok (q, s)) (Err (Unexpected ((m, q) ∷ s))) >>= λ h. Ok (handle, h.1)) (Ok (plain, (m, q) ∷ s)))) (off_type (cond v (cond v (Ok (q, s)) (Err (Unexpected ((m, q) ∷ s))) >>= λ h. Ok (handle, h.1)) (Ok (plain, (m, q) ∷ s))))
-      ≡ (cond v (cond v (Ok (q, s)) (Err (Unexpected ((m, q) ∷ s))) >>= λ h. Ok (handle, h.1)) (Ok (plain, (m, q) ∷ s)) >>= λ t. named t.0 t.1)
-  by_handle true plain handle q m s = by_names handle s
-  by_handle false plain handle q m s = by_names plain ((m, q) ∷ s)
+  by_handle : (v : Bool) (text : List ℕ) (p q : Place) (m : Meaning) (s : Tokens) →
+      cond (cond v (names_function s) (names_function ((m, q) ∷ s))) (on_type (cond v (cond v (Ok (q, s)) (Err (Unexpected ((m, q) ∷ s))) >>= λ h. Ok (Handle p text, h.1)) (Ok (Object p text, (m, q) ∷ s)))) (off_type (cond v (cond v (Ok (q, s)) (Err (Unexpected ((m, q) ∷ s))) >>= λ h. Ok (Handle p text, h.1)) (Ok (Object p text, (m, q) ∷ s))))
+      ≡ (cond v (cond v (Ok (q, s)) (Err (Unexpected ((m, q) ∷ s))) >>= λ h. Ok (Handle p text, h.1)) (Ok (Object p text, (m, q) ∷ s)) >>= λ t. named t.0 t.1)
+  by_handle true text p q m s = by_names (Handle p text) s
+  by_handle false text p q m s = by_names (Object p text) ((m, q) ∷ s)
 
-  -- behind what is a type with an "@" or without one
-  by_handles : (plain handle : Named) (s : Tokens) → cond (handle_names_function s) (on_type (handle_by plain handle s)) (off_type (handle_by plain handle s)) ≡ (handle_by plain handle s >>= λ t. named t.0 t.1)
-  unfolding handle_names_function next_is_sign expect_at behind
-  by_handles plain handle [] = by_names plain []
-  by_handles plain handle ((m, q) ∷ s) = by_handle (is_sign signs.Handle m) plain handle q m s
-
-  abbrev array_by : Place → Reading Element → Reading Named
-  array_by p o = o >>= λ e. handle_by (Array p e.0) (ArrayHandle p e.0) e.1
-
-  by_element : (p : Place) (o : Reading Element) → cond (array_names_function (left_of o)) (on_type (array_by p o)) (off_type (array_by p o)) ≡ (array_by p o >>= λ t. named t.0 t.1)
-  by_element p (Ok e) = by_handles (Array p e.0) (ArrayHandle p e.0) e.1
-  by_element p (Err h) = refl
-
-  by_array : (p : Place) (s : Tokens) → cond (array_names_function (behind_element s)) (on_type (array_by p (element_at s))) (off_type (array_by p (element_at s))) ≡ (array_by p (element_at s) >>= λ t. named t.0 t.1)
-  by_array p s = subst (λ v. cond (array_names_function v) (on_type (array_by p (element_at s))) (off_type (array_by p (element_at s))) ≡ (array_by p (element_at s) >>= λ t. named t.0 t.1)) (sym (passed_is_read s)) (by_element p (element_at s))
-
-  by_plain : (t : Named) (s : Tokens) → cond (handle_names_function s) (on_type (Ok (t, s))) (off_type (Ok (t, s))) ≡ named t s
-  unfolding handle_names_function
-  by_plain t s = by_next t s
-
-  word_no_array : (m : Meaning) (k : Primitive) → primitive m ≡ Some k → is_array m ≡ false
-  unfolding primitive is_array
-  word_no_array (reserved words.Array) k h = absurd (no_some k h)
-  word_no_array m k h = refl
-
-  by_kind : (k : Option Primitive) (m : Meaning) (p : Place) (s : Tokens) → primitive m ≡ k → cond (cond (is_array m) (array_names_function (behind_element s)) (handle_names_function s)) (on_type (type_by k m p s)) (off_type (type_by k m p s)) ≡ (type_by k m p s >>= λ t. named t.0 t.1)
-  unfolding is_array
-  by_kind (Some k) m p s g = rw (word_no_array m k g) (by_plain (Prim p k) s)
-  by_kind None (name text) p s g = by_handles (Object p text) (Handle p text) s
-  by_kind None (number n) p s g = one_of (handle_names_function s) (Err (Unexpected ((number n, p) ∷ s)))
-  by_kind None (sign n) p s g = one_of (handle_names_function s) (Err (Unexpected ((sign n, p) ∷ s)))
-  by_kind None (reserved words.Array) p s g = by_array p s
-  by_kind None (reserved n) p s g = one_of (handle_names_function s) (Err (Unexpected ((reserved n, p) ∷ s)))
-  by_kind None (unsupported n) p s g = one_of (handle_names_function s) (Err (Unexpected ((unsupported n, p) ∷ s)))
+  by_kind : (k : Option Primitive) (m : Meaning) (p : Place) (s : Tokens) → cond (cond (next_is_sign signs.Handle s) (names_function (behind s)) (names_function s)) (on_type (type_by k m p s)) (off_type (type_by k m p s)) ≡ (type_by k m p s >>= λ t. named t.0 t.1)
+  unfolding next_is_sign expect_at behind
+  by_kind (Some k) m p s = by_next (Prim p k) s
+  by_kind None (name text) p [] = by_names (Object p text) []
+  by_kind None (name text) p ((m, q) ∷ s) = by_handle (is_sign signs.Handle m) text p q m s
+  by_kind None (number n) p s = one_of (cond (next_is_sign signs.Handle s) (names_function (behind s)) (names_function s)) (Err (Unexpected ((number n, p) ∷ s)))
+  by_kind None (sign n) p s = one_of (cond (next_is_sign signs.Handle s) (names_function (behind s)) (names_function s)) (Err (Unexpected ((sign n, p) ∷ s)))
+  by_kind None (reserved n) p s = one_of (cond (next_is_sign signs.Handle s) (names_function (behind s)) (names_function s)) (Err (Unexpected ((reserved n, p) ∷ s)))
+  by_kind None (unsupported n) p s = one_of (cond (next_is_sign signs.Handle s) (names_function (behind s)) (names_function s)) (Err (Unexpected ((unsupported n, p) ∷ s)))
 
   -- a function or variables, whichever the tokens begin
   abbrev pub either : Tokens → Reading B
@@ -396,12 +316,12 @@ module _ {B : Type 0} (of_function : Function → B) (of_globals : Vars → B) w
   either_by ((m, p) ∷ s) = cond (is_void m) (of_void s) (type_at ((m, p) ∷ s) >>= λ t. named t.0 t.1)
 
   by_void : (v : Bool) (m : Meaning) (p : Place) (s : Tokens) →
-      cond (cond v true (cond (is_array m) (array_names_function (behind_element s)) (handle_names_function s)))
+      cond (cond v true (cond (next_is_sign signs.Handle s) (names_function (behind s)) (names_function s)))
       ((cond v (Ok (None, s)) (type_by (primitive m) m p s >>= λ t. Ok (Some t.0, t.1)) >>= λ r. name_at r.1 >>= λ n. function_by r.0 n.0 (parameters_at n.1)) >>= λ f. Ok (of_function f.0, f.1))
       (off_type (type_by (primitive m) m p s))
       ≡ cond v (of_void s) (type_by (primitive m) m p s >>= λ t. named t.0 t.1)
   by_void true m p s = refl
-  by_void false m p s = by_kind (primitive m) m p s refl
+  by_void false m p s = by_kind (primitive m) m p s
 
   same_either : (s : Tokens) → either s ≡ either_by s
   unfolding either_by is_function function_at result_type_at globals_at declared_with vars_with type_at

@@ -3,14 +3,14 @@ use Rattle.std.proofs.Common.{◌≡◌, ℕ, ◌≤◌, inl, List, [], ◌∷�
 use Rattle.ash_lex.specs.Tokens.{Meaning, name, number, sign, reserved, unsupported}
 use Rattle.ash_lex.specs.declared.signs.Sign.TheVariants as signs
 use Rattle.ash_tree.specs.declared.tree.places.Place.{Place}
-use Rattle.ash_tree.specs.Tree.{Named, Member, AMethod, AField, AConstructor, AClass, AnInterface, AFunction, AGlobal, ASignature, AProperty}
+use Rattle.ash_tree.specs.Tree.{Named, Member, AMethod, AField, AConstructor, AClass, AFunction, AGlobal, ASignature, AProperty}
 use Rattle.ash_tree.specs.Tokens.{Tokens}
 use Rattle.ash_parse.specs.Signs.{is_sign}
 use Rattle.ash_parse.specs.Reading.{Unexpected, TooDeep, Reading, ◌>>=◌, next_is_sign, name_at}
 use Rattle.ash_parse.specs.StatementReader.{is_name, next_is_name, is_vars, goes_on}
-use Rattle.ash_parse.specs.ItemReader.{is_class, is_interface, parameters_at, body_at, behind, is_constructor, constructor_at, member_at, members_at, next_interface_at, more_interfaces_at, listed_interfaces_at, interfaces_at, class_at, interface_method_at, interface_methods_at, interface_at, item_at, strip, entry_at, is_left, entries_at, module_at, unnamed_at, next_unnamed_at, more_unnamed_at, unnamed_list_at, unnamed_parameters_at, property_by, declaration_behind, declaration_at}
+use Rattle.ash_parse.specs.ItemReader.{is_class, parameters_at, body_at, behind, is_constructor, constructor_at, member_at, members_at, class_at, item_at, strip, entry_at, is_left, entries_at, module_at, unnamed_at, next_unnamed_at, more_unnamed_at, unnamed_list_at, unnamed_parameters_at, property_by, declaration_behind, declaration_at}
 use Rattle.ash_parse.specs.Faults.{whole_declaration_at}
-use Rattle.ash_parse.proofs.ItemShorter.{member_shrinks, next_interface_shrinks, interface_method_shrinks, entry_shrinks, next_unnamed_shrinks, strip_shorter}
+use Rattle.ash_parse.proofs.ItemShorter.{member_shrinks, entry_shrinks, next_unnamed_shrinks, strip_shorter}
 use Rattle.ash_parse.proofs.Rereading.{no_true}
 use Rattle.ash_parse.proofs.Keeps.{past_more, not_deep_beyond, deep_first, Fair, Takes, no_cross, stops_alike, deep_alike, Agree, reads, past, Lawful, ok_lawful, bind_past, bind_lawful, put_lawful, Steady, sign_steady, Crosses, choice_lawful, if_lawful, Led, led_behind, led_from, stop_lawful, led_if, led_lawful, expect_lawful, name_lawful, loop_lawful}
 use Rattle.ash_parse.proofs.KeepsFunctions.{result_lawful, parameters_lawful, body_lawful, either, either_lawful, either_takes}
@@ -73,41 +73,13 @@ module _ {slack : ℕ} where
   unfolding members_at
   members_lawful = loop_lawful goes_on member_at member_shrinks goes_on_steady member_lawful
 
-  next_interface_lawful : Lawful slack next_interface_at
-  unfolding next_interface_at
-  next_interface_lawful = bind_lawful _ (expect_lawful signs.Comma) λ c. bind_lawful _ name_lawful λ n. ok_lawful (record { place = n.1; name = n.0 })
-
-  more_interfaces_lawful : Lawful slack more_interfaces_at
-  unfolding more_interfaces_at
-  more_interfaces_lawful = loop_lawful (next_is_sign signs.Comma) next_interface_at next_interface_shrinks (sign_steady signs.Comma) next_interface_lawful
-
-  listed_interfaces_lawful : Lawful slack listed_interfaces_at
-  unfolding listed_interfaces_at
-  listed_interfaces_lawful = bind_lawful _ name_lawful λ n. put_lawful (record { place = n.1; name = n.0 }) more_interfaces_lawful
-
-  interfaces_lawful : Lawful slack interfaces_at
-  unfolding interfaces_at
-  interfaces_lawful = if_lawful _ (sign_steady signs.Colon) (bind_lawful _ (expect_lawful signs.Colon) λ c. listed_interfaces_lawful) (ok_lawful [])
-
   class_lawful : Lawful slack class_at
   unfolding class_at
-  class_lawful = bind_lawful _ name_lawful λ n. bind_lawful _ interfaces_lawful λ is. bind_lawful _ (expect_lawful signs.OpenBrace) λ o. bind_lawful _ members_lawful λ xs. bind_lawful _ (expect_lawful signs.CloseBrace) λ z. ok_lawful (record { place = n.1; name = n.0; interfaces = is; members = xs })
-
-  interface_method_lawful : Lawful slack interface_method_at
-  unfolding interface_method_at
-  interface_method_lawful = bind_lawful _ result_lawful λ r. bind_lawful _ name_lawful λ n. bind_lawful _ parameters_lawful λ xs. bind_lawful _ (expect_lawful signs.Semicolon) λ z. ok_lawful (record { place = n.1; result = r; name = n.0; parameters = xs })
-
-  interface_methods_lawful : Lawful slack interface_methods_at
-  unfolding interface_methods_at
-  interface_methods_lawful = loop_lawful goes_on interface_method_at interface_method_shrinks goes_on_steady interface_method_lawful
-
-  interface_lawful : Lawful slack interface_at
-  unfolding interface_at
-  interface_lawful = bind_lawful _ name_lawful λ n. bind_lawful _ (expect_lawful signs.OpenBrace) λ o. bind_lawful _ interface_methods_lawful λ xs. bind_lawful _ (expect_lawful signs.CloseBrace) λ z. ok_lawful (record { place = n.1; name = n.0; methods = xs })
+  class_lawful = bind_lawful _ name_lawful λ n. bind_lawful _ (expect_lawful signs.OpenBrace) λ o. bind_lawful _ members_lawful λ xs. bind_lawful _ (expect_lawful signs.CloseBrace) λ z. ok_lawful (record { place = n.1; name = n.0; members = xs })
 
   item_led : (m : Meaning) (p : Place) → Led slack (m, p) (λ s. item_at ((m, p) ∷ s))
   unfolding item_at
-  item_led m p = led_if (is_class m) (led_behind (bind_lawful _ class_lawful λ c. ok_lawful (AClass c))) (led_if (is_interface m) (led_behind (bind_lawful _ interface_lawful λ i. ok_lawful (AnInterface i))) (led_from {read = either AFunction AGlobal} (either_lawful AFunction AGlobal)))
+  item_led m p = led_if (is_class m) (led_behind (bind_lawful _ class_lawful λ c. ok_lawful (AClass c))) (led_from {read = either AFunction AGlobal} (either_lawful AFunction AGlobal))
 
   item_lawful : Lawful slack item_at
   unfolding item_at

@@ -1,13 +1,13 @@
 -- What is answered of types, declarations of variables and statements hangs only on the tokens that are taken and the
 -- next one.
-use Rattle.std.proofs.Common.{◌≡◌, ℕ, zero, suc, ◌+◌, ◌≤◌, inl, inr, List, [], ◌∷◌, ◌++◌, length, Bool, true, false, cond, not, Option, Some, None, is_some, Ok, Err, refl, sym, ◌∙◌, arith}
+use Rattle.std.proofs.Common.{◌≡◌, ℕ, zero, suc, ◌+◌, ◌<◌, ◌≤◌, ◌⊎◌, inl, inr, List, [], ◌∷◌, ◌++◌, length, Bool, true, false, cond, not, Option, Some, None, is_some, Ok, Err, refl, sym, ◌∙◌, arith}
 use Rattle.ash_lex.specs.Tokens.{Meaning, name, number, sign, reserved, unsupported}
 use Rattle.ash_lex.specs.declared.signs.Sign.TheVariants as signs
 use Rattle.ash_lex.specs.declared.words.ReservedWord.TheVariants as words
 use Rattle.ash_tree.specs.declared.tree.places.Place.{Place}
 use Rattle.ash_tree.specs.declared.tree.types.Primitive.{Primitive}
 use Rattle.ash_tree.specs.declared.tree.statements.Label.TheVariants as labels
-use Rattle.ash_tree.specs.Tree.{PrimElement, HandleElement, Named, Prim, Object, Handle, Array, ArrayHandle, Expr, Default, Value, Arguments, Vars, Stmt, Empty, Declare, Evaluate, Block, If, IfElse, While, DoWhile, For, Switch, Break, Continue, Return, labelled, place_of, place_of_type, stmts, cases}
+use Rattle.ash_tree.specs.Tree.{Named, Prim, Object, Handle, Expr, Default, Value, Arguments, Vars, Stmt, Empty, Declare, Evaluate, Block, If, IfElse, While, DoWhile, For, Switch, Break, Continue, Return, labelled, place_of, place_of_type, stmts, cases}
 use Rattle.ash_tree.specs.Tokens.{Tokens}
 use Rattle.ash_tree.specs.Operators.{primitive}
 use Rattle.ash_parse.specs.declared.statements.Leading.{Leading}
@@ -15,11 +15,10 @@ use Rattle.ash_parse.specs.declared.statements.Leading.TheVariants as leads
 use Rattle.ash_parse.specs.Signs.{is_sign}
 use Rattle.ash_parse.specs.Reading.{Unexpected, Reading, ◌>>=◌, next_is_sign, expect_at}
 use Rattle.ash_parse.specs.ExpressionReader.{bracketed_with, below_at}
-use Rattle.ash_parse.specs.TypeReader.{is_array, elem_by, elem_at, element_at}
-use Rattle.ash_parse.specs.StatementReader.{is_name, next_is_name, handle_by, type_by, type_at, is_vars, initializer_with, decl_with, next_decl_with, more_decls_with, decls_with, vars_with, declared_with, first_with, test_with, result_with, leading, begins_stmt, stmt_limit_at, is_end, ends_case, goes_on, case_goes_on, evaluate_with, is_else, else_with, if_with, while_with, is_while, while_at, do_with, for_with, number_at, case_value_at, label_by, label_at, stmts_with, case_with, cases_with, switch_with, local_with, locals_with, block_with, stmt_by, stmt_with, nested_at}
+use Rattle.ash_parse.specs.StatementReader.{is_name, next_is_name, type_by, type_at, is_vars, initializer_with, decl_with, next_decl_with, more_decls_with, decls_with, vars_with, declared_with, first_with, test_with, result_with, leading, begins_stmt, stmt_limit_at, is_end, ends_case, goes_on, case_goes_on, evaluate_with, is_else, else_with, if_with, while_with, is_while, while_at, do_with, for_with, number_at, case_value_at, label_by, label_at, stmts_with, case_with, cases_with, switch_with, local_with, locals_with, block_with, stmt_by, stmt_with, nested_at}
 use Rattle.ash_parse.proofs.StatementLoops.{next_decl_shrinks, nested_shrinks, local_shrinks, case_shrinks}
 use Rattle.ash_parse.proofs.Rereading.{no_some, no_true}
-use Rattle.ash_parse.proofs.Keeps.{differs_on, differs_off, Past, Fewer, past_more, past_fewer, bind_past, name_takes, no_cross, Agree, past, Lawful, ok_lawful, bind_lawful, put_lawful, Steady, next_steady, sign_steady, Crosses, choice_lawful, if_lawful, Led, led_behind, led_from, led_stop, led_deep, led_if, led_lawful, expect_lawful, name_lawful, Takes, bind_takes, loop_lawful}
+use Rattle.ash_parse.proofs.Keeps.{Past, Fewer, past_more, past_fewer, bind_past, name_takes, no_cross, Agree, past, Lawful, ok_lawful, bind_lawful, put_lawful, Steady, next_steady, sign_steady, Crosses, choice_lawful, if_lawful, Led, led_behind, led_from, led_stop, led_deep, led_if, led_lawful, expect_lawful, name_lawful, Takes, bind_takes, loop_lawful}
 use Rattle.ash_parse.proofs.KeepsExpressions.{BeginsType, by_name, by_word, type_begins, exprs_lawful, arguments_lawful, bracketed_lawful, assign_lawful, assign_takes, below_lawful, below_takes}
 
 pub name_steady : Steady next_is_name
@@ -35,29 +34,12 @@ unfolding case_goes_on
 case_goes_on_steady = next_steady (λ m. not (ends_case (leading m)))
 
 module _ {slack : ℕ} where
-  elem_led : (k : Option Primitive) (m : Meaning) (p : Place) → Led slack (m, p) (λ s. elem_by k m p s)
-  elem_led (Some k) m p = led_behind (ok_lawful (PrimElement p k))
-  elem_led None (name text) p = led_behind (bind_lawful _ (expect_lawful signs.Handle) λ h. ok_lawful (HandleElement p text))
-  elem_led None m p = led_stop
-
-  elem_lawful : Lawful slack elem_at
-  unfolding elem_at
-  elem_lawful = led_lawful (λ n. omega arith) (λ m p. elem_led (primitive m) m p)
-
-  element_lawful : Lawful slack element_at
-  unfolding element_at
-  element_lawful = bind_lawful _ (expect_lawful signs.Less) λ o. bind_lawful _ elem_lawful λ e. bind_lawful _ (expect_lawful signs.Greater) λ z. ok_lawful e
-
-  handle_by_lawful : (plain handle : Named) → Lawful slack (handle_by plain handle)
-  handle_by_lawful plain handle = if_lawful _ (sign_steady signs.Handle) (bind_lawful _ (expect_lawful signs.Handle) λ o. ok_lawful handle) (ok_lawful plain)
-
   handle_lawful : (p : Place) (t : List ℕ) → Lawful slack (λ s. cond (next_is_sign signs.Handle s) (expect_at signs.Handle s >>= λ h. Ok (Handle p t, h.1)) (Ok (Object p t, s)))
-  handle_lawful p t = handle_by_lawful (Object p t) (Handle p t)
+  handle_lawful p t = if_lawful _ (sign_steady signs.Handle) (bind_lawful _ (expect_lawful signs.Handle) λ o. ok_lawful (Handle p t)) (ok_lawful (Object p t))
 
   type_led : (k : Option Primitive) (m : Meaning) (p : Place) → Led slack (m, p) (λ s. type_by k m p s)
   type_led (Some k) m p = led_behind (ok_lawful (Prim p k))
   type_led None (name t) p = led_behind (handle_lawful p t)
-  type_led None (reserved words.Array) p = led_behind {read = λ s. element_at s >>= λ e. handle_by (Array p e.0) (ArrayHandle p e.0) e.1} (bind_lawful _ element_lawful λ e. handle_by_lawful (Array p e) (ArrayHandle p e))
   type_led None m p = led_stop
 
   pub type_lawful : Lawful slack type_at
@@ -78,28 +60,14 @@ name_is (sign n) Q h go = absurd (no_true h)
 name_is (reserved n) Q h go = absurd (no_true h)
 name_is (unsupported n) Q h go = absurd (no_true h)
 
-pub vars_type : (m : Meaning) (p : Place) (s : Tokens) → is_array m ≡ false → is_vars ((m, p) ∷ s) ≡ true → BeginsType m
+pub vars_type : (m : Meaning) (p : Place) (s : Tokens) → is_vars ((m, p) ∷ s) ≡ true → BeginsType m
 unfolding is_vars
-vars_type m p s a h = by_kind (primitive m) refl (is_name m) refl h
+vars_type m p s h = by_kind (primitive m) refl (is_name m) refl h
   where
-    by_kind : (k : Option Primitive) → primitive m ≡ k → (b : Bool) → is_name m ≡ b → cond (is_some k) (next_is_name s) (cond b (cond (next_is_name s) true (next_is_sign signs.Handle s)) (is_array m)) ≡ true → BeginsType m
+    by_kind : (k : Option Primitive) → primitive m ≡ k → (b : Bool) → is_name m ≡ b → cond (is_some k) (next_is_name s) (cond b (cond (next_is_name s) true (next_is_sign signs.Handle s)) false) ≡ true → BeginsType m
     by_kind (Some k) e b d h = by_word k e
     by_kind None e true d h = name_is m BeginsType d (λ text. by_name text)
-    by_kind None e false d h = absurd (no_true (sym a ∙ h))
-
--- the word `array` tells by itself
-pub array_is_vars : (m : Meaning) (p : Place) (s : Tokens) → is_array m ≡ true → is_vars ((m, p) ∷ s) ≡ true
-unfolding is_array is_vars is_name primitive
-array_is_vars (reserved words.Array) p s h = refl
-array_is_vars m p s h = absurd (no_true h)
-
-pub no_array_by : (b : Bool) → (b ≡ true → ⊥) → b ≡ false
-no_array_by true h = absurd (h refl)
-no_array_by false h = refl
-
--- where what is behind a token tells, the token is not this word
-pub no_array : (m : Meaning) (p : Place) (s r : Tokens) → (is_vars ((m, p) ∷ s) ≡ is_vars ((m, p) ∷ r) → ⊥) → is_array m ≡ false
-no_array m p s r differs = no_array_by (is_array m) (λ e. differs (array_is_vars m p s e ∙ sym (array_is_vars m p r e)))
+    by_kind None e false d h = absurd (no_true h)
 
 pub vars_behind : (a t : Meaning × Place) (more other front : Tokens) → is_vars (a ∷ front ++ t ∷ more) ≡ is_vars (a ∷ front ++ t ∷ other)
 unfolding is_vars
@@ -111,28 +79,28 @@ slackens zero b f h = absurd (no_true (sym (f refl) ∙ h))
 slackens (suc n) b f h = omega arith
 
 -- one token declares nothing
-vars_alone : (a : Meaning × Place) → is_array a.0 ≡ false → is_vars (a ∷ []) ≡ true → ⊥
+vars_alone : (a : Meaning × Place) → is_vars (a ∷ []) ≡ true → ⊥
 unfolding is_vars next_is_name next_is_sign
-vars_alone (m, p) e h = no_true (by_kind (is_some (primitive m)) (is_name m) h)
+vars_alone (m, p) h = no_true (by_kind (is_some (primitive m)) (is_name m) h)
   where
-    by_kind : (k b : Bool) → cond k false (cond b (cond false true false) (is_array m)) ≡ true → false ≡ true
+    by_kind : (k b : Bool) → cond k false (cond b (cond false true false) false) ≡ true → false ≡ true
     by_kind true b h = h
     by_kind false true h = h
-    by_kind false false h = sym e ∙ h
+    by_kind false false h = h
 
 -- the reader takes what begins a declaration of variables, both tokens
 pub record TakesVars {A : Type 0} (read : Tokens → Reading A) : Type 0 where
   pub begins : (m : Meaning) (p : Place) → BeginsType m → Takes 0 (m, p) read
-  pub goes_on : (a b : Meaning × Place) (s : Tokens) → is_array a.0 ≡ false → is_vars (a ∷ b ∷ s) ≡ true → Past 0 (length s) (read (a ∷ b ∷ s))
+  pub goes_on : (a b : Meaning × Place) (s : Tokens) → is_vars (a ∷ b ∷ s) ≡ true → Past 0 (length s) (read (a ∷ b ∷ s))
 
-vars_fewer : {A : Type 0} (on : Tokens → Reading A) → TakesVars on → (a : Meaning × Place) (s : Tokens) → is_array a.0 ≡ false → is_vars (a ∷ s) ≡ true → Fewer (length s) (on (a ∷ s))
-vars_fewer on u a [] e h = absurd (vars_alone a e h)
-vars_fewer on u a (b ∷ s) e h = past_fewer (length s) (suc (length s)) (on (a ∷ b ∷ s)) (omega arith) (u.goes_on a b s e h)
+vars_fewer : {A : Type 0} (on : Tokens → Reading A) → TakesVars on → (a : Meaning × Place) (s : Tokens) → is_vars (a ∷ s) ≡ true → Fewer (length s) (on (a ∷ s))
+vars_fewer on u a [] h = absurd (vars_alone a h)
+vars_fewer on u a (b ∷ s) h = past_fewer (length s) (suc (length s)) (on (a ∷ b ∷ s)) (omega arith) (u.goes_on a b s h)
 
 vars_then : {A B : Type 0} {read : Tokens → Reading A} (f : A × Tokens → Reading B) → TakesVars read → ((x : A) → Lawful 0 (λ s. f (x, s))) → TakesVars (λ s. read s >>= f)
 vars_then {read} f u next = record {
   begins = λ m p b. bind_takes f (u.begins m p b) next;
-  goes_on = λ a b s e h. bind_past f 0 (length s) (read (a ∷ b ∷ s)) (u.goes_on a b s e h) (λ x r l. (next x).stays (length s) r l);
+  goes_on = λ a b s h. bind_past f 0 (length s) (read (a ∷ b ∷ s)) (u.goes_on a b s h) (λ x r l. (next x).stays (length s) r l);
 }
 
 -- what reads behind a type takes the name there
@@ -145,20 +113,20 @@ module _ {B : Type 0} (f : Named × Tokens → Reading B) (law : (t : Named) →
   handle_two false true n text p q s e h = named_two (Object p text) n q s e
   handle_two false false n text p q s e h = absurd (no_true h)
 
-  type_two : (k : Option Primitive) (m : Meaning) (p : Place) (n : Meaning) (q : Place) (s : Tokens) → is_array m ≡ false → cond (is_some k) (is_name n) (cond (is_name m) (cond (is_name n) true (is_sign signs.Handle n)) (is_array m)) ≡ true → Past 0 (length s) (type_by k m p ((n, q) ∷ s) >>= f)
+  type_two : (k : Option Primitive) (m : Meaning) (p : Place) (n : Meaning) (q : Place) (s : Tokens) → cond (is_some k) (is_name n) (cond (is_name m) (cond (is_name n) true (is_sign signs.Handle n)) false) ≡ true → Past 0 (length s) (type_by k m p ((n, q) ∷ s) >>= f)
   unfolding is_name next_is_sign expect_at
-  type_two (Some k) m p n q s a h = named_two (Prim p k) n q s h
-  type_two None (name text) p n q s a h = handle_two (is_sign signs.Handle n) (is_name n) n text p q s refl h
-  type_two None (number x) p n q s a h = absurd (no_true (sym a ∙ h))
-  type_two None (sign x) p n q s a h = absurd (no_true (sym a ∙ h))
-  type_two None (reserved x) p n q s a h = absurd (no_true (sym a ∙ h))
-  type_two None (unsupported x) p n q s a h = absurd (no_true (sym a ∙ h))
+  type_two (Some k) m p n q s h = named_two (Prim p k) n q s h
+  type_two None (name text) p n q s h = handle_two (is_sign signs.Handle n) (is_name n) n text p q s refl h
+  type_two None (number x) p n q s h = absurd (no_true h)
+  type_two None (sign x) p n q s h = absurd (no_true h)
+  type_two None (reserved x) p n q s h = absurd (no_true h)
+  type_two None (unsupported x) p n q s h = absurd (no_true h)
 
   behind_type_takes : TakesVars (λ s. type_at s >>= f)
   unfolding is_vars next_is_name next_is_sign type_at
   behind_type_takes = record {
     begins = λ m p b. bind_takes f (type_takes m p b) law;
-    goes_on = λ a b s e h. type_two (primitive a.0) a.0 a.1 b.0 b.1 s e h;
+    goes_on = λ a b s h. type_two (primitive a.0) a.0 a.1 b.0 b.1 s h;
   }
 
 module _ {slack : ℕ} where
@@ -167,10 +135,8 @@ module _ {slack : ℕ} where
     where
       crosses : Crosses slack is_vars on off
       crosses (m, p) more other [] fair = (
-        λ h k. let e : is_array m ≡ false = no_array m p more other (differs_on (is_vars ((m, p) ∷ more)) (is_vars ((m, p) ∷ other)) h k) in
-            past (past_more slack (length more) (on ((m, p) ∷ more)) ((u.begins m p (vars_type m p more e h)).taken (length more) more (omega arith))) (inr (vars_fewer on u (m, p) more e h)),
-        λ h k. let e : is_array m ≡ false = no_array m p more other (differs_off (is_vars ((m, p) ∷ more)) (is_vars ((m, p) ∷ other)) h k) in
-            past ((v (slackens slack (is_vars ((m, p) ∷ other)) fair k) m p (vars_type m p other e k)).taken (length more) more (omega arith)) (inl ((u.begins m p (vars_type m p other e k)).taken (length other) other (omega arith))),
+        λ h k. past (past_more slack (length more) (on ((m, p) ∷ more)) ((u.begins m p (vars_type m p more h)).taken (length more) more (omega arith))) (inr (vars_fewer on u (m, p) more h)),
+        λ h k. past ((v (slackens slack (is_vars ((m, p) ∷ other)) fair k) m p (vars_type m p other k)).taken (length more) more (omega arith)) (inl ((u.begins m p (vars_type m p other k)).taken (length other) other (omega arith))),
       )
       crosses t more other (a ∷ front) fair =
           let s = a ∷ front ++ t ∷ more in

@@ -1,11 +1,11 @@
 pub mod Signs
 pub mod Readings
-pub mod Types
 pub mod ExpressionShorter
 pub mod ExpressionSound
 pub mod Loop
 pub mod ExpressionLoops
 pub mod Climbing
+pub mod Types
 pub mod StatementShorter
 pub mod StatementSound
 pub mod StatementLoops

@@ -6,7 +6,6 @@
 --   unary   = ( + - ! ~ ++ -- @ ) unary | postfix
 --   postfix = primary { "." NAME [args] | "++" | "--" }
 --   primary = NUMBER | "true" | "false" | "null" | "this" | NAME [args] | "(" assign ")" | prim "(" assign ")"
---           | "cast" "<" NAME ">" "(" assign ")"
 --
 -- `binary` joins `unary` by operators of ten levels, from the tightest to the loosest, each grouping to the left.
 -- The last `assign` of `? :` reaches as far as it can, so that what `aop` writes to is no `cond` with a `?`.
@@ -24,7 +23,7 @@ use Rattle.ash_tree.specs.declared.tree.types.Primitive.{Primitive}
 use Rattle.ash_tree.specs.declared.tree.operators.UnaryOp.{UnaryOp}
 use Rattle.ash_tree.specs.declared.tree.operators.BinaryOp.{BinaryOp}
 use Rattle.ash_tree.specs.declared.tree.operators.AssignOp.{AssignOp}
-use Rattle.ash_tree.specs.Tree.{Expr, Number, Truth, Null, This, Name, Call, Brackets, Convert, Cast, Unary, Conditional, Assign, Suffix, Field, Method, Index, Increment, Decrement, Operation, place_of, exprs, chained, suffixed}
+use Rattle.ash_tree.specs.Tree.{Expr, Number, Truth, Null, This, Name, Call, Brackets, Convert, Unary, Conditional, Assign, Suffix, Field, Method, Increment, Decrement, Operation, place_of, exprs, chained, suffixed}
 use Rattle.ash_tree.specs.Tokens.{Tokens}
 use Rattle.ash_tree.specs.Operators.{primitive, unary_operator, binary_operator, level, LEVELS, assign_operator}
 
@@ -92,7 +91,6 @@ mutual
     decrement : {free depth : ℕ} {p : Place} {left : Tokens} → IsSuffix free depth ((sign signs.Decrement, p) ∷ left) Decrement left
 
   -- primary = NUMBER | "true" | "false" | "null" | "this" | NAME [args] | "(" assign ")" | prim "(" assign ")"
-  --         | "cast" "<" NAME ">" "(" assign ")"
   pub data IsPrimary : ℕ → ℕ → Tokens → Expr → Tokens → Type 0 where
     numeral : {free depth n : ℕ} {p : Place} {left : Tokens} → IsPrimary free depth ((number n, p) ∷ left) (Number p n) left
     yes : {free depth : ℕ} {p : Place} {left : Tokens} → IsPrimary free depth ((reserved words.True, p) ∷ left) (Truth p true) left
@@ -103,4 +101,3 @@ mutual
     call : {free depth : ℕ} {p : Place} {text : List ℕ} {from left : Tokens} {es : List Expr} → IsArgs free depth from es left → IsPrimary free depth ((name text, p) ∷ from) (Call p text (exprs es)) left
     brackets : {free depth : ℕ} {p q : Place} {from left : Tokens} {e : Expr} → IsInner free depth from e ((sign signs.CloseParenthesis, q) ∷ left) → IsPrimary free depth ((sign signs.OpenParenthesis, p) ∷ from) (Brackets p e) left
     convert : {free depth : ℕ} {m : Meaning} {p q r : Place} {to : Primitive} {from left : Tokens} {e : Expr} → primitive m ≡ Some to → IsInner free depth from e ((sign signs.CloseParenthesis, r) ∷ left) → IsPrimary free depth ((m, p) ∷ (sign signs.OpenParenthesis, q) ∷ from) (Convert p to e) left
-    cast : {free depth : ℕ} {p o q r s z : Place} {text : List ℕ} {from left : Tokens} {e : Expr} → IsInner free depth from e ((sign signs.CloseParenthesis, z) ∷ left) → IsPrimary free depth ((reserved words.Cast, p) ∷ (sign signs.Less, o) ∷ (name text, q) ∷ (sign signs.Greater, r) ∷ (sign signs.OpenParenthesis, s) ∷ from) (Cast p (record { place = q; name = text }) e) left

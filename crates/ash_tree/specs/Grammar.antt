@@ -14,8 +14,7 @@ use Rattle.ash_lex.specs.declared.words.ReservedWord.TheVariants as words
 use Rattle.ash_tree.specs.declared.tree.places.Place.{Place}
 use Rattle.ash_tree.specs.Tree.{Named, Vars, Stmt, Parameter, Function, Member, AMethod, AField, AConstructor, Class, Item, AClass, AFunction, AGlobal, Declaration, ASignature, AProperty}
 use Rattle.ash_tree.specs.Tokens.{Tokens}
-use Rattle.ash_tree.specs.Types.{IsType}
-use Rattle.ash_tree.specs.Statements.{IsVars, IsBlock}
+use Rattle.ash_tree.specs.Statements.{IsType, IsVars, IsBlock}
 
 -- rtype = "void" | type
 pub data IsResultType : Tokens → Option Named → Tokens → Type 0 where
@@ -53,7 +52,7 @@ pub data AreMembers : ℕ → Tokens → List Member → Tokens → Type 0 where
 
 -- class = "class" NAME "{" { member } "}"
 pub data IsClass : ℕ → Tokens → Class → Tokens → Type 0 where
-  class : {free : ℕ} {p q o z : Place} {text : List ℕ} {from left : Tokens} {xs : List Member} → AreMembers free from xs ((sign signs.CloseBrace, z) ∷ left) → IsClass free ((reserved words.Class, p) ∷ (name text, q) ∷ (sign signs.OpenBrace, o) ∷ from) (record { place = q; name = text; interfaces = []; members = xs }) left
+  class : {free : ℕ} {p q o z : Place} {text : List ℕ} {from left : Tokens} {xs : List Member} → AreMembers free from xs ((sign signs.CloseBrace, z) ∷ left) → IsClass free ((reserved words.Class, p) ∷ (name text, q) ∷ (sign signs.OpenBrace, o) ∷ from) (record { place = q; name = text; members = xs }) left
 
 -- class | function | vars ";"
 pub data IsItem : ℕ → Tokens → Item → Tokens → Type 0 where
