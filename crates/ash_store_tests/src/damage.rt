@@ -1,12 +1,11 @@
 //! Damaged stores: files that are cut, and files with another byte at a place.
 
-use crate::hosts::{
-    check, check_bytes, closed, disk, found, opened, second_generation, used, used_file,
-};
+use crate::checks::{check, check_bytes};
 use crate::store::{file_with, loaded};
 use ash_disk::MemoryDisk;
 use ash_durable::StoreFault;
 use ash_registry::Registry;
+use ash_store_fixtures::hosts::{closed, disk, found, opened, second_generation, used, used_file};
 use std::alloc::{AllocError, Global};
 use std::process::Abort;
 use std::test::Fail;

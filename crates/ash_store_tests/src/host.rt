@@ -1,14 +1,15 @@
 //! The calls of a host, each once, where memory is ample.
 
-use crate::hosts::{
-    SOURCE, call, check, check_text, discard, disk, global, load, made, opened, second_generation,
-    seq, shown, snapshot, used,
-};
+use crate::checks::{check, check_text};
 use ash_disk::MemoryDisk;
 use ash_durable::Host;
 use ash_meaning::refusal::Refusal;
 use ash_meaning::request::{Argument, Reply, Request};
 use ash_registry::Registry;
+use ash_store_fixtures::hosts::{
+    SOURCE, call, discard, disk, global, load, made, opened, second_generation, seq, shown,
+    snapshot, used,
+};
 use std::alloc::{AllocError, Global};
 use std::process::Abort;
 use std::test::Fail;

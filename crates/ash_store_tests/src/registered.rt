@@ -1,11 +1,12 @@
 //! Stores with what is registered: damage to their bytes, and opening them with another registry.
 
-use crate::hosts::{
-    check, check_bytes, closed, created, discard, disk, load, opened, second_generation, snapshot,
-};
+use crate::checks::{check, check_bytes};
 use ash_disk::MemoryDisk;
 use ash_durable::{Host, StoreFault};
 use ash_registry::{Registry, RegistryFault};
+use ash_store_fixtures::hosts::{
+    closed, created, discard, disk, load, opened, second_generation, snapshot,
+};
 use std::alloc::{AllocError, Global};
 use std::process::Abort;
 use std::test::Fail;

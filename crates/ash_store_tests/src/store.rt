@@ -1,17 +1,17 @@
 //! Stores on two disks: their bytes, and crashes between requests.
 
-use crate::files::{Module, add_record, generation, image};
-use crate::hosts::{
-    EMPTY, SOURCE, call, calls, check, check_bytes, closed, crashed, discard, disk, found,
-    found_state, global, load, made, opened, reopened, second_generation, seq, used, used_file,
-    with_modules,
-};
+use crate::checks::{check, check_bytes};
 use ash_disk::{MemoryDisk, Survives};
 use ash_durable::StoreFault;
 use ash_host::Word;
 use ash_meaning::refusal::Refusal;
 use ash_meaning::request::Argument;
 use ash_registry::Registry;
+use ash_store_fixtures::files::{Module, add_record, generation, image};
+use ash_store_fixtures::hosts::{
+    EMPTY, SOURCE, call, calls, closed, crashed, discard, disk, found, found_state, global, load,
+    made, opened, reopened, second_generation, seq, used, used_file, with_modules,
+};
 use std::alloc::{AllocError, Global};
 use std::process::Abort;
 use std::test::Fail;

@@ -1,15 +1,16 @@
 //! New generations: by a snapshot, and in place of records of 16,777,216 bytes or more.
 
-use crate::files::{Module, add_record, generation, image};
-use crate::full::{AT_THE_LIMIT, LIMIT, full_file, spaces};
-use crate::hosts::{
-    EMPTY, SOURCE, add, call_in, check, check_bytes, closed, created, discard, disk, found_state,
-    fuse, image_after, inner, load, made, opened, reopened, seq, snapshot, state, used,
-};
+use crate::checks::{check, check_bytes};
 use ash_disk::{FuseDisk, MemoryDisk, Survives};
 use ash_durable::Host;
 use ash_meaning::refusal::Refusal;
 use ash_registry::Registry;
+use ash_store_fixtures::files::{Module, add_record, generation, image};
+use ash_store_fixtures::full::{AT_THE_LIMIT, LIMIT, full_file, spaces};
+use ash_store_fixtures::hosts::{
+    EMPTY, SOURCE, add, call_in, closed, created, discard, disk, found_state, fuse, image_after,
+    inner, load, made, opened, reopened, seq, snapshot, state, used,
+};
 use std::alloc::{AllocError, Global};
 use std::process::Abort;
 use std::test::Fail;

@@ -1,15 +1,16 @@
 //! Stores that are there already or damaged, and disks that fail.
 
-use crate::hosts::{
-    EMPTY, SOURCE, State, call, check, check_bytes, closed, created, discard, disk, found,
-    found_state, fuse, global, image_after, inner, load, opened, replies_to, seq, snapshot, used,
-};
+use crate::checks::{check, check_bytes};
 use ash_disk::{FuseDisk, MemoryDisk, Survives};
 use ash_durable::{Host, StoreFault};
 use ash_host::Word;
 use ash_meaning::refusal::Refusal;
 use ash_meaning::request::{Argument, Reply, Request};
 use ash_registry::Registry;
+use ash_store_fixtures::hosts::{
+    EMPTY, SOURCE, State, call, closed, created, discard, disk, found, found_state, fuse, global,
+    image_after, inner, load, opened, replies_to, seq, snapshot, used,
+};
 use std::alloc::Global;
 use std::process::Abort;
 use std::test::Fail;

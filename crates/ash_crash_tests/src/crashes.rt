@@ -1,14 +1,15 @@
 //! Stops at every call of either disk, and what crashes leave of both, at each moment of the request in progress.
 
-use crate::full::{AT_THE_LIMIT, full_file};
-use crate::hosts::{
-    SOURCE, State, add, check, closed, disk, found_state, image_after, inner, load, opened,
-    snapshot, state,
-};
+use crate::checks::check;
 use ash_disk::{FuseDisk, MemoryDisk, Survives};
 use ash_durable::{Host, OpenRefused, StoreFault};
 use ash_meaning::refusal::Refusal;
 use ash_registry::Registry;
+use ash_store_fixtures::full::{AT_THE_LIMIT, full_file};
+use ash_store_fixtures::hosts::{
+    SOURCE, State, add, closed, disk, found_state, image_after, inner, load, opened, snapshot,
+    state,
+};
 use std::alloc::{AllocError, Global};
 use std::process::Abort;
 use std::test::Fail;

@@ -9,7 +9,6 @@ use ash_meaning::request::{Answer, Argument, Reply, Request};
 use ash_registry::Registry;
 use std::alloc::{AllocError, Global};
 use std::fmt::Debug;
-use std::process::Abort;
 use std::test::Fail;
 
 pub const SOURCE: &[u8] = b"int n = 2; int f(int k) { n += k; return n; }";
@@ -21,27 +20,6 @@ pub static EMPTY: [u8; 51] = [
     0x00, 0x00, 0x00, 0x00, 0x00, 0x00, 0x00, 0x00, 0x00, 0x00, 0x00, 0x00, 0x00, 0x00, 0x00, 0x00,
     0x00, 0x00, 0x00,
 ];
-
-/// Compares what is found with what is wanted.
-pub fn check<T: Debug + PartialEq>(rt: &impl Abort, found: &T, wanted: &T, what: &str) {
-    if *found != *wanted {
-        panic!(rt; "{what}: found {found:?}, wanted {wanted:?}");
-    }
-}
-
-/// The same of bytes.
-pub fn check_bytes(rt: &impl Abort, found: &[u8], wanted: &[u8], what: &str) {
-    if found != wanted {
-        panic!(rt; "{what}: found {found:?}, wanted {wanted:?}");
-    }
-}
-
-/// The same of texts.
-pub fn check_text(rt: &impl Abort, found: &str, wanted: &str, what: &str) {
-    if found != wanted {
-        panic!(rt; "{what}: found {found}, wanted {wanted}");
-    }
-}
 
 /// A value, written out.
 pub fn shown<T: Debug>(alloc: Global, value: &T) -> Result<String, AllocError> {

@@ -1,0 +1,10 @@
+//! What the tests of a host share: hosts over disks in memory, and the files of stores written by hand. It promises nothing
+//! of what it gives; each call of a host stands in a function of its own, so that its contract is seen once and not in every
+//! test.
+//!
+//! `hosts` makes hosts and calls them, `files` and `full` write the files of stores.
+#![tactic(auto)]
+
+pub mod files;
+pub mod full;
+pub mod hosts;
