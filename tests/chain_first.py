@@ -4,8 +4,9 @@
 The crates stand on each other in one long chain, and `rt ci` shares the processors evenly among all tasks that are ready,
 the tests and edits of crates that have none among them. So the crate that all others wait for would be proved at one job.
 Here a task that has nothing to do takes no share. The task at the head of the longest chain that is left begins at once
-on all processors but one, even where others still have some of these, since all wait for it; any other task gets the
-processors that are idle, but one where another is ready.
+with a job for each processor but one, even where others still have some of these, since all wait for it; any other task
+gets the jobs that are left, but one where another is ready. A check with several jobs leaves some of them idle for part of
+its time, so more jobs are given out than there are processors.
 Only the order of the work is another one: what is proved, tried and run, and the verdict, are those of `rt ci`. Under a
 toolchain that was not tried with this, plain `rt ci` runs.
 """
@@ -20,6 +21,7 @@ from concurrent.futures import FIRST_COMPLETED, ThreadPoolExecutor, wait
 
 TRIED_WITH = "rattle-kit-13b logic dac8208d650f15bf"
 MOST_JOBS = 4
+JOBS_FOR_A_PROCESSOR = 1.5
 # What each further job of a check adds to its memory, and how much of the free memory is given out.
 MEMORY_OF_A_JOB = 0.6
 MEMORY_GIVEN_OUT = 0.85
@@ -49,10 +51,10 @@ def behind(tasks):
     return lines
 
 
-def jobs_for(idle, others, needs, room, least):
-    """How many jobs a task gets: the idle processors, but one where another task is ready, and no fewer than the least, as
+def jobs_for(spare, others, needs, room, least):
+    """How many jobs a task gets: those that are to spare, but one where another task is ready, and no fewer than the least, as
     far as memory goes."""
-    by_processors = max(idle - min(others, 1), least)
+    by_processors = max(spare - min(others, 1), least)
     by_memory = 1 + int((room / needs - 1) / MEMORY_OF_A_JOB)
     return max(1, min(MOST_JOBS, by_processors, by_memory))
 
@@ -73,14 +75,14 @@ def in_lanes(tasks, processors, memory):
                 continue
             for number, key in enumerate(ready, 1):
                 _, _, needs, call = tasks[key]
-                idle = processors - sum(jobs for _, _, jobs in running.values())
+                spare = int(JOBS_FOR_A_PROCESSOR * processors) - sum(jobs for _, _, jobs in running.values())
                 room = memory - sum(taken for _, taken, _ in running.values())
                 rivals = [*ready, *(it for it, _, _ in running.values())]
                 is_head = all(order[it] < NEAR * order[key] for it in rivals if it != key)
-                if (idle > 0 or is_head) and (needs <= room or not running):
+                if (spare > 0 or is_head) and (needs <= room or not running):
                     least = processors - 1 if is_head else 1
                     # an edit's check takes one job
-                    jobs = 1 if key[1] == "edits" else jobs_for(idle, len(ready) - number, needs, room, least)
+                    jobs = 1 if key[1] == "edits" else jobs_for(spare, len(ready) - number, needs, room, least)
                     taken = needs * (1 + MEMORY_OF_A_JOB * (jobs - 1))
                     left.remove(key)
                     running[pool.submit(call, given, jobs)] = key, taken, jobs
