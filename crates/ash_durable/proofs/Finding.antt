@@ -17,14 +17,14 @@ use Rattle.ash_meaning.specs.State.{State}
 use Rattle.ash_registry.specs.Calls.{Call}
 use Rattle.ash_durable.specs.Contents.{behind_image, ReadsAs}
 use Rattle.ash_durable.specs.Faults.{opening_fault}
-use Rattle.ash_durable.specs.States.{AreHonest, IsEither}
-use Rattle.ash_durable.specs.Store.{IsFailed, HandsBack, WereOnlyRead, StoreFaultIs, StaySettled, WasFound, WasNotFound, Finds, contents_of, AreInPlace, HoldsRead, WasSettled, WasNotSettled, Settled}
+use Rattle.ash_durable.specs.States.{AreHonest}
+use Rattle.ash_durable.specs.Store.{IsFailed, HandsBack, WereOnlyRead, StoreFaultIs, WasFound, WasNotFound, Finds, contents_of, AreInPlace, HoldsRead, WasSettled, WasNotSettled, Settled}
 use Rattle.ash_durable.specs.declared.fault.OpenRefused.{OpenRefused}
 use Rattle.ash_durable.specs.declared.fault.StoreFault.{StoreFault}
 use Rattle.ash_durable.specs.declared.fault.StoreFault.TheVariants as faults
 use Rattle.ash_durable.specs.declared.store.Found.{Found}
 use Rattle.ash_durable.proofs.Faultless.{represent_current}
-use Rattle.ash_durable.proofs.Settling.{settle_still}
+use Rattle.ash_durable.proofs.Settling.{extends_on}
 
 -- calls of which the first met no failure
 pub counted_on : (failed : Type 0) (f s f' s' f'' s'' : ℕ) → CountsFailures ⊥ f s f' s' → CountsFailures failed f' s' f'' s'' → CountsFailures failed f s f'' s''
@@ -117,10 +117,6 @@ module _ {D : Type 0} (device : Device D) where
     honesty_second = two.honesty_second ∙ one.honesty_second;
   }
 
-  -- calls that add no new contents leave what files settled on
-  pub extends_stay : (a b a' b' : D) → (AreHonest device a b → Extends device a b a' b' Nothing) → StaySettled device a b a' b'
-  extends_stay a b a' b' call p q s t honest settle = settle_still device p q a b a' b' (IsEither s t) (call honest) settle
-
   -- ---- what an opened journal holds is read
 
   -- as no state
@@ -206,11 +202,13 @@ module _ {D : Type 0} (device : Device D) where
   found registered a b opened state journal is settled = record {
     registered_is = settled.registered_is;
     ready = settled.ready is.sound;
-    reads = λ honest. (contents_of opened, is.represents honest, settled.reads (is.placed honest));
-    holds = λ honest. record { contents = contents_of opened; holds = settled.holds (is.holds honest); tells = settled.reads (is.placed honest) };
-    moments = λ p q s t honest settle.
-        settle_still device p q (first_disk opened.journal) (second_disk opened.journal) (first_disk journal) (second_disk journal) (IsEither s t) (settled.extends (is.holds honest))
-        (settle_still device p q a b (first_disk opened.journal) (second_disk opened.journal) (IsEither s t) (is.extends honest) settle);
+    holds = λ honest. record {
+      contents = contents_of opened;
+      represented = is.represents honest;
+      holds = settled.holds (is.holds honest);
+      tells = settled.reads (is.placed honest);
+    };
+    moments = λ honest. extends_on device a b (first_disk opened.journal) (second_disk opened.journal) (first_disk journal) (second_disk journal) (is.extends honest) (settled.extends (is.holds honest));
     disks = handed_on ⊥ a b (first_disk opened.journal) (second_disk opened.journal) (first_disk journal) (second_disk journal) (opened_back a b opened is) settled.disks;
   }
 
@@ -223,9 +221,7 @@ module _ {D : Type 0} (device : Device D) where
           read_first = subst (λ (d : D). IsOnlyRead device a d) (sym same.0) is.read.read_first;
           read_second = subst (λ (d : D). IsOnlyRead device b d) (sym same.1) is.read.read_second;
         };
-    moments = λ p q s t honest settle.
-        settle_still device p q (first_disk opened.journal) (second_disk opened.journal) refused.a refused.b (IsEither s t) (settled.extends (is.holds honest))
-        (settle_still device p q a b (first_disk opened.journal) (second_disk opened.journal) (IsEither s t) (is.extends honest) settle);
+    moments = λ honest. extends_on device a b (first_disk opened.journal) (second_disk opened.journal) refused.a refused.b (is.extends honest) (settled.extends (is.holds honest));
     disks = handed_on (IsFailed refused.fault) a b (first_disk opened.journal) (second_disk opened.journal) refused.a refused.b (opened_back a b opened is) settled.disks;
   }
 
@@ -241,7 +237,7 @@ module _ {D : Type 0} (device : Device D) where
       (record {
         cause = λ honest. opening_cause registered fault (device.seen a) (device.seen b) (cause honest);
         read = λ not. record { read_first = read_first; read_second = read_second };
-        moments = extends_stay a b a' b' extends;
+        moments = extends;
         disks = record {
           failures = opening_counts fault (device.failures a) (device.failures b) (device.failures a') (device.failures b') counts;
           honesty_first = read_first.honesty;

@@ -16,7 +16,7 @@ use Rattle.ash_registry.specs.Calls.{Call as Registration}
 use Rattle.ash_durable.specs.Hosting.{Hosted, first, second, IsRunning, IsSaved, IsHonest, IsAnswer, InstallRefused, WasLost, Replies, reply_stopped, Carries}
 use Rattle.ash_durable.specs.Running.{IsFailure}
 use Rattle.ash_durable.specs.States.{AreHonest, SettleSince, SettleNow, IsOne, IsEither, Tells, TellsOne}
-use Rattle.ash_durable.specs.Store.{WereOnlyRead, AreClosed, IsClosedOrTells, MakesOrNot, NotMadeFor, WasCreated, WasNotMade, Creates, StaySettled, WasOpened, WasNotFound, Opens, IsMishap}
+use Rattle.ash_durable.specs.Store.{WereOnlyRead, AreClosed, IsClosedOrTells, MakesOrNot, NotMadeFor, WasCreated, WasNotMade, Creates, AddNothing, WasOpened, WasNotFound, Opens, IsMishap}
 use Rattle.ash_durable.specs.Lives as lives
 use Rattle.ash_durable.specs.Lives.{Event, Acknowledged, InDoubt, Found, Takes, LeadTo, LeadBy, IsCertain, AreLeft, BeginWith, Crashed, AreFresh, IsOneOpen, first_of, second_of, Place, Under, On, first_at, second_at, Life, IsWhole, RunsOn, Outlives}
 use Rattle.ash_durable.specs.declared.fault.OpenRefused.{OpenRefused}
@@ -25,7 +25,7 @@ use Rattle.ash_durable.specs.declared.fault.StoreFault.TheVariants as faults
 use Rattle.ash_durable.proofs.Answering.{steps-registered}
 use Rattle.ash_durable.proofs.Faultless.{represent_open}
 use Rattle.ash_durable.proofs.Mishaps.{only_mishaps}
-use Rattle.ash_durable.proofs.Settling.{settle_on_more, settle_now, holds_now}
+use Rattle.ash_durable.proofs.Settling.{settle_on_more, settle_now, settle_still, holds_now}
 use Rattle.ash_durable.proofs.Telling.{tells_one}
 
 -- ---- steps
@@ -358,17 +358,17 @@ module _ {D : Type 0} (device : Device D) (registered : List Registration) where
   refused events others a b r before was =
       rests_on events r.a r.b (same_honesty device a b r.a r.b before.honest was.disks.honesty_first was.disks.honesty_second)
       (still_whole events a b r.a r.b before.whole (settle_now device (device.clock a) (device.clock b) r.a r.b (IsEither before.whole.s before.whole.t)
-      (was.moments (device.clock a) (device.clock b) before.whole.s before.whole.t before.honest before.whole.settled)))
+      (settle_still device (device.clock a) (device.clock b) a b r.a r.b (IsEither before.whole.s before.whole.t) (was.moments before.honest) before.whole.settled)))
 
-  stay_settled : (others : List Registration) (a b : D) (result : Result (Hosted D) (OpenRefused D)) → Opens device others a b result → StaySettled device a b (first_of result) (second_of result)
-  stay_settled others a b (Ok host) was = was.found.moments
-  stay_settled others a b (Err r) was = was.moments
+  opening_adds_nothing : (others : List Registration) (a b : D) (result : Result (Hosted D) (OpenRefused D)) → Opens device others a b result → AddNothing device a b (first_of result) (second_of result)
+  opening_adds_nothing others a b (Ok host) was = was.found.moments
+  opening_adds_nothing others a b (Err r) was = was.moments
 
   crashed_opening : (events : List Event) (others : List Registration) (a b : D) (result : Result (Hosted D) (OpenRefused D)) (a' b' : D) → Rested events a b → Opens device others a b result → Crashed device (device.clock a) (device.clock b) (first_of result) (second_of result) a' b' → Rested events a' b'
   crashed_opening events others a b result a' b' before opens crash =
       rests_on events a' b' crash.honest (still_whole events a b a' b' before.whole
       (settle_crashed device (device.clock a) (device.clock b) (first_of result) (second_of result) a' b' (IsEither before.whole.s before.whole.t)
-      (stay_settled others a b result opens (device.clock a) (device.clock b) before.whole.s before.whole.t before.honest before.whole.settled) crash))
+      (settle_still device (device.clock a) (device.clock b) a b (first_of result) (second_of result) (IsEither before.whole.s before.whole.t) (opening_adds_nothing others a b result opens before.honest) before.whole.settled) crash))
 
   looked : (events : List Event) (a b a' b' : D) → Rested events a b → WereOnlyRead device a b a' b' → Rested events a' b'
   looked events a b a' b' before read =
@@ -477,9 +477,9 @@ module _ {D : Type 0} (device : Device D) (stays : (disk : D) → IsTrue (device
   opened_creating : (a b : D) (result : Result (Hosted D) (OpenRefused D)) (a' b' : D) (host : Hosted D) → AreFresh device a b → Creates device registered a b result → Crashed device (device.clock a) (device.clock b) (first_of result) (second_of result) a' b' → (was : WasOpened device registered a' b' host) → Outlives device registered (Found was.state ∷ []) (Under host)
   opened_creating a b result a' b' host fresh creates crash was =
       let honest : AreHonest device a' b' = crash.honest in
-      let read = was.found.reads honest in
+      let holds = was.found.holds honest in
       let is : was.state ≡ empty registered =
-      first_state read.0 was.state (device.seen a') (device.seen b') was.found.registered_is read.1 read.2
+      first_state holds.contents was.state (device.seen a') (device.seen b') was.found.registered_is holds.represented holds.tells
       (begun device registered a b result a' b' (device.seen a') (device.seen b') fresh creates crash (stays a' honest.honest_first) (stays b' honest.honest_second)) in
       runs_in device registered (Found was.state ∷ []) host was.state (was.running.registered_is ∙ was.found.registered_is)
       (same_honesty device a' b' (first host) (second host) honest was.found.disks.honesty_first was.found.disks.honesty_second)

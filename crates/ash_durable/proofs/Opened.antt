@@ -41,14 +41,15 @@ module _ {D : Type 0} (device : Device D) (stays : (disk : D) → IsTrue (device
     running = running;
     found = found;
     same = λ s t honest s_with t_with settle.
-        let reads = found.reads honest in
-        settled_state device (device.clock a) (device.clock b) a b (IsEither s t) reads.0 state (device.seen a) (device.seen b) (stays a honest.honest_first) (stays b honest.honest_second) settle reads.1 reads.2
+        let holds = found.holds honest in
+        settled_state device (device.clock a) (device.clock b) a b (IsEither s t) holds.contents state (device.seen a) (device.seen b) (stays a honest.honest_first) (stays b honest.honest_second) settle holds.represented holds.tells
         (λ u either. elim either [
           | inl is ↦ ap (λ (q : State). q.registered) is ∙ s_with ∙ sym found.registered_is
           | inr is ↦ ap (λ (q : State). q.registered) is ∙ t_with ∙ sym found.registered_is
         ]);
     saved = λ honest still other runs.
-        subst (λ (s : State). HoldsState device s host.journal) (runs_once host state other running runs) (found.holds honest);
+        let holds = found.holds honest in
+        subst (λ (s : State). HoldsState device s host.journal) (runs_once host state other running runs) (record { contents = holds.contents; holds = holds.holds; tells = holds.tells });
   }
 
   -- the files of a journal that holds contents represent them as they read

@@ -1,15 +1,22 @@
 -- What the files of a store settle on, said of states, from call to call.
+use Rattle.std.specs.Prelude.{min}
 use Rattle.std.proofs.Common.{◌≡◌, inl, inr, ℕ, ◌≤◌, List, [], ◌∷◌, ◌++◌, refl, sym, subst, arith}
 use Rattle.ash_disk.specs.Device.{Device}
 use Rattle.ash_journal.specs.declared.journal.Journal.{Journal}
-use Rattle.ash_journal.specs.Current.{Contents, Is, Either, Represent}
+use Rattle.ash_journal.specs.Current.{Contents, Is, Either, Represent, MaySettleOn, SettleFurther}
 use Rattle.ash_journal.specs.Journal.{first_disk, second_disk}
 use Rattle.ash_journal.specs.Runs.{Run, Extends, Nothing}
 use Rattle.ash_journal.proofs.RunLaws.{run_extends, represented}
-use Rattle.ash_journal.proofs.SettleLaws.{Said, Follow, settle_more}
+use Rattle.ash_journal.proofs.SettleLaws.{Said, Follow, settle_more, further}
 use Rattle.ash_meaning.specs.State.{State}
 use Rattle.ash_durable.specs.States.{IsImageOf, Leads, Tells, TellsOne, IsOne, IsEither, SettleSince, SettleNow, HoldsState, GoesOn, BeginsAnew}
 use Rattle.ash_durable.proofs.Telling.{tells_one, tells_alone, tells_push}
+
+-- files that come to nothing new, after files that come to nothing new
+further_on : (u v x y p q : List ℕ) → SettleFurther Nothing u v x y → SettleFurther Nothing x y p q → SettleFurther Nothing u v p q
+further_on u v x y p q one two settle =
+    let may = MaySettleOn u v in
+    further may Nothing x y p q two (settle_more (Either Nothing may) may (λ contents is. elim is [ inl new ↦ absurd new | inr was ↦ was ]) x y (one settle))
 
 module _ {D : Type 0} (device : Device D) where
   -- what a run says of contents may be said in a weaker way
@@ -43,6 +50,29 @@ module _ {D : Type 0} (device : Device D) where
   settle_still a b first second first' second' P call run =
       run_more a b first' second' (Either Nothing (TellsOne P)) (TellsOne P) (run_extends device a b first second first' second' (TellsOne P) Nothing run call)
       (λ contents one. elim one [ inl new ↦ absurd new | inr was ↦ was ])
+
+  -- calls that add no new contents, after calls that add none
+  pub extends_on : (a b a' b' a'' b'' : D) → Extends device a b a' b' Nothing → Extends device a' b' a'' b'' Nothing → Extends device a b a'' b'' Nothing
+  extends_on a b a' b' a'' b'' one two = record {
+    first_later = omega (arith, one.first_later, two.first_later);
+    second_later = omega (arith, one.second_later, two.second_later);
+    moments = λ s t x y s_end t_end left_x left_y.
+        let later = two.moments s t x y s_end t_end left_x left_y in
+        let s' = min s (device.clock a') in
+        let t' = min t (device.clock b') in
+        let was = one.moments s' t' later.0 later.1 (omega arith) (omega arith) later.2.first_left later.2.second_left in
+        let s_is : min s' (device.clock a) ≡ min s (device.clock a) = omega (arith, one.first_later) in
+        let t_is : min t' (device.clock b) ≡ min t (device.clock b) = omega (arith, one.second_later) in
+        (
+          was.0,
+          was.1,
+          record {
+            first_left = subst (λ (n : ℕ). device.leaves a n was.0) s_is was.2.first_left;
+            second_left = subst (λ (n : ℕ). device.leaves b n was.1) t_is was.2.second_left;
+          },
+          further_on was.0 was.1 later.0 later.1 x y was.3 later.3,
+        );
+  }
 
   -- files that settle on states with P, and represent a state as they read: it has P
   pub settled_state : (a b : ℕ) (first second : D) (P : State → Type 0) (contents : Contents) (state : State) (x y : List ℕ) → device.leaves first (device.clock first) x → device.leaves second (device.clock second) y → SettleSince device a b first second P → Represent contents x y → Tells state contents → ((s : State) → P s → s.registered ≡ state.registered) → P state

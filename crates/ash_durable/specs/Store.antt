@@ -16,7 +16,7 @@ use Rattle.ash_meaning.specs.State.{State, empty}
 use Rattle.ash_registry.specs.Calls.{Call as Registration}
 use Rattle.ash_durable.specs.Contents.{behind_image, ReadsAs, IsMisshapen, IsNotAdmitted, AreOfOthers}
 use Rattle.ash_durable.specs.Hosting.{Hosted, IsRunning, IsSaved, IsHonest}
-use Rattle.ash_durable.specs.States.{AreHonest, HoldsState, IsImageOf, SettleSince, SettleNow, IsOne, IsEither, Tells, TellsOne}
+use Rattle.ash_durable.specs.States.{AreHonest, HoldsState, IsImageOf, SettleNow, IsOne, IsEither, Tells, TellsOne}
 use Rattle.ash_durable.specs.declared.fault.OpenRefused.{OpenRefused}
 use Rattle.ash_durable.specs.declared.fault.StoreFault.{StoreFault}
 use Rattle.ash_durable.specs.declared.fault.StoreFault.TheVariants as faults
@@ -133,25 +133,34 @@ StoreFaultIs registered faults.NoMemory x y = HasCurrent x y
 StoreFaultIs registered faults.DeviceFailed x y = Unit {0}
 StoreFaultIs registered faults.AlreadyThere x y = ⊥
 
--- What the files settled on when calls began, of two states, they settled on at every moment of these.
-abbrev pub StaySettled : {D : Type 0} → Device D → D → D → D → D → Type 0
-StaySettled device a b a' b' =
-    (p q : ℕ) (s t : State) → AreHonest device a b → SettleSince device p q a b (IsEither s t) → SettleSince device p q a' b' (IsEither s t)
+-- Calls add nothing to two files: at every moment of them a crash leaves the contents that it might have left before they
+-- began, and no others.
+abbrev pub AddNothing : {D : Type 0} → Device D → D → D → D → D → Type 0
+AddNothing device a b a' b' = AreHonest device a b → Extends device a b a' b' Nothing
 
--- A state was found: the files, as they read, are those of it, and the journal holds it and no other.
+-- A journal holds the image and the records that two files, as they read, held before, no record more and none less, and
+-- they are those of this state.
+pub record HoldsAsRead {D : Type 0} (device : Device D) (a b : D) (state : State) (journal : Journal D) : Type 0 where
+  pub contents : Contents
+  pub represented : Represent contents (device.seen a) (device.seen b)
+  pub holds : Holds device journal contents.0 contents.1
+  pub tells : Tells state contents
+
+-- A state was found: the files, as they read, are those of it, and the journal holds these very files and no other state.
 pub record WasFound {D : Type 0} (device : Device D) (registered : List Registration) (a b : D) (state : State) (journal : Journal D) : Type 0 where
   pub registered_is : state.registered ≡ registered
   pub ready : IsReady journal
-  pub reads : AreHonest device a b → (contents : Contents) × Represent contents (device.seen a) (device.seen b) × Tells state contents
-  pub holds : AreHonest device a b → HoldsState device state journal
-  pub moments : StaySettled device a b (first_disk journal) (second_disk journal)
+  -- the files hold the records that they held before, no more and no fewer
+  pub holds : AreHonest device a b → HoldsAsRead device a b state journal
+  -- nor does a crash on the way leave any other
+  pub moments : AddNothing device a b (first_disk journal) (second_disk journal)
   pub disks : HandsBack device ⊥ a b (first_disk journal) (second_disk journal)
 
 -- No state was found, or a device failed once it was.
 pub record WasNotFound {D : Type 0} (device : Device D) (registered : List Registration) (a b : D) (refused : OpenRefused D) : Type 0 where
   pub cause : AreHonest device a b → StoreFaultIs registered refused.fault (device.seen a) (device.seen b)
   pub read : (IsFailed refused.fault → ⊥) → WereOnlyRead device a b refused.a refused.b
-  pub moments : StaySettled device a b refused.a refused.b
+  pub moments : AddNothing device a b refused.a refused.b
   pub disks : HandsBack device (IsFailed refused.fault) a b refused.a refused.b
 
 -- The state of a store is found on two disks, or both are handed back.

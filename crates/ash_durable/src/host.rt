@@ -81,7 +81,7 @@ impl<D: Disk> Host<D> {
 
     /// Opens the store on two disks, and gives a host with this registry in the state for which the files stand. It
     /// reads the current generation once, and last of all writes 0 over gates that a crash has left half written, with a
-    /// sync for each.
+    /// sync for each. That is all it writes: the files hold the same image and the same records as before.
     ///
     /// Faults, the first that holds: `DeviceFailed`; `NoGeneration` where no file is open; `Damaged` where bytes have not
     /// the shape of a generation, an image or a record; `OtherInterface` where the store was made with a registry of

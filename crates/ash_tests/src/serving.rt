@@ -1,7 +1,9 @@
 //! The run over slices and vectors, and over readers and writers that fail.
 
-use crate::hosts::{Row, check, check_rows, check_text, closed, ending, new_host, replies};
-use ash_disk::MemoryDisk;
+use crate::hosts::{
+    Row, check, check_rows, check_text, closed, ending, new_host, opened, replies,
+};
+use ash_disk::{MemoryDisk, Survives};
 use ash_durable::StoreFault;
 use ash_registry::Registry;
 use ash_serve::RunFault;
@@ -219,6 +221,49 @@ fn check_writes(rt: &impl Abort, alloc: Global, left: usize) -> Result<(), Fail>
 fn a_write_that_fails_is_reported(rt: HostRuntime) -> Result<(), Fail> {
     for left in 0..150 {
         check_writes(&rt, rt.alloc(), left)?;
+    }
+    Ok(())
+}
+
+/// Requests of which each is answered.
+const ANSWERED: &[u8] =
+    b"load m 45\nint n = 2; int f(int k) { n += k; return n; }\ncall m f 5\ncall m f 1\ncall m f 1\n";
+
+/// How many requests were answered and are found again after a crash, where a write of the replies fails after so many
+/// writes and flushes, and of how many answers a byte was written.
+fn found_and_written(alloc: Global, left: usize, survives: Survives) -> Result<(u64, u64), Fail> {
+    let mut host = new_host(alloc, Registry::new(alloc))?;
+    let mut writer = Refusing {
+        bytes: Vec::new(alloc),
+        left,
+    };
+    let _ = ending(alloc, ANSWERED, &mut writer, &mut host, 1000);
+    let (a, b) = closed(host);
+    let first = a.crash_image(a.calls(), survives)?;
+    let second = b.crash_image(b.calls(), survives)?;
+    let a = MemoryDisk::with_bytes(alloc, &first)?;
+    let b = MemoryDisk::with_bytes(alloc, &second)?;
+    let host = opened(alloc, a, b, Registry::new(alloc))?;
+    let mut written = 0_u64;
+    let mut begins = true;
+    for byte in &writer.bytes {
+        if begins {
+            written = written.wrapping_add(1);
+        }
+        begins = *byte == b'\n';
+    }
+    Ok((host.seq(), written))
+}
+
+#[test]
+fn an_answer_of_which_a_byte_was_written_is_found(rt: HostRuntime) -> Result<(), Fail> {
+    // Four replies of 9, 11, 11 and 11 bytes, each with its line feed, and a flush each.
+    for left in 0..50 {
+        for survives in [Survives::Nothing, Survives::Everything] {
+            let (found, written) = found_and_written(rt.alloc(), left, survives)?;
+            let is_found = found >= written && found <= written.wrapping_add(1);
+            check(&rt, &(left, is_found), &(left, true), "the answers that are found");
+        }
     }
     Ok(())
 }
