@@ -15,3 +15,4 @@ pub mod Touching
 pub mod Collecting
 pub mod Collected
 pub mod Newcomers
+pub mod Refilling

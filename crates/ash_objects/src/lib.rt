@@ -6,13 +6,14 @@
 //!
 //! In reading order: `words` and `body` (what an object is), `objects` (the table, and its calls on fields and holds),
 //! `making` (new objects), `arrays` (calls of arrays), `host_calls` (calls of host objects and services), `sweeping` (the sweep), `marking` (what
-//! was made, changed or taken away), `counting` and `calling` (what these do in a slot), `store` and `entry` (objects in slots, found by their numbers).
+//! was made, changed or taken away), `counting`, `elements` and `calling` (what these do in a slot), `store` and `entry` (objects in slots, found by their numbers).
 #![tactic(auto)]
 
 mod arrays;
 mod body;
 mod calling;
 mod counting;
+mod elements;
 mod entry;
 mod host_calls;
 mod making;
@@ -22,7 +23,7 @@ mod store;
 mod sweeping;
 mod words;
 
-pub use arrays::IndexOutOfBounds;
+pub use arrays::{IndexOutOfBounds, LengthFault};
 pub use body::{Array, Body, Element, Script};
 pub use making::{MAX_ELEMENTS, MAX_OBJECTS, MakeFault};
 pub use marking::Touched;

@@ -1,0 +1,440 @@
+-- What other elements leave of an array and of the table.
+use Rattle.std.proofs.Common.{◌≡◌, ℕ, Bool, true, false, cond, List, [], ◌∷◌, ◌++◌, refl, sym, subst, ap, ◌∙◌, nat_eq, arith, Option, Some, None, Result, Ok, Err, length, ◌+◌, ◌-◌, ◌*◌, ◌≤◌, ◌<◌, take, drop, replicate}
+use Rattle.std.specs.Prelude.{IsSomeAnd, IsSome, IfSome, OnErr, slice_get, slice_set}
+use Rattle.std.specs.Option.{option_map, option_map_or, option_and_then}
+use Rattle.std.proofs.lemmas.Bool.{eq-eqb}
+use Rattle.std.proofs.lemmas.List.{take-append-drop, length-append, length-replicate}
+use Rattle.std.proofs.lemmas.List.Sums.{sum_by-append}
+use Rattle.std.proofs.lemmas.List.Folds.{sum_by-replicate}
+use Rattle.ash_host.specs.declared.word.Word.{Word}
+use Rattle.ash_host.specs.Objects.{object_at, IsInOrder, Lives, handles_to, is_handle_to, handle}
+use Rattle.ash_objects.specs.declared.entry.Item.{Item}
+use Rattle.ash_objects.specs.declared.body.Body.{Body}
+use Rattle.ash_objects.specs.declared.body.Body.TheVariants.{Script, Array, Host}
+use Rattle.ash_objects.specs.declared.body.Array as arrays
+use Rattle.ash_objects.specs.declared.body.Element.{Element}
+use Rattle.ash_objects.specs.declared.body.Element.TheVariants as elements
+use Rattle.ash_objects.specs.Bodies.{words_of, with_word, initial_of}
+use Rattle.ash_objects.specs.Arrays.{array_of, array_at, elements_of, elements_at, with_words, with_elements, stored_array, refilled, lengthened}
+use Rattle.ash_objects.specs.Store.{Placed, AreStored, IsIn, change_in, with_item}
+use Rattle.ash_objects.specs.Table.{Living, Table, change_at, body_of, slot_of, field_of, with_object, with_field}
+use Rattle.ash_objects.specs.Counting.{face, face_at, holding, fields_in, counted, living_in, AreCounted, AreGiven, IsTable, once_less, change_handle, release_all}
+use Rattle.ash_objects.proofs.Changing.{object_at-change, length-change, in_order-change, change_in_is, sum-change}
+use Rattle.ash_objects.proofs.Counts.{numbers-living, each-change, given-change}
+use Rattle.ash_objects.proofs.Fields.{view_face, counted_same, in_face}
+use Rattle.ash_objects.proofs.Releasing.{released_face, released_fields, released_order, released_length, released_each, released_counted}
+use Rattle.ash_objects.proofs.Steps.{change_same}
+use Rattle.ash_objects.proofs.Views.{body_view}
+
+-- what is there
+pub some_of : {A : Type 0} (v : Option A) → IsSome v → (x : A) × (v ≡ Some x)
+some_of None h = cc
+some_of (Some x) h = (x, refl)
+
+pub if_some : {A : Type 0} (P : A → Type 0) (v : Option A) (x : A) → v ≡ Some x → P x → IfSome v P
+if_some P v x is h = subst (λ v. IfSome v P) (sym is) h
+
+pub some_if : {A : Type 0} (P : A → Type 0) (v : Option A) (x : A) → v ≡ Some x → IfSome v P → P x
+some_if P v x is h = subst (λ v. IfSome v P) is h
+
+take_short : {A : Type 0} (k : ℕ) (ws : List A) → length (take k ws) ≤ length ws
+take_short k ws =
+    let both = sym (length-append (take k ws) (drop k ws)) ∙ ap length (take-append-drop k ws) in
+    omega (arith, both)
+
+-- no initial value is a handle
+initial_none : (m : ℕ) (e : Element) → is_handle_to m (initial_of e) ≡ false
+initial_none m elements.Bool = refl
+initial_none m elements.Int = refl
+initial_none m elements.Uint = refl
+initial_none m elements.Int64 = refl
+initial_none m elements.Uint64 = refl
+initial_none m (elements.Class _ _) = refl
+initial_none m (elements.Kind _) = refl
+
+-- the handles among elements that were added, and among those that stay and those that go
+handles_longer : (m many : ℕ) (array : arrays.Array) → handles_to m (lengthened many array) ≡ handles_to m array.elements
+handles_longer m many array =
+    let f : Word → ℕ = λ x. cond {A = ℕ} (is_handle_to m x) 1 0 in
+    let k = many - length array.elements in
+    let both = sum_by-append f array.elements (replicate k (initial_of array.element)) in
+    let added = sum_by-replicate f k (initial_of array.element) ∙ ap (λ (b : Bool). k * cond {A = ℕ} b 1 0) (initial_none m array.element) in
+    omega (arith, both, added)
+
+handles_split : (m k : ℕ) (ws : List Word) → handles_to m (take k ws) + handles_to m (drop k ws) ≡ handles_to m ws
+handles_split m k ws =
+    let f : Word → ℕ = λ x. cond {A = ℕ} (is_handle_to m x) 1 0 in
+    sym (sum_by-append f (take k ws) (drop k ws)) ∙ ap (λ (l : List Word). handles_to m l) (take-append-drop k ws)
+
+got_last : (ws : List Word) (w : Word) → IsSome (slice_get (ws ++ w ∷ []) (length ws))
+got_last [] w = refl
+got_last (x ∷ ws) w = got_last ws w
+
+set_last : (ws : List Word) (first word : Word) → slice_set (ws ++ first ∷ []) (length ws) word ≡ ws ++ word ∷ []
+set_last [] first word = refl
+set_last (x ∷ ws) first word = ap (λ (l : List Word). x ∷ l) (set_last ws first word)
+
+-- one initial value more
+pub one_longer : (k : ℕ) (array : arrays.Array) → k ≡ length array.elements → lengthened (k + 1) array ≡ array.elements ++ initial_of array.element ∷ []
+one_longer k array is =
+    let one : (k + 1) - length array.elements ≡ 1 = omega arith in
+    ap (λ (j : ℕ). array.elements ++ replicate j (initial_of array.element)) one
+
+pub on_err : {T E : Type 0} (P : Type 0) (r : Result T E) → P → OnErr r P
+on_err P (Ok x) h = tt
+on_err P (Err e) h = h
+
+module _ {A : Type 0} where
+  change_id : (n : ℕ) (l : List (ℕ × A)) → change_at n (λ x. x) l ≡ l
+  change_id n [] = refl
+  change_id n (e ∷ l) =
+      ap (λ (x : A). (e.0, x) ∷ change_at n (λ x. x) l) (go (nat_eq n e.0)) ∙ ap (λ (t : List (ℕ × A)). e ∷ t) (change_id n l)
+    where
+      go : (b : Bool) → cond b e.1 e.1 ≡ e.1
+      go true = refl
+      go false = refl
+
+  -- a change over another is one
+  pub change_over : (n : ℕ) (f g h : A → A) → ((x : A) → f (g x) ≡ h x) → (l : List (ℕ × A)) → change_at n f (change_at n g l) ≡ change_at n h l
+  change_over n f g h same [] = refl
+  change_over n f g h same (e ∷ l) =
+      ap (λ (x : A). (e.0, x) ∷ change_at n f (change_at n g l)) (go (nat_eq n e.0)) ∙ ap (λ (t : List (ℕ × A)). (e.0, cond (nat_eq n e.0) (h e.1) e.1) ∷ t) (change_over n f g h same l)
+    where
+      go : (b : Bool) → cond b (f (cond b (g e.1) e.1)) (cond b (g e.1) e.1) ≡ cond b (h e.1) e.1
+      go true = same e.1
+      go false = refl
+
+module _ {B : Type 0} where
+  words_array : (body : Body B) (array : arrays.Array) → array_of body ≡ Some array → words_of body ≡ array.elements
+  words_array (Script script) array h = cc
+  words_array (Array own) array h = let same : own ≡ array = cc in ap (λ (y : arrays.Array). y.elements) same
+  words_array (Host box) array h = cc
+
+  words_filled : (ws : List Word) (body : Body B) (array : arrays.Array) → array_of body ≡ Some array → words_of (with_words ws body) ≡ ws
+  words_filled ws (Script script) array h = cc
+  words_filled ws (Array own) array h = refl
+  words_filled ws (Host box) array h = cc
+
+  pub words_twice : (ws others : List Word) (body : Body B) → with_words ws (with_words others body) ≡ with_words ws body
+  words_twice ws others (Script script) = refl
+  words_twice ws others (Array own) = refl
+  words_twice ws others (Host box) = refl
+
+  short_filled : (ws : List Word) → length ws ≤ 4096 → (body : Body B) → length (words_of body) ≤ 4096 → length (words_of (with_words ws body)) ≤ 4096
+  short_filled ws few (Script script) h = h
+  short_filled ws few (Array own) h = few
+  short_filled ws few (Host box) h = h
+
+  -- what is written in a slot is a change at a number
+  module _ (slot n : ℕ) (l : List (ℕ × Placed B)) (it : Item B) (s : AreStored l) (here : IsIn n slot l) (mine : IsSomeAnd (object_at n l) (λ object. object.item ≡ it)) where
+    own : (p : Placed B) → object_at n l ≡ Some p → p.item ≡ it
+    own p is = subst (λ (v : Option (Placed B)). IsSomeAnd v (λ object. object.item ≡ it)) is mine
+
+    pub refilled_at : (array : arrays.Array) (ws now : List Word) → it.body ≡ Array array → now ≡ ws → change_in slot (with_item (record { count = it.count; touched = true; body = Array (record array { elements = now }) })) l ≡ change_at n (refilled ws) l
+    refilled_at array ws now is same =
+        change_in_is slot n _ l s here
+        ∙ change_same n _ (refilled ws) l s.in_order (λ p at. each p (own p at))
+      where
+        body_is : Array (record array { elements = now }) ≡ with_words ws it.body
+        body_is = ap (λ (es : List Word). Array (record array { elements = es })) same ∙ sym (ap (λ (b : Body B). with_words ws b) is)
+
+        each : (p : Placed B) → p.item ≡ it → with_item (record { count = it.count; touched = true; body = Array (record array { elements = now }) }) p ≡ refilled ws p
+        each p at =
+            ap (λ (b : Body B). with_item (record { count = it.count; touched = true; body = b }) p) body_is
+            ∙ ap (λ (i : Item B). with_item (record { count = i.count; touched = true; body = with_words ws i.body }) p) (sym at)
+
+    pub item_same : (array : arrays.Array) (now : List Word) → it.body ≡ Array array → now ≡ array.elements → change_in slot (with_item (record { count = it.count; touched = it.touched; body = Array (record array { elements = now }) })) l ≡ l
+    item_same array now is same =
+        change_in_is slot n _ l s here
+        ∙ change_same n _ (λ p. p) l s.in_order (λ p at. each p (own p at))
+        ∙ change_id n l
+      where
+        body_is : Array (record array { elements = now }) ≡ it.body
+        body_is = ap (λ (es : List Word). Array (record array { elements = es })) same ∙ sym is
+
+        each : (p : Placed B) → p.item ≡ it → with_item (record { count = it.count; touched = it.touched; body = Array (record array { elements = now }) }) p ≡ p
+        each p at =
+            ap (λ (b : Body B). with_item (record { count = it.count; touched = it.touched; body = b }) p) body_is
+            ∙ ap (λ (i : Item B). with_item i p) (sym at)
+
+    pub array_mine : (array : arrays.Array) → it.body ≡ Array array → stored_array n l ≡ Some array
+    array_mine array is = go (object_at n l) refl
+      where
+        go : (v : Option (Placed B)) → object_at n l ≡ v → option_and_then (λ object. array_of (object.item).body) v ≡ Some array
+        go None at = absurd (subst (λ (v : Option (Placed B)). IsSomeAnd v (λ object. object.item ≡ it)) at mine)
+        go (Some p) at = ap (λ (i : Item B). array_of i.body) (own p at) ∙ ap (λ (b : Body B). array_of b) is
+
+  pub in_refilled : (n slot : ℕ) (ws : List Word) (l : List (ℕ × Placed B)) → IsIn n slot l → IsIn n slot (change_at n (refilled ws) l)
+  in_refilled n slot ws l h = subst (λ (v : Option (Placed B)). IsSomeAnd v (λ object. object.slot ≡ slot)) (sym (object_at-change n (refilled ws) n l)) (go (nat_eq n n) (object_at n l) h)
+    where
+      go : (b : Bool) (v : Option (Placed B)) → IsSomeAnd v (λ object. object.slot ≡ slot) → IsSomeAnd (cond b (option_map (refilled ws) v) v) (λ object. object.slot ≡ slot)
+      go b None h = absurd h
+      go true (Some p) h = h
+      go false (Some p) h = h
+
+  -- what a contract sees of an array is what is there
+  pub array_view : (n : ℕ) (l : List (ℕ × Placed B)) → option_and_then array_of (option_map (λ object. object.body) (object_at n (living_in l))) ≡ stored_array n l
+  array_view n l = ap (λ (v : Option (Body B)). option_and_then array_of v) (body_view n l) ∙ go (object_at n l)
+    where
+      go : (v : Option (Placed B)) → option_and_then array_of (option_map (λ object. (object.item).body) v) ≡ option_and_then (λ object. array_of (object.item).body) v
+      go None = refl
+      go (Some p) = refl
+
+  pub found_array : (n : ℕ) (l : List (ℕ × Placed B)) → IsSome (option_and_then array_of (option_map (λ object. object.body) (object_at n (living_in l)))) → (array : arrays.Array) × (stored_array n l ≡ Some array)
+  found_array n l h = some_of (stored_array n l) (subst (λ (v : Option arrays.Array). IsSome v) (array_view n l) h)
+
+  face_refilled : (n m : ℕ) (ws : List Word) (l : List (ℕ × Placed B)) → face_at m (change_at n (refilled ws) l) ≡ cond (nat_eq n m) (option_map (with_elements ws) (face_at m l)) (face_at m l)
+  face_refilled n m ws l = ap (λ (v : Option (Placed B)). option_map face v) (object_at-change n (refilled ws) m l) ∙ each (nat_eq n m) (object_at m l)
+    where
+      each : (b : Bool) (v : Option (Placed B)) → option_map face (cond b (option_map (refilled ws) v) v) ≡ cond b (option_map (with_elements ws) (option_map face v)) (option_map face v)
+      each false v = refl
+      each true None = refl
+      each true (Some p) = refl
+
+  array_face : (n : ℕ) (l : List (ℕ × Placed B)) → stored_array n l ≡ option_and_then (λ x. array_of x.body) (face_at n l)
+  array_face n l = go (object_at n l)
+    where
+      go : (v : Option (Placed B)) → option_and_then (λ object. array_of (object.item).body) v ≡ option_and_then (λ x. array_of x.body) (option_map face v)
+      go None = refl
+      go (Some p) = refl
+
+  pub array_refilled : (n : ℕ) (ws : List Word) (l : List (ℕ × Placed B)) (array : arrays.Array) → stored_array n l ≡ Some array → stored_array n (change_at n (refilled ws) l) ≡ Some (record array { elements = ws })
+  array_refilled n ws l array there =
+      ap (λ (v : Option (Placed B)). option_and_then (λ object. array_of (object.item).body) v) (object_at-change n (refilled ws) n l ∙ ap (λ (b : Bool). cond b (option_map (refilled ws) (object_at n l)) (object_at n l)) (eq-eqb n n refl))
+      ∙ go (object_at n l) there
+    where
+      body : (b : Body B) → array_of b ≡ Some array → array_of (with_words ws b) ≡ Some (record array { elements = ws })
+      body (Script script) h = cc
+      body (Array own) h = let same : own ≡ array = cc in ap (λ (a : arrays.Array). Some (record a { elements = ws })) same
+      body (Host box) h = cc
+
+      go : (v : Option (Placed B)) → option_and_then (λ object. array_of (object.item).body) v ≡ Some array → option_and_then (λ object. array_of (object.item).body) (option_map (refilled ws) v) ≡ Some (record array { elements = ws })
+      go None h = cc
+      go (Some p) h = body (p.item).body h
+
+  fields_refilled : (n m : ℕ) (ws : List Word) (l : List (ℕ × Placed B)) → IsInOrder l → (array : arrays.Array) → stored_array n l ≡ Some array → fields_in m (change_at n (refilled ws) l) + handles_to m array.elements ≡ fields_in m l + handles_to m ws
+  fields_refilled n m ws l o array there =
+      let sums = sum-change (holding m) n (refilled ws) l o in
+      let at = go (object_at n l) there in
+      let was = at.0 in
+      let now = at.1 in
+      omega (arith, sums, was, now)
+    where
+      go : (v : Option (Placed B)) → option_and_then (λ object. array_of (object.item).body) v ≡ Some array → (option_map_or (holding m) v 0 ≡ handles_to m array.elements) × (option_map_or (λ x. holding m (refilled ws x)) v 0 ≡ handles_to m ws)
+      go None h = cc
+      go (Some p) h = (
+        ap (λ (k : List Word). handles_to m k) (words_array (p.item).body array h),
+        ap (λ (k : List Word). handles_to m k) (words_filled ws (p.item).body array h),
+      )
+
+  given_released : (last : ℕ) (ws : List Word) (l : List (ℕ × Placed B)) → AreGiven last l → AreGiven last (release_all ws l)
+  given_released last [] l given = given
+  given_released last (w ∷ ws) l given = given_released last ws (change_handle once_less (handle w) l) (go (handle w))
+    where
+      go : (h : Option ℕ) → AreGiven last (change_handle once_less h l)
+      go None = given
+      go (Some k) = given-change last k once_less l given
+
+  idle_waits : (p : Placed B) → 0 < (p.item).count → ((once_less p).item).count ≡ 0 → (once_less p).waiting ≡ true
+  idle_waits p some none =
+      let one : (p.item).count ≡ 1 = omega arith in
+      ap (λ (b : Bool). cond b true p.waiting) (eq-eqb (p.item).count 1 one)
+
+  -- The elements of an array were taken out, those that go were uncounted, and others were put in.
+  module _ (n : ℕ) (array : arrays.Array) (cut ws : List Word) (split : (m : ℕ) → handles_to m ws + handles_to m cut ≡ handles_to m array.elements) (few : length ws ≤ 4096) (l : List (ℕ × Placed B)) (o : IsInOrder l) (s : AreCounted l) (there : stored_array n l ≡ Some array) where
+    abbrev pub emptied : List (ℕ × Placed B)
+    emptied = change_at n (refilled []) l
+
+    abbrev pub after_refill : List (ℕ × Placed B)
+    after_refill = change_at n (refilled ws) (release_all cut (change_at n (refilled []) l))
+
+    fields_emptied : (m : ℕ) → fields_in m emptied + handles_to m array.elements ≡ fields_in m l
+    fields_emptied m =
+        let all = fields_refilled n m [] l o array there in
+        let none : handles_to m [] ≡ 0 = refl in
+        omega (arith, all, none)
+
+    counted_emptied : (m : ℕ) → counted m emptied ≡ counted m l
+    counted_emptied m = counted_same n (refilled []) (λ p. refl) m l
+
+    pub covers_cut : (m : ℕ) → handles_to m cut ≤ counted m emptied
+    covers_cut m = omega (arith, split m, fields_emptied m, s.covered m, counted_emptied m)
+
+    pub array_released : stored_array n (release_all cut emptied) ≡ Some (record array { elements = [] })
+    array_released =
+        array_face n (release_all cut emptied)
+        ∙ ap (λ (v : Option (Living B)). option_and_then (λ x. array_of x.body) v) (released_face cut n emptied)
+        ∙ sym (array_face n emptied)
+        ∙ array_refilled n [] l array there
+
+    pub in_released : (slot : ℕ) → IsIn n slot l → IsIn n slot (release_all cut emptied)
+    in_released slot h = in_face n slot (release_all cut emptied) emptied (released_face cut n emptied) (in_refilled n slot [] l h)
+
+    order_released : IsInOrder (release_all cut emptied)
+    order_released = released_order cut emptied (in_order-change n (refilled []) l o)
+
+    count_after : (m : ℕ) → counted m after_refill + handles_to m cut ≡ counted m l
+    count_after m =
+        let same = counted_same n (refilled ws) (λ p. refl) m (release_all cut emptied) in
+        omega (arith, same, released_counted cut m emptied covers_cut, counted_emptied m)
+
+    fields_after : (m : ℕ) → fields_in m after_refill + handles_to m cut ≡ fields_in m l
+    fields_after m =
+        let put = fields_refilled n m ws (release_all cut emptied) order_released (record array { elements = [] }) array_released in
+        let none : handles_to m [] ≡ 0 = refl in
+        omega (arith, put, none, released_fields cut m emptied, fields_emptied m, split m)
+
+    order_after : IsInOrder after_refill
+    order_after = in_order-change n (refilled ws) (release_all cut emptied) order_released
+
+    length_after : length after_refill ≡ length l
+    length_after = length-change n (refilled ws) (release_all cut emptied) ∙ released_length cut emptied ∙ length-change n (refilled []) l
+
+    -- what a contract sees of the store after it
+    pub view_refill : living_in after_refill ≡ change_at n (with_elements ws) (living_in l)
+    view_refill =
+        view_face l after_refill n (with_elements ws) (λ k x. refl) o order_after
+        (λ m.
+        face_refilled n m ws (release_all cut emptied)
+        ∙ ap (λ (v : Option (Living B)). cond (nat_eq n m) (option_map (with_elements ws) v) v) (released_face cut m emptied ∙ face_refilled n m [] l)
+        ∙ twice (nat_eq n m) (face_at m l))
+        (λ m. omega (arith, count_after m, fields_after m, s.covered m))
+      where
+        twice : (b : Bool) (v : Option (Living B)) → cond b (option_map (with_elements ws) (cond b (option_map (with_elements []) v) v)) (cond b (option_map (with_elements []) v) v) ≡ cond b (option_map (with_elements ws) v) v
+        twice false v = refl
+        twice true None = refl
+        twice true (Some x) = ap (λ (b : Body B). Some (record { slot = x.slot; holds = x.holds; touched = true; body = b })) (words_twice ws [] x.body)
+
+    waiting_after : (m : ℕ) → IfSome (object_at m after_refill) (λ p. (p.item).count ≡ 0 → p.waiting ≡ true)
+    waiting_after =
+        each-change (λ p. (p.item).count ≡ 0 → p.waiting ≡ true) n (refilled ws) (release_all cut emptied) (λ p is was. was)
+        (released_each (λ p. (p.item).count ≡ 0 → p.waiting ≡ true) cut emptied covers_cut (λ p some was. idle_waits p some)
+        (each-change (λ p. (p.item).count ≡ 0 → p.waiting ≡ true) n (refilled []) l (λ p is was. was) s.waiting))
+
+    short_after : (m : ℕ) → IfSome (object_at m after_refill) (λ p. length (words_of (p.item).body) ≤ 4096)
+    short_after =
+        each-change (λ p. length (words_of (p.item).body) ≤ 4096) n (refilled ws) (release_all cut emptied) (λ p is was. short_filled ws few (p.item).body was)
+        (released_each (λ p. length (words_of (p.item).body) ≤ 4096) cut emptied covers_cut (λ p some was. was)
+        (each-change (λ p. length (words_of (p.item).body) ≤ 4096) n (refilled []) l (λ p is was. short_filled [] (omega arith) (p.item).body was) s.short))
+
+    -- and it is a table still
+    pub table_refill : (last settled : ℕ) → IsTable l last settled → IsTable after_refill last settled
+    table_refill last settled t = record {
+      in_order = order_after;
+      counted = record {
+        covered = λ m. omega (arith, count_after m, fields_after m, s.covered m);
+        bounded = λ m. omega (arith, count_after m, fields_after m, s.bounded m);
+        waiting = waiting_after;
+        short = short_after;
+        few = omega (arith, length_after, s.few);
+      };
+      given = given-change last n (refilled ws) (release_all cut emptied) (given_released last cut emptied (given-change last n (refilled []) l t.given));
+      cleared = t.cleared;
+    }
+
+  -- an array is no longer than it may be
+  pub array_short : (n : ℕ) (l : List (ℕ × Placed B)) → AreCounted l → (array : arrays.Array) → stored_array n l ≡ Some array → length array.elements ≤ 4096
+  array_short n l s array there = go (object_at n l) (s.short n) there
+    where
+      go : (v : Option (Placed B)) → IfSome v (λ object. length (words_of (object.item).body) ≤ 4096) → option_and_then (λ object. array_of (object.item).body) v ≡ Some array → length array.elements ≤ 4096
+      go None short h = cc
+      go (Some p) short h = let same = ap length (words_array (p.item).body array h) in omega (arith, same, short)
+
+  module _ (n len : ℕ) (array : arrays.Array) (l : List (ℕ × Placed B)) (last settled : ℕ) (t : IsTable l last settled) (there : stored_array n l ≡ Some array) where
+    short_cut : length (take len array.elements) ≤ 4096
+    short_cut = omega (arith, take_short len array.elements, array_short n l t.counted array there)
+
+    -- elements were cut off
+    pub covers_shorter : (m : ℕ) → handles_to m (drop len array.elements) ≤ counted m (change_at n (refilled []) l)
+    covers_shorter = covers_cut n array (drop len array.elements) (take len array.elements) (λ m. handles_split m len array.elements) short_cut l t.in_order t.counted there
+
+    pub array_shorter : IsSome (stored_array n (release_all (drop len array.elements) (change_at n (refilled []) l)))
+    array_shorter = subst (λ (v : Option arrays.Array). IsSome v) (sym (array_released n array (drop len array.elements) (take len array.elements) (λ m. handles_split m len array.elements) short_cut l t.in_order t.counted there)) refl
+
+    pub in_shorter : (slot : ℕ) → IsIn n slot l → IsIn n slot (release_all (drop len array.elements) (change_at n (refilled []) l))
+    in_shorter = in_released n array (drop len array.elements) (take len array.elements) (λ m. handles_split m len array.elements) short_cut l t.in_order t.counted there
+
+    pub view_shorter : living_in (change_at n (refilled (take len array.elements)) (release_all (drop len array.elements) (change_at n (refilled []) l))) ≡ change_at n (with_elements (take len array.elements)) (living_in l)
+    view_shorter = view_refill n array (drop len array.elements) (take len array.elements) (λ m. handles_split m len array.elements) short_cut l t.in_order t.counted there
+
+    pub table_shorter : IsTable (change_at n (refilled (take len array.elements)) (release_all (drop len array.elements) (change_at n (refilled []) l))) last settled
+    table_shorter = table_refill n array (drop len array.elements) (take len array.elements) (λ m. handles_split m len array.elements) short_cut l t.in_order t.counted there last settled t
+
+    -- initial values were added
+    module _ (few : len ≤ 4096) where
+      short_longer : length (lengthened len array) ≤ 4096
+      short_longer =
+          let k = len - length array.elements in
+          let both = length-append array.elements (replicate k (initial_of array.element)) in
+          omega (arith, both, length-replicate k (initial_of array.element), array_short n l t.counted array there, few)
+
+      split_longer : (m : ℕ) → handles_to m (lengthened len array) + handles_to m [] ≡ handles_to m array.elements
+      split_longer m =
+          let none : handles_to m [] ≡ 0 = refl in
+          omega (arith, handles_longer m len array, none)
+
+      at_once : change_at n (refilled (lengthened len array)) (change_at n (refilled []) l) ≡ change_at n (refilled (lengthened len array)) l
+      at_once = change_over n (refilled (lengthened len array)) (refilled []) (refilled (lengthened len array)) (λ p. ap (λ (b : Body B). with_item (record { count = (p.item).count; touched = true; body = b }) p) (words_twice (lengthened len array) [] (p.item).body)) l
+
+      pub view_longer : living_in (change_at n (refilled (lengthened len array)) l) ≡ change_at n (with_elements (lengthened len array)) (living_in l)
+      view_longer = ap living_in (sym at_once) ∙ view_refill n array [] (lengthened len array) split_longer short_longer l t.in_order t.counted there
+
+      pub table_longer : IsTable (change_at n (refilled (lengthened len array)) l) last settled
+      table_longer = subst (λ (k : List (ℕ × Placed B)). IsTable k last settled) at_once (table_refill n array [] (lengthened len array) split_longer short_longer l t.in_order t.counted there last settled t)
+
+  -- an element was appended, and then written
+  module _ (n : ℕ) (t : Table B) (o : IsInOrder t.objects) (array : arrays.Array) (there : array_at n t ≡ Some array) (word first : Word) where
+    abbrev pub with_first : Table B
+    with_first = with_object n (with_elements (array.elements ++ first ∷ [])) t
+
+    it_is : (x : Living B) → object_at n t.objects ≡ Some x → array_of x.body ≡ Some array
+    it_is x is = sym (ap (λ (v : Option (Living B)). option_and_then array_of (option_map (λ object. object.body) v)) is) ∙ there
+
+    at_first : object_at n with_first.objects ≡ option_map (with_elements (array.elements ++ first ∷ [])) (object_at n t.objects)
+    at_first = object_at-change n (with_elements (array.elements ++ first ∷ [])) n t.objects ∙ ap (λ (b : Bool). cond b (option_map (with_elements (array.elements ++ first ∷ [])) (object_at n t.objects)) (object_at n t.objects)) (eq-eqb n n refl)
+
+    pub field_there : IsSome (field_of n (length array.elements) with_first)
+    field_there = subst (λ (v : Option (Living B)). IsSome (option_and_then (λ object. slice_get (words_of object.body) (length array.elements)) v)) (sym at_first) (go (object_at n t.objects) refl)
+      where
+        go : (v : Option (Living B)) → object_at n t.objects ≡ v → IsSome (option_and_then (λ object. slice_get (words_of object.body) (length array.elements)) (option_map (with_elements (array.elements ++ first ∷ [])) v))
+        go None is = let none = sym (ap (λ (v : Option (Living B)). option_and_then array_of (option_map (λ object. object.body) v)) is) ∙ there in absurd (cc)
+        go (Some x) is = subst (λ (ws : List Word). IsSome (slice_get ws (length array.elements))) (sym (words_filled (array.elements ++ first ∷ []) x.body array (it_is x is))) (got_last array.elements first)
+
+    pub slot_there : slot_of n with_first ≡ slot_of n t
+    slot_there = ap (λ (v : Option (Living B)). option_map (λ object. object.slot) v) at_first ∙ go (object_at n t.objects)
+      where
+        go : (v : Option (Living B)) → option_map (λ object. object.slot) (option_map (with_elements (array.elements ++ first ∷ [])) v) ≡ option_map (λ object. object.slot) v
+        go None = refl
+        go (Some x) = refl
+
+    pub alive_there : (h : Option ℕ) → IfSome h (Lives t.objects) → IfSome h (Lives with_first.objects)
+    alive_there None h = tt
+    alive_there (Some m) h = subst (λ (v : Option (Living B)). IsSome v) (sym (object_at-change n (with_elements (array.elements ++ first ∷ [])) m t.objects)) (go (nat_eq n m) (object_at m t.objects) h)
+      where
+        go : (b : Bool) (v : Option (Living B)) → IsSome v → IsSome (cond b (option_map (with_elements (array.elements ++ first ∷ [])) v) v)
+        go true None h = h
+        go true (Some x) h = refl
+        go false v h = h
+
+    pub written_there : with_object n (with_field (length array.elements) word) with_first ≡ with_object n (with_elements (array.elements ++ word ∷ [])) t
+    written_there =
+        ap (λ (l : List (ℕ × Living B)). record t { objects = l })
+        (change_over n (with_field (length array.elements) word) (with_elements (array.elements ++ first ∷ [])) (λ x. with_field (length array.elements) word (with_elements (array.elements ++ first ∷ []) x)) (λ x. refl) t.objects
+        ∙ change_same n (λ x. with_field (length array.elements) word (with_elements (array.elements ++ first ∷ []) x)) (with_elements (array.elements ++ word ∷ [])) t.objects o (λ x is. ap (λ (b : Body B). record { slot = x.slot; holds = x.holds; touched = true; body = b }) (body x.body (it_is x is))))
+      where
+        body : (b : Body B) → array_of b ≡ Some array → with_word (length array.elements) word (with_words (array.elements ++ first ∷ []) b) ≡ with_words (array.elements ++ word ∷ []) b
+        body (Script script) h = cc
+        body (Array own) h = ap (λ (ws : List Word). Array (record own { elements = ws })) (set_last array.elements first word)
+        body (Host box) h = cc
+
+  pub elements_array : (n : ℕ) (t : Table B) (array : arrays.Array) → array_at n t ≡ Some array → elements_at n t ≡ Some array.elements
+  elements_array n t array there = go (body_of n t) there
+    where
+      go : (v : Option (Body B)) → option_and_then array_of v ≡ Some array → option_and_then elements_of v ≡ Some array.elements
+      go None h = cc
+      go (Some (Script script)) h = cc
+      go (Some (Array own)) h = let same : own ≡ array = cc in ap (λ (a : arrays.Array). Some a.elements) same
+      go (Some (Host box)) h = cc
+
+  pub order_view : (l : List (ℕ × Placed B)) → IsInOrder l → IsInOrder (living_in l)
+  order_view l o = rw (numbers-living l l) o
