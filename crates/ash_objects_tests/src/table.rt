@@ -2,11 +2,12 @@
 ghost use Rattle.std.specs.Prelude.{◌≡◌, ◌≤◌, IsTrue, IsSome};
 ghost use Rattle.ash_host.specs.Objects.{Lives};
 ghost use Rattle.ash_objects.specs.Table.{IsAlive, field_of};
+ghost use Rattle.ash_objects.specs.Arrays.{array_at};
 ghost use Rattle.ash_objects.specs.Responses.{box_at};
 
 use crate::reporter::{Log, Reporter};
 use ash_host::{Counter, Event, HostAnswer, Word};
-use ash_objects::{MakeFault, Objects, Words};
+use ash_objects::{Body, MakeFault, Objects, Words};
 use std::alloc::Global;
 use std::cell::RefCell;
 use std::rc::Rc;
@@ -32,7 +33,7 @@ fn lives(objects: &Table, number: u64) -> bool
     objects.slot(number).is_some()
 }
 
-fn is_alive(objects: &Table, word: Word) -> bool
+pub fn is_alive(objects: &Table, word: Word) -> bool
     ensures { IsTrue result → IsAlive word objects.now }
 {
     match word {
@@ -56,6 +57,21 @@ fn is_host(objects: &Table, number: u64) -> bool
     match objects.body(number) {
         Some(body) => body.is_host(),
         None => false,
+    }
+}
+
+/// Whether it is an array that lives.
+pub fn is_array(objects: &Table, number: u64) -> bool
+    ensures { IsTrue result → IsSome (array_at number objects.now) }
+{
+    matches!(objects.body(number), Some(Body::Array(_)))
+}
+
+/// How many words an object holds.
+pub fn words_in(objects: &Table, number: u64) -> usize {
+    match objects.body(number) {
+        Some(body) => body.words().len(),
+        None => 0,
     }
 }
 
