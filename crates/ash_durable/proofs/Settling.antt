@@ -62,8 +62,7 @@ module _ {D : Type 0} (device : Device D) where
         let t' = min t (device.clock b') in
         let was = one.moments s' t' later.0 later.1 (omega arith) (omega arith) later.2.first_left later.2.second_left in
         let s_is : min s' (device.clock a) ≡ min s (device.clock a) = omega (arith, one.first_later) in
-        let t_is : min t' (device.clock b) ≡ min t (device.clock b) = omega (arith, one.second_later) in
-        (
+        let t_is : min t' (device.clock b) ≡ min t (device.clock b) = omega (arith, one.second_later) in (
           was.0,
           was.1,
           record {
