@@ -1,8 +1,6 @@
 //! The run over slices and vectors, and over readers and writers that fail.
 
-use crate::hosts::{
-    Row, check, check_rows, check_text, closed, ending, new_host, opened, replies,
-};
+use crate::hosts::{Row, check, check_rows, check_text, closed, ending, new_host, opened, replies};
 use ash_disk::{MemoryDisk, Survives};
 use ash_durable::StoreFault;
 use ash_registry::Registry;
@@ -262,7 +260,12 @@ fn an_answer_of_which_a_byte_was_written_is_found(rt: HostRuntime) -> Result<(),
         for survives in [Survives::Nothing, Survives::Everything] {
             let (found, written) = found_and_written(rt.alloc(), left, survives)?;
             let is_found = found >= written && found <= written.wrapping_add(1);
-            check(&rt, &(left, is_found), &(left, true), "the answers that are found");
+            check(
+                &rt,
+                &(left, is_found),
+                &(left, true),
+                "the answers that are found",
+            );
         }
     }
     Ok(())
