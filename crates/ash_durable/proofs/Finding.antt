@@ -18,7 +18,7 @@ use Rattle.ash_registry.specs.Calls.{Call}
 use Rattle.ash_durable.specs.Contents.{behind_image, ReadsAs}
 use Rattle.ash_durable.specs.Faults.{opening_fault}
 use Rattle.ash_durable.specs.States.{AreHonest}
-use Rattle.ash_durable.specs.Store.{IsFailed, HandsBack, WereOnlyRead, StoreFaultIs, WasFound, WasNotFound, Finds, contents_of, AreInPlace, HoldsRead, WasSettled, WasNotSettled, Settled}
+use Rattle.ash_durable.specs.Store.{IsFailed, HandsBack, WereOnlyRead, StoreFaultIs, WasFound, WasNotFound, Finds, contents_of, AreInPlace, HoldsRead, OnlySettled, WasSettled, WasNotSettled, Settled}
 use Rattle.ash_durable.specs.declared.fault.OpenRefused.{OpenRefused}
 use Rattle.ash_durable.specs.declared.fault.StoreFault.{StoreFault}
 use Rattle.ash_durable.specs.declared.fault.StoreFault.TheVariants as faults
@@ -130,6 +130,7 @@ module _ {D : Type 0} (device : Device D) where
         extends = λ holds.
             subst (λ (x : D). Extends device a b x refused.b Nothing) (sym a_is)
             (subst (λ (y : D). Extends device a b a y Nothing) (sym b_is) (same_extends device a b Nothing));
+        only = λ failed. absurd (not (sym fault_is ∙ failed_is refused.fault failed));
         disks =
             subst (λ (x : D). HandsBack device (IsFailed refused.fault) a b x refused.b) (sym a_is)
             (subst (λ (y : D). HandsBack device (IsFailed refused.fault) a b a y) (sym b_is)
@@ -141,11 +142,12 @@ module _ {D : Type 0} (device : Device D) where
       }
 
   -- as a state, and the gates are written over
-  pub settled_on : (registered : List Call) (opened : Opened D) (state : State) (journal : Journal D) (failed : Type 0) → (failed → ⊥) → state.registered ≡ registered → (AreInPlace opened → ReadsAs registered (contents_of opened) (Ok state)) → ((HasFailed opened.journal → ⊥) → IsReady journal) → (HoldsRead device opened → Holds device journal opened.image.items (bodies_of opened.records.items)) → (HoldsRead device opened → Extends device (first_disk opened.journal) (second_disk opened.journal) (first_disk journal) (second_disk journal) Nothing) → CountsFailures failed (device.failures (first_disk opened.journal)) (device.failures (second_disk opened.journal)) (device.failures (first_disk journal)) (device.failures (second_disk journal)) → device.honest (first_disk journal) ≡ device.honest (first_disk opened.journal) → device.honest (second_disk journal) ≡ device.honest (second_disk opened.journal) → WasSettled device registered opened state journal
-  settled_on registered opened state journal failed not with_it reads ready holds extends counts honesty_first honesty_second = record {
+  pub settled_on : (registered : List Call) (opened : Opened D) (state : State) (journal : Journal D) (failed : Type 0) → (failed → ⊥) → state.registered ≡ registered → (AreInPlace opened → ReadsAs registered (contents_of opened) (Ok state)) → ((HasFailed opened.journal → ⊥) → IsReady journal) → OnlySettled opened.journal journal → (HoldsRead device opened → Holds device journal opened.image.items (bodies_of opened.records.items)) → (HoldsRead device opened → Extends device (first_disk opened.journal) (second_disk opened.journal) (first_disk journal) (second_disk journal) Nothing) → CountsFailures failed (device.failures (first_disk opened.journal)) (device.failures (second_disk opened.journal)) (device.failures (first_disk journal)) (device.failures (second_disk journal)) → device.honest (first_disk journal) ≡ device.honest (first_disk opened.journal) → device.honest (second_disk journal) ≡ device.honest (second_disk opened.journal) → WasSettled device registered opened state journal
+  settled_on registered opened state journal failed not with_it reads ready only holds extends counts honesty_first honesty_second = record {
     registered_is = with_it;
     reads = λ placed. (reads placed).1;
     ready = ready;
+    only = only;
     holds = holds;
     extends = extends;
     disks = record {
@@ -156,8 +158,8 @@ module _ {D : Type 0} (device : Device D) where
   }
 
   -- as a state, and a device failed then
-  pub not_settled : (registered : List Call) (opened : Opened D) (journal : Journal D) (refused : OpenRefused D) (failed : Type 0) → failed → refused.fault ≡ faults.DeviceFailed → refused.a ≡ first_disk journal → refused.b ≡ second_disk journal → (HoldsRead device opened → Extends device (first_disk opened.journal) (second_disk opened.journal) (first_disk journal) (second_disk journal) Nothing) → CountsFailures failed (device.failures (first_disk opened.journal)) (device.failures (second_disk opened.journal)) (device.failures (first_disk journal)) (device.failures (second_disk journal)) → device.honest (first_disk journal) ≡ device.honest (first_disk opened.journal) → device.honest (second_disk journal) ≡ device.honest (second_disk opened.journal) → WasNotSettled device registered opened refused
-  not_settled registered opened journal refused failed has fault_is a_is b_is extends counts honesty_first honesty_second =
+  pub not_settled : (registered : List Call) (opened : Opened D) (journal : Journal D) (refused : OpenRefused D) (failed : Type 0) → failed → refused.fault ≡ faults.DeviceFailed → refused.a ≡ first_disk journal → refused.b ≡ second_disk journal → OnlySettled opened.journal journal → (HoldsRead device opened → Extends device (first_disk opened.journal) (second_disk opened.journal) (first_disk journal) (second_disk journal) Nothing) → CountsFailures failed (device.failures (first_disk opened.journal)) (device.failures (second_disk opened.journal)) (device.failures (first_disk journal)) (device.failures (second_disk journal)) → device.honest (first_disk journal) ≡ device.honest (first_disk opened.journal) → device.honest (second_disk journal) ≡ device.honest (second_disk opened.journal) → WasNotSettled device registered opened refused
+  not_settled registered opened journal refused failed has fault_is a_is b_is only extends counts honesty_first honesty_second =
       let a = first_disk opened.journal in
       let b = second_disk opened.journal in
       let is_failed : IsFailed refused.fault = subst IsFailed (sym fault_is) tt in
@@ -167,6 +169,7 @@ module _ {D : Type 0} (device : Device D) where
         extends = λ holds.
             subst (λ (x : D). Extends device a b x refused.b Nothing) (sym a_is)
             (subst (λ (y : D). Extends device a b (first_disk journal) y Nothing) (sym b_is) (extends holds));
+        only = λ failed. (journal, only, a_is, b_is);
         disks =
             subst (λ (x : D). HandsBack device (IsFailed refused.fault) a b x refused.b) (sym a_is)
             (subst (λ (y : D). HandsBack device (IsFailed refused.fault) a b (first_disk journal) y) (sym b_is)
@@ -209,6 +212,12 @@ module _ {D : Type 0} (device : Device D) where
       tells = settled.reads (is.placed honest);
     };
     moments = λ honest. extends_on device a b (first_disk opened.journal) (second_disk opened.journal) (first_disk journal) (second_disk journal) (is.extends honest) (settled.extends (is.holds honest));
+    repaired = record {
+      was = opened.journal;
+      read = is.read;
+      finds = λ honest. (contents_of opened, is.holds honest);
+      only = settled.only;
+    };
     disks = handed_on ⊥ a b (first_disk opened.journal) (second_disk opened.journal) (first_disk journal) (second_disk journal) (opened_back a b opened is) settled.disks;
   }
 
@@ -222,6 +231,9 @@ module _ {D : Type 0} (device : Device D) where
           read_second = subst (λ (d : D). IsOnlyRead device b d) (sym same.1) is.read.read_second;
         };
     moments = λ honest. extends_on device a b (first_disk opened.journal) (second_disk opened.journal) refused.a refused.b (is.extends honest) (settled.extends (is.holds honest));
+    repaired = λ failed.
+        let on = settled.only failed in
+        inr (on.0, record { was = opened.journal; read = is.read; finds = λ honest. (contents_of opened, is.holds honest); only = on.1 }, on.2, on.3);
     disks = handed_on (IsFailed refused.fault) a b (first_disk opened.journal) (second_disk opened.journal) refused.a refused.b (opened_back a b opened is) settled.disks;
   }
 
@@ -238,6 +250,7 @@ module _ {D : Type 0} (device : Device D) where
         cause = λ honest. opening_cause registered fault (device.seen a) (device.seen b) (cause honest);
         read = λ not. record { read_first = read_first; read_second = read_second };
         moments = extends;
+        repaired = λ failed. inl (record { read_first = read_first; read_second = read_second });
         disks = record {
           failures = opening_counts fault (device.failures a) (device.failures b) (device.failures a') (device.failures b') counts;
           honesty_first = read_first.honesty;

@@ -9,7 +9,7 @@ use Rattle.ash_journal.specs.declared.error.CreateFault.TheVariants as creating
 use Rattle.ash_journal.specs.declared.journal.Journal.{Journal}
 use Rattle.ash_journal.specs.Current.{Is}
 use Rattle.ash_journal.specs.Failures.{CountsFailures}
-use Rattle.ash_journal.specs.Journal.{first_disk, second_disk, generation, record_bytes, IsReady, Holds}
+use Rattle.ash_journal.specs.Journal.{current_disk, first_disk, second_disk, generation, record_bytes, IsReady, Holds}
 use Rattle.ash_journal.specs.Layout.{IsClosed, IsShut}
 use Rattle.ash_journal.specs.Opening.{CreateFaultIs, IsCreatedOrClosed}
 use Rattle.ash_journal.specs.Writes.{AreIdle, HasRested}
@@ -100,9 +100,10 @@ module _ {D : Type 0} (device : Device D) where
           | inr settle ↦ inr (settle_more (Is (image, [])) (TellsOne (IsOne state)) (λ contents same. (state, refl, subst (Tells state) (sym same) (tells_alone state image depicts))) x y settle)
         ]
 
-    pub made : (journal : Journal D) → IsReady journal → generation journal ≡ 1 → record_bytes journal ≡ 0 → (IsTrue (device.honest one) → IsTrue (device.honest two) → Holds device journal image []) → ((p q : ℕ) → IsTrue (device.honest one) → IsTrue (device.honest two) → HasRested device p one → HasRested device q two → EveryMomentSince device p q (first_disk journal) (second_disk journal) (IsCreatedOrClosed image)) → HandsBack device ⊥ one two (first_disk journal) (second_disk journal) → WasMade device state a b journal
-    made journal ready number emptied holds moments disks = record {
+    pub made : (journal : Journal D) → IsReady journal → current_disk journal ≡ first_disk journal → generation journal ≡ 1 → record_bytes journal ≡ 0 → (IsTrue (device.honest one) → IsTrue (device.honest two) → Holds device journal image []) → ((p q : ℕ) → IsTrue (device.honest one) → IsTrue (device.honest two) → HasRested device p one → HasRested device q two → EveryMomentSince device p q (first_disk journal) (second_disk journal) (IsCreatedOrClosed image)) → HandsBack device ⊥ one two (first_disk journal) (second_disk journal) → WasMade device state a b journal
+    made journal ready in_first number emptied holds moments disks = record {
       ready = ready;
+      in_first = in_first;
       number = number;
       emptied = emptied;
       closed = closed;

@@ -6,7 +6,7 @@ use Rattle.ash_journal.specs.declared.journal.Journal.{Journal}
 use Rattle.ash_journal.specs.declared.journal.Opened.{Opened}
 use Rattle.ash_journal.specs.Current.{Contents, Represent, SettleOn}
 use Rattle.ash_journal.specs.Failures.{CountsFailures}
-use Rattle.ash_journal.specs.Journal.{first_disk, second_disk, generation, record_bytes, HasFailed, IsReady, Holds, Finds as FindsIn}
+use Rattle.ash_journal.specs.Journal.{first_disk, second_disk, current_disk, generation, record_bytes, HasFailed, IsReady, Holds, KeepsUnowed, Finds as FindsIn}
 use Rattle.ash_journal.specs.Layout.{IsClosed}
 use Rattle.ash_journal.specs.Opening.{IsUnsound, IsCutCurrent, HasCurrent}
 use Rattle.ash_journal.specs.Reading.{AreAt, bodies_of}
@@ -63,9 +63,10 @@ MakesOrNot device state a b a' b' =
     (p q : ℕ) → AreHonest device a b → HasRested device p a → HasRested device q b
     → EveryMomentSince device p q a' b' (IsClosedOrTells state)
 
--- A store was made on two disks whose files were closed.
+-- A store was made on two disks whose files were closed: its first generation is on the first of them.
 pub record WasMade {D : Type 0} (device : Device D) (state : State) (a b : D) (journal : Journal D) : Type 0 where
   pub ready : IsReady journal
+  pub in_first : current_disk journal ≡ first_disk journal
   pub number : generation journal ≡ 1
   pub emptied : record_bytes journal ≡ 0
   pub closed : AreHonest device a b → AreClosed device a b
@@ -146,6 +147,24 @@ pub record HoldsAsRead {D : Type 0} (device : Device D) (a b : D) (state : State
   pub holds : Holds device journal contents.0 contents.1
   pub tells : Tells state contents
 
+-- A journal was settled, or was begun to be: of its disks, one on which no gate was to be written over is as it was, and
+-- the generation keeps its number and the size of its records.
+pub record OnlySettled {D : Type 0} (was journal : Journal D) : Type 0 where
+  pub only_owed : KeepsUnowed was journal
+  pub number_same : generation journal ≡ generation was
+  pub size_same : record_bytes journal ≡ record_bytes was
+
+-- Two disks were read, and the journal that was found on them was settled, or was begun to be: no generation was made.
+pub record WasRepaired {D : Type 0} (device : Device D) (a b : D) (journal : Journal D) : Type 0 where
+  pub was : Journal D
+  pub read : WereOnlyRead device a b (first_disk was) (second_disk was)
+  pub finds : AreHonest device a b → (contents : Contents) × FindsIn device was contents.0 contents.1
+  pub only : OnlySettled was journal
+
+-- two disks are those of a journal that was found on them and was begun to be settled
+abbrev pub AreOfRepaired : {D : Type 0} → Device D → D → D → D → D → Type 0
+AreOfRepaired {D} device a b a' b' = (journal : Journal D) × WasRepaired device a b journal × (a' ≡ first_disk journal) × (b' ≡ second_disk journal)
+
 -- A state was found: the files, as they read, are those of it, and the journal holds these very files and no other state.
 pub record WasFound {D : Type 0} (device : Device D) (registered : List Registration) (a b : D) (state : State) (journal : Journal D) : Type 0 where
   pub registered_is : state.registered ≡ registered
@@ -154,6 +173,8 @@ pub record WasFound {D : Type 0} (device : Device D) (registered : List Registra
   pub holds : AreHonest device a b → HoldsAsRead device a b state journal
   -- nor does a crash on the way leave any other
   pub moments : AddNothing device a b (first_disk journal) (second_disk journal)
+  -- the generation is the one that was read, and a disk on which no gate was to be written over is as it was read
+  pub repaired : WasRepaired device a b journal
   pub disks : HandsBack device ⊥ a b (first_disk journal) (second_disk journal)
 
 -- No state was found, or a device failed once it was.
@@ -161,6 +182,7 @@ pub record WasNotFound {D : Type 0} (device : Device D) (registered : List Regis
   pub cause : AreHonest device a b → StoreFaultIs registered refused.fault (device.seen a) (device.seen b)
   pub read : (IsFailed refused.fault → ⊥) → WereOnlyRead device a b refused.a refused.b
   pub moments : AddNothing device a b refused.a refused.b
+  pub repaired : IsFailed refused.fault → WereOnlyRead device a b refused.a refused.b ⊎ AreOfRepaired device a b refused.a refused.b
   pub disks : HandsBack device (IsFailed refused.fault) a b refused.a refused.b
 
 -- The state of a store is found on two disks, or both are handed back.
@@ -185,6 +207,7 @@ pub record WasSettled {D : Type 0} (device : Device D) (registered : List Regist
   pub registered_is : state.registered ≡ registered
   pub reads : AreInPlace opened → Tells state (contents_of opened)
   pub ready : (HasFailed opened.journal → ⊥) → IsReady journal
+  pub only : OnlySettled opened.journal journal
   pub holds : HoldsRead device opened → Holds device journal opened.image.items (bodies_of opened.records.items)
   pub extends : HoldsRead device opened → Extends device (first_disk opened.journal) (second_disk opened.journal) (first_disk journal) (second_disk journal) Nothing
   pub disks : HandsBack device ⊥ (first_disk opened.journal) (second_disk opened.journal) (first_disk journal) (second_disk journal)
@@ -194,6 +217,7 @@ pub record WasNotSettled {D : Type 0} (device : Device D) (registered : List Reg
   pub cause : AreInPlace opened → IsFailed refused.fault ⊎ ReadsAs registered (contents_of opened) (Err refused.fault)
   pub read : (IsFailed refused.fault → ⊥) → (refused.a ≡ first_disk opened.journal) × (refused.b ≡ second_disk opened.journal)
   pub extends : HoldsRead device opened → Extends device (first_disk opened.journal) (second_disk opened.journal) refused.a refused.b Nothing
+  pub only : IsFailed refused.fault → (journal : Journal D) × OnlySettled opened.journal journal × (refused.a ≡ first_disk journal) × (refused.b ≡ second_disk journal)
   pub disks : HandsBack device (IsFailed refused.fault) (first_disk opened.journal) (second_disk opened.journal) refused.a refused.b
 
 -- A journal that was opened holds a state, or its disks are handed back.

@@ -14,7 +14,7 @@ returns-in-Ok-create g c =
     let e = c.in-Ok-create.ensures in
     let depicts = subst (λ (image : List ℕ). IsImageOf image c.args.state.now) (sym c.deref.ensures.value) looked.looks.0 in
     made g.D.Disk c.args.state.now c.deref.result.now depicts c.args.a c.args.b c.first_image.new.a c.first_image.new.b looked.read looked.disks looked.looks.2
-    c.in-Ok-create.journal e.ready e.number e.emptied e.created e.moments
+    c.in-Ok-create.journal e.ready e.in_first e.number e.emptied e.created e.moments
     (record { failures = e.cause; honesty_first = e.honesty_first; honesty_second = e.honesty_second })
 
 pub returns : goal.returns
