@@ -1,7 +1,7 @@
 -- Serving from two disks: a host is opened or made on them, and runs.
 use Rattle.std.specs.Prelude.{◌≡◌, ℕ, List, Option, Result, Ok, Err}
 use Rattle.ash_disk.specs.Device.{Device}
-use Rattle.ash_durable.specs.Hosting.{Hosted, IsSaved, Carries}
+use Rattle.ash_durable.specs.Hosting.{Hosted, first, second, IsSaved, Carries}
 use Rattle.ash_durable.specs.Lives.{LivesOn}
 use Rattle.ash_durable.specs.declared.fault.OpenRefused.{OpenRefused}
 use Rattle.ash_lines.specs.Lines.{Line}
@@ -13,20 +13,25 @@ use Rattle.ash_serve.specs.declared.program.fault.Fault.{Fault}
 use Rattle.ash_serve.specs.declared.program.fault.Fault.TheVariants.{Store, Run}
 
 -- A host ran, and if its files held its state, they do so afterwards. Every life of its store goes on with what was
--- answered.
-pub record Ran {D : Type 0} (device : Device D) (host : Hosted D) (input : Option (List ℕ)) (budget : ℕ) (before : Option (List ℕ)) (result : Result (Unit {0}) RunFault) (after : Option (List ℕ)) : Type 0 where
+-- answered. Then it was closed: its disks are handed back as the run left them.
+pub record Ran {D : Type 0} (device : Device D) (host : Hosted D) (input : Option (List ℕ)) (budget : ℕ) (before : Option (List ℕ)) (result : Result (Unit {0}) RunFault) (a b : D) (after : Option (List ℕ)) : Type 0 where
   pub last : Hosted D
   pub ends : RunEnds input (Carries device) budget host before result last after
   pub saved : IsSaved device host → IsSaved device last
   pub lives : (lines : List Line) (replies : List Told) → AnswersAll (Carries device) budget host lines replies last → LivesOn device budget host (asked lines) (replied replies) last
+  pub first_is : a ≡ first last
+  pub second_is : b ≡ second last
 
 -- what came of serving by a host
-abbrev pub ServesBy : {D : Type 0} → Device D → Hosted D → Option (List ℕ) → ℕ → Option (List ℕ) → Result (Unit {0}) Fault → Option (List ℕ) → Type 0
-ServesBy device host input budget before (Ok done) after = Ran device host input budget before (Ok done) after
-ServesBy device host input budget before (Err (Run fault)) after = Ran device host input budget before (Err fault) after
-ServesBy device host input budget before (Err _) after = ⊥
+abbrev pub ServesBy : {D : Type 0} → Device D → Hosted D → Option (List ℕ) → ℕ → Option (List ℕ) → Result (Unit {0}) Fault → D → D → Option (List ℕ) → Type 0
+ServesBy device host input budget before (Ok done) a b after = Ran device host input budget before (Ok done) a b after
+ServesBy device host input budget before (Err (Run fault)) a b after = Ran device host input budget before (Err fault) a b after
+ServesBy device host input budget before (Err _) a b after = ⊥
 
--- What came of serving by a host that begins so, or of its refusal, which is told and nothing written.
-abbrev pub ServesFrom : {D : Type 0} → Device D → (Result (Hosted D) (OpenRefused D) → Type 0) → Option (List ℕ) → ℕ → Option (List ℕ) → Result (Unit {0}) Fault → Option (List ℕ) → Type 0
-ServesFrom {D} device begins input budget before (Err (Store fault)) after = (refused : OpenRefused D) × begins (Err refused) × (refused.fault ≡ fault) × (after ≡ before)
-ServesFrom {D} device begins input budget before result after = (host : Hosted D) × begins (Ok host) × ServesBy device host input budget before result after
+-- What came of serving by a host that begins so, or of its refusal, which is told and nothing written. Its disks are
+-- handed back.
+abbrev pub ServesFrom : {D : Type 0} → Device D → (Result (Hosted D) (OpenRefused D) → Type 0) → Option (List ℕ) → ℕ → Option (List ℕ) → Result (Unit {0}) Fault → D → D → Option (List ℕ) → Type 0
+ServesFrom {D} device begins input budget before (Err (Store fault)) a b after =
+    (refused : OpenRefused D) × begins (Err refused) × (refused.fault ≡ fault) × (a ≡ refused.a) × (b ≡ refused.b) × (after ≡ before)
+ServesFrom {D} device begins input budget before result a b after =
+    (host : Hosted D) × begins (Ok host) × ServesBy device host input budget before result a b after

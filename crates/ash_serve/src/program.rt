@@ -15,7 +15,7 @@ use check::end_check;
 use ending::{End, Ending};
 use fault::Fault;
 use registrations::registrations;
-use service::{serve_new, serve_stored};
+use service::{Ended, serve_new, serve_stored};
 use std::fs::File;
 use std::process::ExitCode;
 use std::rt::{Env, Files};
@@ -71,7 +71,7 @@ fn serve_in_memory<R: Input + Print + AllocGlobal>(rt: &R, limits: Limits) -> Re
     let registry = registrations(rt.alloc())?;
     let writer = &mut io::writer(rt);
     let reader = rt.reader();
-    serve_new(rt.alloc(), a, b, registry, reader, writer, limits.budget)
+    serve_new(rt.alloc(), a, b, registry, reader, writer, limits.budget).end
 }
 
 /// Serves standard input and output, with the store in a folder.
@@ -84,7 +84,16 @@ fn serve<R: Files<File = File> + Input + Print + AllocGlobal>(
     let registry = registrations(rt.alloc())?;
     let writer = &mut io::writer(rt);
     let reader = rt.reader();
-    let end = serve_stored(rt.alloc(), a, b, registry, reader, writer, limits.budget);
+    let Ended { end, a, b } = serve_stored(
+        rt.alloc(),
+        a,
+        b,
+        registry,
+        reader,
+        writer,
+        limits.budget,
+    );
+    drop((a, b));
     drop(lock);
     end
 }

@@ -7,7 +7,7 @@ use ash_registry::Registry;
 use ash_serve::RunFault;
 use ash_serve::program::check::end_check;
 use ash_serve::program::fault::Fault;
-use ash_serve::program::service::{serve_new, serve_stored};
+use ash_serve::program::service::{Ended, serve_new, serve_stored};
 use std::alloc::Global;
 use std::io;
 use std::io::{ErrorKind, Read, Write};
@@ -82,17 +82,17 @@ fn answers_each_line(rt: HostRuntime) -> Result<(), Fail> {
 /// What is written where a new store is served.
 fn served_new(alloc: Global, written: &mut Vec<u8>) -> Result<(), Fault> {
     let (a, b) = (MemoryDisk::new(alloc), MemoryDisk::new(alloc));
-    serve_new(alloc, a, b, Registry::new(alloc), INPUT, written, 1000)
+    serve_new(alloc, a, b, Registry::new(alloc), INPUT, written, 1000).end
 }
 
-/// What is written where the store on two disks is served.
+/// What is written where the store on two disks is served, and how that ends.
 fn served_stored(
     alloc: Global,
     a: MemoryDisk,
     b: MemoryDisk,
     requests: &[u8],
     written: &mut Vec<u8>,
-) -> Result<(), Fault> {
+) -> Ended<MemoryDisk> {
     serve_stored(alloc, a, b, Registry::new(alloc), requests, written, 1000)
 }
 
@@ -112,7 +112,7 @@ fn serves_a_new_store_and_one_that_is_there(rt: HostRuntime) -> Result<(), Fail>
 
     let (a, b) = stored(alloc)?;
     let mut written = Vec::new(alloc);
-    served_stored(alloc, a, b, b"get m n\nseq\n", &mut written)?;
+    served_stored(alloc, a, b, b"get m n\nseq\n", &mut written).end?;
     check(
         &rt,
         &written.as_slice(),
@@ -123,11 +123,24 @@ fn serves_a_new_store_and_one_that_is_there(rt: HostRuntime) -> Result<(), Fail>
     Ok(())
 }
 
+#[test]
+fn serves_again_from_the_disks_that_it_hands_back(rt: HostRuntime) -> Result<(), Fail> {
+    let alloc = rt.alloc();
+    let (a, b) = stored(alloc)?;
+    let mut written = Vec::new(alloc);
+    let Ended { end, a, b } = served_stored(alloc, a, b, b"load k 10\nint n = 8;\n", &mut written);
+    end?;
+    served_stored(alloc, a, b, b"get m n\nget k n\nseq\n", &mut written).end?;
+    let wanted = b"ok seq 2\nok 7\nok 8\nok 2\n".as_slice();
+    check(&rt, &written.as_slice(), &wanted, "a store that was served");
+    Ok(())
+}
+
 /// Compares what serving tells and writes where there is no store.
 fn serves_no_store(rt: &impl Abort, alloc: Global) {
     let (a, b) = (MemoryDisk::new(alloc), MemoryDisk::new(alloc));
     let mut written = Vec::new(alloc);
-    let fault = match served_stored(alloc, a, b, INPUT, &mut written) {
+    let fault = match served_stored(alloc, a, b, INPUT, &mut written).end {
         Err(Fault::Store(fault)) => Some(fault),
         _ => None,
     };

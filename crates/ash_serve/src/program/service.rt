@@ -1,19 +1,29 @@
 // Serving from two disks: a host is opened or made on them, and runs.
 
+ghost use Rattle.std.specs.Prelude.{◌≡◌, Err};
 ghost use Rattle.ash_durable.specs.Store.{Creates, Opens};
 ghost use Rattle.ash_registry.specs.Registered.{registered};
 ghost use Rattle.ash_serve.specs.Service.{ServesBy, ServesFrom};
+ghost use Rattle.ash_serve.specs.declared.program.fault.Fault.TheVariants as faults;
 
 use super::fault::Fault;
 use crate::run::run;
 use ash_disk::Disk;
-use ash_durable::Host;
+use ash_durable::{Host, OpenRefused};
 use ash_registry::Registry;
 use std::alloc::Global;
 use std::io::{Read, Write};
 
-/// Serves a reader and a writer, with this registry, from the store that is on two disks.
-pub fn serve_stored<D: Disk + Drop, R: Read + Drop, W: Write>(
+/// How serving ended, and the disks as they are left.
+#[derive(Drop)]
+pub struct Ended<D> {
+    pub end: Result<(), Fault>,
+    pub a: D,
+    pub b: D,
+}
+
+/// Serves a reader and a writer, with this registry, from the store that is on two disks, and hands these back.
+pub fn serve_stored<D: Disk, R: Read + Drop, W: Write>(
     alloc: Global,
     a: D,
     b: D,
@@ -21,17 +31,17 @@ pub fn serve_stored<D: Disk + Drop, R: Read + Drop, W: Write>(
     reader: R,
     writer: &mut W,
     budget: u64,
-) -> Result<(), Fault>
-    ensures { ServesFrom D.Disk (Opens D.Disk (registered registry) a b) (R.remaining reader) budget (W.contents writer.old) result (W.contents writer.new) }
+) -> Ended<D>
+    ensures { ServesFrom D.Disk (Opens D.Disk (registered registry) a b) (R.remaining reader) budget (W.contents writer.old) result.end result.a result.b (W.contents writer.new) }
 {
     match Host::open(alloc, a, b, registry) {
         Ok(host) => serve_by(alloc, host, reader, writer, budget),
-        Err(refused) => Err(Fault::Store(refused.fault)),
+        Err(refused) => refusal(refused),
     }
 }
 
-/// Makes a store with this registry on two disks, and serves a reader and a writer from it.
-pub fn serve_new<D: Disk + Drop, R: Read + Drop, W: Write>(
+/// Makes a store with this registry on two disks, serves a reader and a writer from it, and hands the disks back.
+pub fn serve_new<D: Disk, R: Read + Drop, W: Write>(
     alloc: Global,
     a: D,
     b: D,
@@ -39,26 +49,42 @@ pub fn serve_new<D: Disk + Drop, R: Read + Drop, W: Write>(
     reader: R,
     writer: &mut W,
     budget: u64,
-) -> Result<(), Fault>
-    ensures { ServesFrom D.Disk (Creates D.Disk (registered registry) a b) (R.remaining reader) budget (W.contents writer.old) result (W.contents writer.new) }
+) -> Ended<D>
+    ensures { ServesFrom D.Disk (Creates D.Disk (registered registry) a b) (R.remaining reader) budget (W.contents writer.old) result.end result.a result.b (W.contents writer.new) }
 {
     match Host::create(alloc, a, b, registry) {
         Ok(host) => serve_by(alloc, host, reader, writer, budget),
-        Err(refused) => Err(Fault::Store(refused.fault)),
+        Err(refused) => refusal(refused),
     }
 }
 
-fn serve_by<D: Disk + Drop, R: Read + Drop, W: Write>(
+fn serve_by<D: Disk, R: Read + Drop, W: Write>(
     alloc: Global,
     mut host: Host<D>,
     reader: R,
     writer: &mut W,
     budget: u64,
-) -> Result<(), Fault>
-    ensures { ServesBy D.Disk host (R.remaining reader) budget (W.contents writer.old) result (W.contents writer.new) }
+) -> Ended<D>
+    ensures { ServesBy D.Disk host (R.remaining reader) budget (W.contents writer.old) result.end result.a result.b (W.contents writer.new) }
 {
-    match run(alloc, reader, writer, &mut host, budget) {
+    let end = match run(alloc, reader, writer, &mut host, budget) {
         Ok(()) => Ok(()),
         Err(fault) => Err(Fault::Run(fault)),
+    };
+    let (a, b) = host.close();
+    Ended { end, a, b }
+}
+
+/// Why there is no host, and the disks that it was to have.
+fn refusal<D>(refused: OpenRefused<D>) -> Ended<D>
+    ensures end { result.end ≡ Err (faults.Store refused.fault) }
+    ensures a { result.a ≡ refused.a }
+    ensures b { result.b ≡ refused.b }
+{
+    let OpenRefused { fault, a, b } = refused;
+    Ended {
+        end: Err(Fault::Store(fault)),
+        a,
+        b,
     }
 }
