@@ -15,7 +15,7 @@ use Rattle.ash_lines.specs.declared.reader.Reader.{Reader}
 use Rattle.ash_lines.specs.declared.writer.Writer.{Writer}
 use Rattle.ash_serve.specs.declared.fault.RunFault.{RunFault}
 use Rattle.ash_serve.specs.declared.fault.RunFault.TheVariants as faults
-use Rattle.ash_serve.proofs.ServingLemmas.{log-more, text-more, asks-more, answers-more}
+use Rattle.ash_serve.proofs.ServingLemmas.{log-more, asks-more, answers-more}
 
 reads_from : (input left : Option (List ℕ)) (read : List ℕ) → Consumes input left read → ReadsFrom input read
 reads_from None left read h = tt
@@ -123,10 +123,13 @@ run_ends remaining contents carries budget s t k o h i input (Err faults.Write) 
       },
       reads_from input (left_of remaining t) (log.read ++ served.bytes) (subst (λ (y : Option (List ℕ)). Consumes y (left_of remaining t) (log.read ++ served.bytes)) e whole.0),
       refl,
-      text_of log.replies ++ stops.out,
+      log.replies,
+      told,
+      stops.out,
       stops.lost,
+      refl,
       appends-onward (contents k.writer.now) (contents n.writer.now) (contents o.writer.now) (text_of log.replies) stops.out log.sent.0 stops.broke.0,
-      text-more log.replies told ∙ (ap (λ (y : List ℕ). text_of log.replies ++ y) (sym (ap (λ (y : List ℕ). y ++ reply_line told) log.empty) ∙ stops.whole) ∙ sym (append_assoc (text_of log.replies) stops.out stops.lost)),
+      sym (ap (λ (y : List ℕ). y ++ reply_line told) log.empty) ∙ stops.whole,
       (log.lines, line, refl, w.3.on),
     )
 run_ends remaining contents carries budget s t k o h i input (Err faults.NoMemory) e a w = (w.2, subst (λ (y : Writer _). Keeps (contents k.writer.now) (contents y.writer.now)) (sym w.1) (keeps_all (contents k.writer.now)))

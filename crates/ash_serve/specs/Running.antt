@@ -4,7 +4,7 @@ use Rattle.std.specs.List.{AllByRecursion}
 use Rattle.std.specs.Io.KnownBytes.{Appends, Keeps}
 use Rattle.ash_meaning.specs.State.{Request, Reply}
 use Rattle.ash_lines.specs.Lines.{Line, Asked, Quit, GoesOn, Cut, next, Asks, is_unfinished}
-use Rattle.ash_lines.specs.Replies.{Told, Replied, text_of}
+use Rattle.ash_lines.specs.Replies.{Told, Replied, reply_line, text_of}
 use Rattle.ash_serve.specs.Serving.{Carrying, AnswersAll}
 use Rattle.ash_serve.specs.declared.fault.RunFault.{RunFault}
 use Rattle.ash_serve.specs.declared.fault.RunFault.TheVariants as faults
@@ -55,7 +55,8 @@ EndsWithQuit lines = (front : List Line) × (lines ≡ front ++ Quit ∷ []) × 
 abbrev pub GoOnToLast : List Line → Type 0
 GoOnToLast lines = (front : List Line) × (last : Line) × (lines ≡ front ++ last ∷ []) × GoOn front
 
--- How a run ended, by its outcome. What was written is the text of the replies, or a front of it where a write failed.
+-- How a run ended, by its outcome. What was written is the text of the replies. Where a write failed it is that of all
+-- but the last, and a front of the last: no request was carried out before the replies to those before it were written.
 abbrev pub RunEnds : {H : Type 0} → Option (List ℕ) → Carrying H → ℕ → H → Option (List ℕ) → Result (Unit {0}) RunFault → H → Option (List ℕ) → Type 0
 RunEnds input carries budget old before (Ok _) new after =
     (run : Run carries budget old new) × ReadsFrom input run.read × Appends before after (text_of run.replies)
@@ -71,5 +72,6 @@ RunEnds input carries budget old before (Err faults.Read) new after =
     × (is_unfinished (next run.rest) ≡ true) × GoOn run.lines
 RunEnds input carries budget old before (Err faults.Write) new after =
     (run : Run carries budget old new) × ReadsFrom input run.read × (run.rest ≡ [])
-    × (out : List ℕ) × (lost : List ℕ) × Appends before after out × (text_of run.replies ≡ out ++ lost) × GoOnToLast run.lines
+    × (sent : List Told) × (last : Told) × (out : List ℕ) × (lost : List ℕ) × (run.replies ≡ sent ++ last ∷ [])
+    × Appends before after (text_of sent ++ out) × (reply_line last ≡ out ++ lost) × GoOnToLast run.lines
 RunEnds input carries budget old before (Err faults.NoMemory) new after = (new ≡ old) × Keeps before after
