@@ -38,6 +38,4 @@ mod switches;
 #[cfg(test)]
 mod types;
 #[cfg(test)]
-mod untyped;
-#[cfg(test)]
 mod variables;

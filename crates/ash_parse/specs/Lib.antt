@@ -1,6 +1,5 @@
 pub mod Signs
 pub mod Reading
-pub mod TypeReader
 pub mod ExpressionReader
 pub mod StatementReader
 pub mod ItemReader

@@ -129,12 +129,7 @@ pub fn begins_expression(kind: &TokenKind) -> bool
         | TokenKind::Number(_)
         | TokenKind::Sign(Sign::OpenParenthesis)
         | TokenKind::Reserved(
-            ReservedWord::True
-            | ReservedWord::False
-            | ReservedWord::Null
-            | ReservedWord::This
-            | ReservedWord::Array
-            | ReservedWord::Cast,
+            ReservedWord::True | ReservedWord::False | ReservedWord::Null | ReservedWord::This,
         ) => true,
         kind => primitive(kind).is_some() || unary_operator(kind).is_some(),
     }
