@@ -277,7 +277,13 @@ fn a_byte_less_than_the_limit(rt: HostRuntime) -> Result<(), Fail> {
     let records = full.len().saturating_sub(EMPTY.len());
     check(&rt, &(records as u64), &LIMIT, "the bytes of records");
     check_added(&rt, alloc, AT_THE_LIMIT, &second, "at the limit")?;
-    check_added(&rt, alloc, AT_THE_LIMIT - 1, &[0], "a byte less")
+    check_added(
+        &rt,
+        alloc,
+        AT_THE_LIMIT.saturating_sub(1),
+        &[0],
+        "a byte less",
+    )
 }
 
 /// What is refused of requests to a store that is to get a new generation, in order.
