@@ -20,7 +20,7 @@ import sys
 from concurrent.futures import FIRST_COMPLETED, ThreadPoolExecutor, wait
 
 TRIED_WITH = "rattle-kit-13b logic dac8208d650f15bf"
-MOST_JOBS = 4
+MAX_JOBS = 4
 JOBS_FOR_A_PROCESSOR = 1.5
 # What each further job of a check adds to its memory, and how much of the free memory is given out.
 MEMORY_OF_A_JOB = 0.6
@@ -56,7 +56,7 @@ def jobs_for(spare, others, needs, room, least):
     far as memory goes."""
     by_processors = max(spare - min(others, 1), least)
     by_memory = 1 + int((room / needs - 1) / MEMORY_OF_A_JOB)
-    return max(1, min(MOST_JOBS, by_processors, by_memory))
+    return max(1, min(MAX_JOBS, by_processors, by_memory))
 
 
 def in_lanes(tasks, processors, memory):
