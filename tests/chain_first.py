@@ -1,12 +1,12 @@
 #!/usr/bin/env python3
 """`rt ci`, with the processors shared out so that the longest chain of crates gets most of them.
 
-The crates stand on each other in one long chain, and `rt ci` shares the processors evenly among all tasks that are ready,
-the tests and edits of crates that have none among them. So the crate that all others wait for would be proved at one job.
-Here a task that has nothing to do takes no share. The task at the head of the longest chain that is left begins at once
-with a job for each processor but one, even where others still have some of these, since all wait for it; any other task
-gets the jobs that are left, but one where another is ready. A check with several jobs leaves some of them idle for part of
-its time, so more jobs are given out than there are processors.
+The crates build on each other in one long chain, and `rt ci` shares the processors evenly among the proofs that are ready,
+those of tests among them. So the crate that all others wait for would be proved at one job.
+Here the task at the head of the longest chain that is left begins at once with a job for each processor but one, even
+where others still have some of these, since all wait for it; any other task gets the jobs that are left, but one where
+another is ready. A check with several jobs leaves some of them idle for part of its time, so more jobs are given out than
+there are processors. Edits fill what the proofs leave free.
 Only the order of the work is another one: what is proved, tried and run, and the verdict, are those of `rt ci`. Under a
 toolchain that was not tried with this, plain `rt ci` runs.
 """
@@ -19,7 +19,7 @@ import subprocess
 import sys
 from concurrent.futures import FIRST_COMPLETED, ThreadPoolExecutor, wait
 
-TRIED_WITH = "rattle-kit-13b logic dac8208d650f15bf"
+TRIED_WITH = "rattle-kit-13f logic dac8208d650f15bf"
 MAX_JOBS = 4
 JOBS_FOR_A_PROCESSOR = 1.5
 # What each further job of a check adds to its memory, and how much of the free memory is given out.
@@ -37,6 +37,11 @@ def load_rt():
     made = importlib.util.module_from_spec(importlib.util.spec_from_loader("rt", loader))
     loader.exec_module(made)
     return made
+
+
+def fills(key):
+    """Whether a task is one of those that try a crate's edits, each of which takes one job."""
+    return key[1] not in ("proof", "tests")
 
 
 def behind(tasks):
@@ -63,29 +68,35 @@ def in_lanes(tasks, processors, memory):
     """Runs tasks side by side and returns what each gave. A task is what it waits for, its work in lines, its memory, and
     a call that takes what was given so far and how many jobs it may use."""
     order = behind(tasks)
-    left, running, given = sorted(tasks, key=lambda it: -order[it]), {}, {}
+    left, running, given = sorted(tasks, key=lambda it: (fills(it), -order[it])), {}, {}
     with ThreadPoolExecutor(max(processors, len(tasks))) as pool:
         while left or running:
             ready = [it for it in left if all(below in given for below in tasks[it][0])]
-            empty = [it for it in ready if not tasks[it][1]]
+            empty = [it for it in ready if not tasks[it][1] and it[1] == "tests"]
             for key in empty:
                 left.remove(key)
                 given[key] = tasks[key][3](given, 1)
             if empty:
                 continue
+            lacks_memory = False
             for number, key in enumerate(ready, 1):
+                if lacks_memory and fills(key):
+                    # a proof waits for memory, which edits would take again and again
+                    break
                 _, _, needs, call = tasks[key]
                 spare = int(JOBS_FOR_A_PROCESSOR * processors) - sum(jobs for _, _, jobs in running.values())
                 room = memory - sum(taken for _, taken, _ in running.values())
                 rivals = [*ready, *(it for it, _, _ in running.values())]
-                is_head = all(order[it] < NEAR * order[key] for it in rivals if it != key)
+                is_head = not fills(key) and all(order[it] < NEAR * order[key] for it in rivals if it != key)
                 if (spare > 0 or is_head) and (needs <= room or not running):
                     least = processors - 1 if is_head else 1
-                    # an edit's check takes one job
-                    jobs = 1 if key[1] == "edits" else jobs_for(spare, len(ready) - number, needs, room, least)
+                    others = sum(not fills(it) for it in ready[number:])
+                    jobs = 1 if fills(key) else jobs_for(spare, others, needs, room, least)
                     taken = needs * (1 + MEMORY_OF_A_JOB * (jobs - 1))
                     left.remove(key)
                     running[pool.submit(call, given, jobs)] = key, taken, jobs
+                else:
+                    lacks_memory = lacks_memory or spare > 0 and not fills(key)
             for it in wait(running, return_when=FIRST_COMPLETED).done:
                 given[running.pop(it)[0]] = it.result()
     return given
@@ -97,7 +108,12 @@ def main():
         print(f"chain_first: not tried with {identity}, so plain rt ci runs", flush=True)
         os.execvp("rt", ["rt", "ci"])
     rt = load_rt()
-    rt.in_lanes = lambda tasks: in_lanes(tasks, rt.processors(), MEMORY_GIVEN_OUT * rt.free())
+
+    def share_out(tasks):
+        with rt.ending():
+            return in_lanes(tasks, rt.processors(), MEMORY_GIVEN_OUT * rt.free())
+
+    rt.in_lanes = share_out
     return rt.main(["ci"])
 
 
