@@ -7,7 +7,7 @@ ghost use Rattle.ash_typed.specs.Modules.{module_of};
 ghost use Rattle.ash_typed.specs.TypedModules.{IsTyped};
 ghost use Rattle.ash_classes.specs.References.{Refers, classes_of, seen};
 ghost use Rattle.ash_classes.specs.Ways.{Reaches, AreRanks};
-ghost use Rattle.ash_check.specs.Checks.{checked, Tells, told_of, name_at, round_of, GoesRoundIfCyclic};
+ghost use Rattle.ash_check.specs.Checks.{checked, typed_checked, Tells, told_of, name_at, round_of, GoesRoundIfCyclic};
 
 use crate::faults::{CheckFault, ClassNames};
 use crate::items::module_typed;
@@ -15,6 +15,7 @@ use ash_classes::{Cycle, class_ranks, classes};
 use ash_registry::Registry;
 use ash_tree::Class;
 use ash_typed::Module;
+use ash_untyped::uses_untyped;
 use std::alloc::{AllocError, Global};
 
 /// A script that was checked.
@@ -56,14 +57,35 @@ fn round_names(
     Ok(ClassNames(names_at(alloc, &classes, &places)?))
 }
 
+/// Checks a script that uses nothing that is not typed so far.
+fn check_typed(
+    alloc: Global,
+    registry: &Registry,
+    script: &ash_tree::Module,
+) -> Result<Checked, CheckFault>
+    ensures answer { MatchResult result (λ done. typed_checked (registered registry.now) (written_module script.now) ≡ Ok (module_of done.module)) (λ fault. Tells (typed_checked (registered registry.now) (written_module script.now)) fault) }
+    ensures typed { IfOk result (λ done. IsTyped (registered registry.now) (written_module script.now) (module_of done.module)) }
+    ensures ranks { IfOk result (λ done. AreRanks (Refers (classes_of (written_module script.now))) (length (classes_of (written_module script.now))) done.ranks.items) }
+    ensures acyclic { OnOk result ((class : ℕ) → Reaches (Refers (classes_of (written_module script.now))) class class → ⊥) }
+    ensures round { IfErr result (λ fault. GoesRoundIfCyclic (classes_of (written_module script.now)) (told_of fault)) }
+{
+    let module = module_typed(alloc, registry, script)?;
+    match class_ranks(alloc, script)? {
+        Ok(ranks) => Ok(Checked { module, ranks }),
+        Err(cycle) => Err(CheckFault::CyclicType(round_names(alloc, script, &cycle)?)),
+    }
+}
+
 /// Checks a script by itself and against what is registered: names, types, where phrases may stand, limits, and that
 /// none of its classes could form a cycle.
 ///
 /// # Errors
 ///
-/// The first fault in the order of the text: of an item its types and names, then its body; of a phrase its parts, then
+/// `CheckFault::NotYet` where the script uses an interface, a cast, an array or an index, which are not typed so far. Else
+/// the first fault in the order of the text: of an item its types and names, then its body; of a phrase its parts, then
 /// the phrase. Its offset is that of a byte of the source. `CheckFault::CyclicType` comes after all others.
 /// `CheckFault::NoMemory` says nothing of the script.
+#[tactic(auto, using(crate::proofs::CheckLaws::plain_is_checked, crate::proofs::CheckLaws::other_is_checked))]
 pub fn check(
     alloc: Global,
     registry: &Registry,
@@ -75,9 +97,8 @@ pub fn check(
     ensures acyclic { OnOk result ((class : ℕ) → Reaches (Refers (classes_of (written_module script.now))) class class → ⊥) }
     ensures round { IfErr result (λ fault. GoesRoundIfCyclic (classes_of (written_module script.now)) (told_of fault)) }
 {
-    let module = module_typed(alloc, registry, script)?;
-    match class_ranks(alloc, script)? {
-        Ok(ranks) => Ok(Checked { module, ranks }),
-        Err(cycle) => Err(CheckFault::CyclicType(round_names(alloc, script, &cycle)?)),
+    if uses_untyped(script) {
+        return Err(CheckFault::NotYet);
     }
+    check_typed(alloc, registry, script)
 }

@@ -26,7 +26,7 @@ fn object_named(registry: &Registry, named: &Heads, name: &str) -> Option<Object
     }
 }
 
-/// The type that is written.
+/// The type that is written; arrays have none so far.
 #[tactic(auto, unfolding(ash_typed::specs::Heads::ty_named))]
 pub(crate) fn ty_named(registry: &Registry, named: &Heads, of: &Type) -> Ty
     ensures { result ≡ definition.ty_named (registered registry.now) (map class_of named.now.classes.items) (type_of of.now) }
@@ -41,6 +41,7 @@ pub(crate) fn ty_named(registry: &Registry, named: &Heads, of: &Type) -> Ty
             Some(object) => Ty::Handle(object),
             None => Ty::Unknown,
         },
+        TypeKind::Array(_) | TypeKind::ArrayHandle(_) => Ty::Unknown,
     }
 }
 

@@ -256,6 +256,7 @@ fn item_typed<'a>(
             let next = class_typed(alloc, env, place, class)?;
             typed.classes.push(next)?;
         }
+        Item::Interface(interface) => names.take(interface.place.at, interface.name.as_str())?,
         Item::Function(function) => {
             let of = result_typed(env, &function.result)?;
             names.take(function.place.at, function.name.as_str())?;

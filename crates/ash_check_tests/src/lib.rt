@@ -38,4 +38,6 @@ mod switches;
 #[cfg(test)]
 mod types;
 #[cfg(test)]
+mod untyped;
+#[cfg(test)]
 mod variables;

@@ -5,7 +5,7 @@ use Rattle.std.proofs.lemmas.Option.{none-some, same_Some, slice_get_within}
 use Rattle.std.proofs.lemmas.List.Folds.{Any-from_list_any, list_any-from_Any}
 use Rattle.std.proofs.lemmas.Slice.Eq.{bytes_eq-Decides}
 use Rattle.std.specs.Option.{option_or}
-use Rattle.ash_tree.specs.Tree.{Named, Prim, Object, Handle, Member, AField, AMethod, AConstructor, Class}
+use Rattle.ash_tree.specs.Tree.{Named, Prim, Object, Handle, Array, ArrayHandle, Member, AField, AMethod, AConstructor, Class}
 use Rattle.ash_classes.specs.Ways.{IsWay, Reaches, IsNoLater, IsForemost, IsTold}
 use Rattle.ash_classes.specs.References.{Names, Holds, RefersTo, Refers}
 use Rattle.ash_classes.specs.ToldCycle.{is_of, is_field_of, refers_to, refers, refers_at, first_below, foremost, shortest_back, first_round, told_cycle}
@@ -151,6 +151,8 @@ of-Decides : (name : List ℕ) (of : Named) → Decides (is_of name of) (Names o
 of-Decides name (Prim place kind) = (λ h. cc, λ h. absurd h)
 of-Decides name (Object place text) = bytes_eq-Decides text name
 of-Decides name (Handle place text) = bytes_eq-Decides text name
+of-Decides name (Array place element) = (λ h. cc, λ h. absurd h)
+of-Decides name (ArrayHandle place element) = (λ h. cc, λ h. absurd h)
 
 field-Decides : (name : List ℕ) (member : Member) → Decides (is_field_of name member) (Holds member name)
 field-Decides name (AField vars) = of-Decides name vars.of

@@ -4,7 +4,7 @@ use Rattle.std.specs.Borrow.{Bor}
 use Rattle.std.specs.List.{Any}
 use Rattle.ash_tree.specs.declared.tree.items.Class as code
 use Rattle.ash_tree.specs.Views.{class_of}
-use Rattle.ash_tree.specs.Tree.{Named, Prim, Object, Handle, Member, AField, Class, Item, AClass}
+use Rattle.ash_tree.specs.Tree.{Named, Object, Handle, Member, AField, Class, Item, AClass}
 
 -- the classes, in the order in which they stand
 abbrev pub classes_of : List Item → List Class
@@ -14,9 +14,9 @@ classes_of (_ ∷ items) = classes_of items
 
 -- the object type of that name, or a handle of it
 abbrev pub Names : Named → List ℕ → Type 0
-Names (Prim place kind) name = ⊥
 Names (Object place text) name = text ≡ name
 Names (Handle place text) name = text ≡ name
+Names _ name = ⊥
 
 -- a field of that type, or with a handle of it
 abbrev pub Holds : Member → List ℕ → Type 0

@@ -3,15 +3,15 @@ use Rattle.std.specs.Prelude.{ℕ, zero, suc, Bool, false, List, [], ◌∷◌, 
 use Rattle.std.specs.Option.{option_or}
 use Rattle.std.specs.List.{list_any}
 use Rattle.std.specs.Str.{bytes_eq}
-use Rattle.ash_tree.specs.Tree.{Named, Prim, Object, Handle, Member, AField, Class}
+use Rattle.ash_tree.specs.Tree.{Named, Object, Handle, Member, AField, Class}
 
 -- whether one class refers to another
 
 -- the object type of that name, or a handle of it
 abbrev pub is_of : List ℕ → Named → Bool
-is_of name (Prim place kind) = false
 is_of name (Object place text) = bytes_eq text name
 is_of name (Handle place text) = bytes_eq text name
+is_of name _ = false
 
 -- a field of that type, or with a handle of it
 abbrev pub is_field_of : List ℕ → Member → Bool

@@ -13,8 +13,8 @@ fn names(of: &Type, name: &str) -> bool
     ensures { IsTrue result ↔ Names (type_of of.now) name.now }
 {
     match &of.kind {
-        TypeKind::Primitive(_) => false,
         TypeKind::Object(text) | TypeKind::Handle(text) => text.as_str() == name,
+        TypeKind::Primitive(_) | TypeKind::Array(_) | TypeKind::ArrayHandle(_) => false,
     }
 }
 

@@ -11,16 +11,17 @@ ghost use Rattle.ash_expressions.specs.Views.{typed_of, all_typed_of, environmen
 use crate::calls::{bracketed, called, callee, field, invoked, known, method, this};
 use crate::environment::Environment;
 use crate::operators::{assigned, choice, converted, counted, operate, unary};
-use crate::stop::Checking;
+use crate::stop::{Checking, broken};
 use crate::typed::{Typed, made, numeral};
 use crate::types::is_assign;
 use ash_tree::{AssignOp, Expr, ExprKind, Link, Primitive, Suffix, UnaryOp};
-use ash_typed::{Expr as TypedExpr, Step, Ty};
+use ash_typed::{Expr as TypedExpr, Rule, Step, Ty};
 use std::alloc::Global;
 
 /// An expression; `left` is whether it stands left of `=`. What has parts stands in a function of its own, so that the
 /// frame of this one, which each level pays for, stays small.
 #[cycle(expressions)]
+#[tactic(auto, using(ash_tree::proofs::Rows::new_array_is))]
 pub fn expression(env: &Environment, alloc: Global, left: bool, source: &Expr) -> Checking<Typed>
     ensures { Gives typed_of result (typing.typed (environment_of env.now) left (written.expr_of source.now)) }
 {
@@ -34,6 +35,8 @@ pub fn expression(env: &Environment, alloc: Global, left: bool, source: &Expr) -
         ExprKind::Call { name, arguments } => call(env, alloc, at, name.as_str(), arguments),
         ExprKind::Brackets(inner) => brackets(env, alloc, at, inner),
         ExprKind::Convert { to, value } => conversion(env, alloc, at, *to, value),
+        ExprKind::NewArray { .. } => Err(broken(Rule::TypeMismatch, at)),
+        ExprKind::Cast { .. } => Err(broken(Rule::TypeMismatch, at)),
         ExprKind::Postfix { operand, suffixes } => suffixed(env, alloc, operand, suffixes),
         ExprKind::Unary { operator, operand } => prefixed(env, alloc, left, at, *operator, operand),
         ExprKind::Binary { first, links } => joined(env, alloc, first, links),
@@ -195,6 +198,7 @@ fn one_suffix(env: &Environment, alloc: Global, base: Typed, suffix: &Suffix) ->
             name,
             arguments,
         } => invocation(env, alloc, base, place.at, name.as_str(), arguments),
+        Suffix::Index(_) => Err(broken(Rule::TypeMismatch, base.at)),
         Suffix::Increment => counted(alloc, base.at, Step::IncrementAfter, base),
         Suffix::Decrement => counted(alloc, base.at, Step::DecrementAfter, base),
     }

@@ -60,12 +60,18 @@ fn largest_sources(rt: HostRuntime) -> Result<(), Fail> {
         ("int a = 1", " || 1 && 2 + 3", ";"),
         ("int a = b", ".c", ";"),
         ("int a = b", "++", ";"),
+        ("int a = b", "[1]", ";"),
+        ("int a = b", "[c[d]]", ";"),
+        ("int a = b", "[array<int>(1)[c]]", ";"),
+        ("int a = 1", "+cast<A>(b)[c]", ";"),
         ("int a = f(1", ",2", ");"),
         ("int a", ",a", ";"),
         ("void f() {", ";", "}"),
         ("void f() {", "{}", "}"),
         ("void f() { switch (a) {", " case 1: ;", "} }"),
         ("class A {", "A() {}", "}"),
+        ("", "array<A@>@ a;", ""),
+        ("void f(array<int> a", ", array<A@>@ a", ") {}"),
         ("void f(int a", ", int a", ") {}"),
     ];
     check_rows(&rt, rt.alloc(), rows)

@@ -174,6 +174,8 @@ fn refused_types_and_services_change_nothing(rt: HostRuntime) -> Result<(), Fail
         ("X", 2, RegistryFault::NameTaken),
         ("int", 3, RegistryFault::ReservedName),
         ("interface", 3, RegistryFault::ReservedName),
+        ("array", 3, RegistryFault::ReservedName),
+        ("cast", 3, RegistryFault::ReservedName),
         ("float", 3, RegistryFault::ReservedName),
         ("int", 1, RegistryFault::ReservedName),
         ("9x", 3, RegistryFault::BadDeclaration),
@@ -321,6 +323,43 @@ fn refused_properties_and_factories_change_nothing(rt: HostRuntime) -> Result<()
         ("Counter", "Counter@ c(int)", RegistryFault::FactoryTaken),
     ];
     check_factories(&rt, rt.alloc(), factories)
+}
+
+#[test]
+fn refused_arrays_change_nothing(rt: HostRuntime) -> Result<(), Fail> {
+    let unknown = RegistryFault::UnknownType;
+    let bad = RegistryFault::BadDeclaration;
+    let other = RegistryFault::NotPrimitive;
+    let methods = &[
+        ("Counter", "int g(array<int>)", 3, other),
+        ("Counter", "array<int> g()", 3, other),
+        ("Counter", "array<Counter@>@ g()", 3, other),
+        ("Counter", "int add(array<int>)", 1, other),
+        ("Counter", "int g(array<Foo@>)", 3, unknown),
+        ("Counter", "int g(Counter@, array<Foo@>@)", 3, unknown),
+        ("Counter", "array<Foo@> g(int)", 3, unknown),
+        ("Counter", "int g(array<Counter>)", 3, bad),
+        ("Counter", "int g(array<array<int>>)", 3, bad),
+    ];
+    check_methods(&rt, rt.alloc(), methods)?;
+    let properties = &[
+        ("Counter", "array<int> other", 3, other),
+        ("Counter", "array<int>@ value", 1, other),
+        ("Counter", "array<Foo@> other", 3, unknown),
+    ];
+    check_properties(&rt, rt.alloc(), properties)?;
+    let factories = &[
+        ("Counter", "array<int>@ c(int)", bad),
+        ("Counter", "array<Foo@>@ c(int)", bad),
+        ("Counter", "Counter@ c(array<int>)", other),
+        ("Counter", "Counter@ c(array<Foo@>)", unknown),
+    ];
+    check_factories(&rt, rt.alloc(), factories)?;
+    let functions = &[
+        (0, "array<int> g()", 3, other),
+        (0, "int g(array<Foo@>)", 3, unknown),
+    ];
+    check_functions(&rt, rt.alloc(), functions)
 }
 
 #[test]

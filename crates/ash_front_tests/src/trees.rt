@@ -123,6 +123,33 @@ fn operators(rt: HostRuntime) -> Result<(), Fail> {
             "int a = @b.c.d(1, e)++;",
             "Expr { @8, Unary { operator: Handle, operand: Expr { @9, Postfix { operand: Expr { @9, Name(\"b\") }, suffixes: [Field { @11, name: \"c\" }, Method { @13, name: \"d\", arguments: [Expr { @15, Number(1) }, Expr { @18, Name(\"e\") }] }, Increment] } } } }",
         ),
+        // an index is a suffix, with an expression of its own
+        (
+            "int a = b[c[1]].d;",
+            "Expr { @8, Postfix { operand: Expr { @8, Name(\"b\") }, suffixes: [Index(Expr { @10, Postfix { operand: Expr { @10, Name(\"c\") }, suffixes: [Index(Expr { @12, Number(1) })] } }), Field { @16, name: \"d\" }] } }",
+        ),
+        (
+            "int a = -b[0]++ + c(1)[d];",
+            "Expr { @8, Binary { first: Expr { @8, Unary { operator: Minus, operand: Expr { @9, Postfix { operand: Expr { @9, Name(\"b\") }, suffixes: [Index(Expr { @11, Number(0) }), Increment] } } } }, links: [Link { operator: Add, operand: Expr { @18, Postfix { operand: Expr { @18, Call { name: \"c\", arguments: [Expr { @20, Number(1) }] } }, suffixes: [Index(Expr { @23, Name(\"d\") })] } } }] } }",
+        ),
+        // a new array is an operand
+        (
+            "int a = array<int>(3, b).c;",
+            "Expr { @8, Postfix { operand: Expr { @8, NewArray { of: Element { @14, Primitive(Int) }, arguments: [Expr { @19, Number(3) }, Expr { @22, Name(\"b\") }] } }, suffixes: [Field { @25, name: \"c\" }] } }",
+        ),
+        (
+            "int a = array<A@>();",
+            "Expr { @8, NewArray { of: Element { @14, Handle(\"A\") }, arguments: [] } }",
+        ),
+        // a cast is an operand, and names its type where it is
+        (
+            "int a = cast<A>(b).c;",
+            "Expr { @8, Postfix { operand: Expr { @8, Cast { to: TypeName { @13, name: \"A\" }, value: Expr { @16, Name(\"b\") } } }, suffixes: [Field { @19, name: \"c\" }] } }",
+        ),
+        (
+            "int a = cast < B > (cast<A>(c)) is null;",
+            "Expr { @8, Binary { first: Expr { @8, Cast { to: TypeName { @15, name: \"B\" }, value: Expr { @20, Cast { to: TypeName { @25, name: \"A\" }, value: Expr { @28, Name(\"c\") } } } } }, links: [Link { operator: Is, operand: Expr { @35, Null } }] } }",
+        ),
     ];
     check_values(&rt, rt.alloc(), rows)
 }
@@ -186,7 +213,21 @@ fn items(rt: HostRuntime) -> Result<(), Fail> {
     let rows = &[
         (
             "; class A { int a, b = 1; A(int x) { } A@ m() { return null; } };",
-            "Class(Class { @8, name: \"A\", members: [Vars(Vars { of: Type { @12, Primitive(Int) }, decls: [Decl { @16, name: \"a\", initializer: Default }, Decl { @19, name: \"b\", initializer: Value(Expr { @23, Number(1) }) }] }), Constructor(Constructor { @26, name: \"A\", parameters: [Parameter { of: Type { @28, Primitive(Int) }, @32, name: \"x\" }], body: [] }), Function(Function { @42, result: Some(Type { @39, Handle(\"A\") }), name: \"m\", parameters: [], body: [Stmt { @48, Return(Some(Expr { @55, Null })) }] })] })",
+            "Class(Class { @8, name: \"A\", interfaces: [], members: [Vars(Vars { of: Type { @12, Primitive(Int) }, decls: [Decl { @16, name: \"a\", initializer: Default }, Decl { @19, name: \"b\", initializer: Value(Expr { @23, Number(1) }) }] }), Constructor(Constructor { @26, name: \"A\", parameters: [Parameter { of: Type { @28, Primitive(Int) }, @32, name: \"x\" }], body: [] }), Function(Function { @42, result: Some(Type { @39, Handle(\"A\") }), name: \"m\", parameters: [], body: [Stmt { @48, Return(Some(Expr { @55, Null })) }] })] })",
+        ),
+        // an interface, and a class that lists two
+        (
+            "interface I { int v(); } class A : I, J { }",
+            "Interface(Interface { @10, name: \"I\", methods: [InterfaceMethod { @18, result: Some(Type { @14, Primitive(Int) }), name: \"v\", parameters: [] }] }), Class(Class { @31, name: \"A\", interfaces: [TypeName { @35, name: \"I\" }, TypeName { @38, name: \"J\" }], members: [] })",
+        ),
+        // arrays, and handles of them
+        (
+            "array<int> a; array<Foo@>@ b;",
+            "Vars(Vars { of: Type { @0, Array(Element { @6, Primitive(Int) }) }, decls: [Decl { @11, name: \"a\", initializer: Default }] }), Vars(Vars { of: Type { @14, ArrayHandle(Element { @20, Handle(\"Foo\") }) }, decls: [Decl { @27, name: \"b\", initializer: Default }] })",
+        ),
+        (
+            "void f(array<bool>@ a) { array<uint64> b(2); }",
+            "Function(Function { @5, result: None, name: \"f\", parameters: [Parameter { of: Type { @7, ArrayHandle(Element { @13, Primitive(Bool) }) }, @20, name: \"a\" }], body: [Stmt { @25, Vars(Vars { of: Type { @25, Array(Element { @31, Primitive(Uint64) }) }, decls: [Decl { @39, name: \"b\", initializer: Arguments([Expr { @41, Number(2) }]) }] }) }] })",
         ),
         // a function, or a variable with arguments
         (

@@ -28,7 +28,7 @@ use Rattle.ash_typed.specs.declared.fault.Rule.{Rule}
 use Rattle.ash_typed.specs.declared.fault.Rule.TheVariants as rules
 use Rattle.ash_typed.specs.Modules.{Module as Typed}
 use Rattle.ash_check.specs.declared.faults.CheckFault.{CheckFault}
-use Rattle.ash_check.specs.Checks.{Told, Broken, Cyclic, checked, told_of, IsWhatIsTold, Tells}
+use Rattle.ash_check.specs.Checks.{Told, NotYet, Broken, Cyclic, checked, told_of, IsWhatIsTold, Tells}
 use Rattle.ash_meaning.specs.Lexing.{IsText, Lexes, lexical}
 use Rattle.ash_meaning.specs.Scanning.{scan, told, lexed}
 use Rattle.ash_meaning.specs.Checking.{Checking, tokens_in, end_by, end_in, syntactic, refusal_at, IsNoScript, broken_at, untyped, of_told, of_check, IsUntypedScript, ChecksTokens, Checks, no_tokens, has_tokens, unless_told, items_checked, script_checked, tokens_checked, checked_on, checked_source, TakesToTell, TakesToCheck}
@@ -138,6 +138,7 @@ takes_rule rules.ConstantOutOfRange at = tt
 takes_rule rules.DuplicateCase at = tt
 
 pub takes_untyped : (why : Told) → TakesToTell (untyped why)
+takes_untyped NotYet = tt
 takes_untyped (Broken fault) = takes_rule fault.rule fault.at
 takes_untyped (Cyclic names) = tt
 
@@ -205,10 +206,10 @@ pub script_refused : (registered : List Call) (ts : List Token) (items : List It
 script_refused registered ts items e (Ok found) h = tt
 script_refused registered ts items e (Err refusal) h = told_script registered ts items e (refusal_of refusal) h
 
-halt_is : (registered : List Call) (ts : List Token) (fault : ParseFault) (halt : Halt) → module_at (tokens_of ts) ≡ Err halt → fault ≡ fault_of (tokens_of ts) (end_of ts) halt → tokens_checked registered (lexemes ts) ≡ Err (syntactic fault)
+halt_is : (registered : List Call) (ts : List Token) (fault : ParseFault) (halt : Halt) → module_at (tokens_of ts) ≡ Err halt → fault ≡ fault_of (end_of ts) halt → tokens_checked registered (lexemes ts) ≡ Err (syntactic fault)
 unfolding tokens_checked
 halt_is registered ts fault halt e told =
-    let same : fault ≡ fault_of (tokens_in (lexemes ts)) (end_in (lexemes ts)) halt = told ∙ ap (λ (l : Tokens). fault_of l (end_of ts) halt) (seen_tokens ts) ∙ ap (λ n. fault_of (tokens_in (lexemes ts)) n halt) (seen_end ts) in
+    let same : fault ≡ fault_of (end_in (lexemes ts)) halt = told ∙ ap (λ n. fault_of n halt) (seen_end ts) in
     ap (script_checked registered (lexemes ts)) (ap module_at (sym (seen_tokens ts)) ∙ e) ∙ ap (λ (f : ParseFault). Err (syntactic f)) (sym same)
 
 by_fault : (registered : List Call) (ts : List Token) (fault : ParseFault) → TellsFirst FirstSyntaxFault ts fault → (syntactic fault ≡ refusals.NoMemory) ⊎ (tokens_checked registered (lexemes ts) ≡ Err (syntactic fault))

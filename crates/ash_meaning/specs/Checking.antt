@@ -7,7 +7,7 @@ use Rattle.std.specs.List.{AllByRecursion, slice_get}
 use Rattle.ash_lex.specs.Tokens.{Meaning, Lexeme}
 use Rattle.ash_tree.specs.declared.tree.places.Place.{Place}
 use Rattle.ash_tree.specs.Tokens.{Tokens}
-use Rattle.ash_tree.specs.Tree.{Decl, Item, AClass, AFunction, AGlobal}
+use Rattle.ash_tree.specs.Tree.{Decl, Item, AClass, AnInterface, AFunction, AGlobal}
 use Rattle.ash_tree.specs.Grammar.{Derives}
 use Rattle.ash_parse.specs.declared.faults.ParseFault.{ParseFault}
 use Rattle.ash_parse.specs.declared.faults.ParseFault.TheVariants as faults
@@ -19,7 +19,7 @@ use Rattle.ash_registry.specs.Calls.{Call as Registration, takes_name}
 use Rattle.ash_typed.specs.declared.fault.Rule.{Rule}
 use Rattle.ash_typed.specs.declared.fault.Rule.TheVariants as rules
 use Rattle.ash_typed.specs.Modules.{Module}
-use Rattle.ash_check.specs.Checks.{Told, Broken, Cyclic, checked, told_of}
+use Rattle.ash_check.specs.Checks.{Told, NotYet, Broken, Cyclic, checked, told_of}
 use Rattle.ash_check.specs.declared.faults.CheckFault.{CheckFault}
 use Rattle.ash_meaning.specs.Lexing.{Lexes}
 use Rattle.ash_meaning.specs.Scanning.{lexed}
@@ -57,7 +57,7 @@ syntactic faults.NoMemory = refusals.NoMemory
 
 -- the refusal that tells of a fault of tokens
 abbrev pub refusal_at : List Lexeme → Halt → Refusal
-refusal_at tokens halt = syntactic (fault_of (tokens_in tokens) (end_in tokens) halt)
+refusal_at tokens halt = syntactic (fault_of (end_in tokens) halt)
 
 -- the tokens are no script, and are refused for their first fault by the grammar
 pub record IsNoScript (tokens : List Lexeme) (refusal : Refusal) : Type 0 where
@@ -84,6 +84,7 @@ broken_at rules.DuplicateCase at = refusals.DuplicateCase at
 
 -- the refusal that tells what the check of types tells
 abbrev pub untyped : Told → Refusal
+untyped NotYet = refusals.NotYet
 untyped (Broken fault) = broken_at fault.rule fault.at
 untyped (Cyclic names) = refusals.CyclicType names
 
@@ -150,6 +151,7 @@ IsFree registered name = is_some (find (takes_name name) registered) ≡ false
 -- the names that an item has in its module
 abbrev pub declared_in : Item → List (List ℕ)
 declared_in (AClass c) = c.name ∷ []
+declared_in (AnInterface i) = i.name ∷ []
 declared_in (AFunction f) = f.name ∷ []
 declared_in (AGlobal v) = map (λ (d : Decl). d.name) v.decls
 

@@ -6,14 +6,14 @@ use Rattle.ash_lex.specs.declared.signs.Sign.TheVariants as signs
 use Rattle.ash_tree.specs.declared.tree.places.Place.{Place}
 use Rattle.ash_tree.specs.Tree.{Named, Prim, Declaration, ASignature, AProperty}
 use Rattle.ash_tree.specs.Tokens.{Tokens}
-use Rattle.ash_tree.specs.Statements.{IsType}
+use Rattle.ash_tree.specs.Types.{IsType}
 use Rattle.ash_tree.specs.Grammar.{IsResultType, typed, IsUnnamed, unnamed, with_name, AreMoreUnnamed, no_more_unnamed, more_unnamed, AreUnnamed, no_unnamed, some_unnamed, Declares, signature, property}
 use Rattle.ash_parse.specs.Reading.{Unexpected, next_is_sign}
 use Rattle.ash_parse.specs.StatementReader.{is_name, next_is_name, type_at}
 use Rattle.ash_parse.specs.ItemReader.{behind as behind_first, is_left, result_type_at, unnamed_at, next_unnamed_at, more_unnamed_at, unnamed_list_at, unnamed_parameters_at, property_by, declaration_behind, declaration_at}
 use Rattle.ash_parse.specs.Faults.{whole_declaration_at}
 use Rattle.ash_parse.proofs.BeginLaws.{Stopped, Law, Then, Behind, Grows, then, law_as, done, fill_here, stops_here, behind, fill_behind, either, sign_then, name_then, put_law, all_of, nowhere}
-use Rattle.ash_parse.proofs.BeginStatements.{begin_type}
+use Rattle.ash_parse.proofs.BeginTypes.{begin_type}
 use Rattle.ash_parse.proofs.BeginItems.{begin_result_type, stops_with}
 
 -- [NAME], behind a type

@@ -8,17 +8,20 @@ use Rattle.ash_tree.specs.declared.tree.types.Primitive.{Primitive}
 use Rattle.ash_tree.specs.declared.tree.operators.UnaryOp.{UnaryOp}
 use Rattle.ash_tree.specs.declared.tree.operators.BinaryOp.{BinaryOp}
 use Rattle.ash_tree.specs.declared.tree.operators.AssignOp.{AssignOp}
-use Rattle.ash_tree.specs.Tree.{Expr, Number, Truth, Null, This, Name, Call, Brackets, Convert, Unary, Conditional, Assign, Field, Method, Increment, Decrement, place_of, exprs, chained, suffixed}
+use Rattle.ash_tree.specs.Tree.{HandleElement, Expr, Number, Truth, Null, This, Name, Call, Brackets, Convert, NewArray, Cast, Unary, Conditional, Assign, TypeName, Field, Method, Index, Increment, Decrement, place_of, exprs, chained, suffixed}
 use Rattle.ash_tree.specs.Tokens.{Tokens}
 use Rattle.ash_tree.specs.Operators.{primitive, unary_operator, binary_operator, LEVELS, assign_operator}
-use Rattle.ash_tree.specs.Expressions.{IsInner, inner, AreExprs, no_exprs, some_exprs, AreMoreExprs, no_more_exprs, more_exprs, IsArgs, args, IsAssign, no_assign, assign, no_branch, branches, IsBinary, operand, joined, AreLinks, no_links, more_links, IsUnary, applied, postfix, AreSuffixes, no_suffixes, more_suffixes, IsSuffix, field, method, increment, decrement, IsPrimary, numeral, yes, no, null, this, named, call, brackets, convert}
+use Rattle.ash_tree.specs.Types.{IsElement, handle_element}
+use Rattle.ash_tree.specs.Expressions.{IsInner, inner, AreExprs, no_exprs, some_exprs, AreMoreExprs, no_more_exprs, more_exprs, IsArgs, args, IsAssign, no_assign, assign, no_branch, branches, IsBinary, operand, joined, AreLinks, no_links, more_links, IsUnary, applied, postfix, AreSuffixes, no_suffixes, more_suffixes, IsSuffix, field, method, index, increment, decrement, IsPrimary, numeral, yes, no, null, this, named, call, brackets, convert, new_array, cast}
 use Rattle.ash_parse.specs.Signs.{is_sign, same_sign}
 use Rattle.ash_parse.specs.Reading.{Reading, Unexpected, TooDeep, ◌>>=◌, next_is_sign, expect_at}
-use Rattle.ash_parse.specs.ExpressionReader.{Below, begins, limit_at, next_expr_with, more_exprs_with, exprs_with, arguments_with, bracketed_with, named_with, primary_by, primary_with, is_suffix, member_with, suffix_with, suffixes_with, postfix_with, unary_by, unary_with, operator_at, is_link, link_from, link_by, links_by, chain_by, binary_with, branches_with, assign_by, assign_from, assign_with, below_at}
+use Rattle.ash_parse.specs.ExpressionReader.{Below, begins, limit_at, next_expr_with, more_exprs_with, exprs_with, arguments_with, bracketed_with, named_with, new_array_with, cast_with, primary_by, primary_with, is_suffix, member_with, index_with, suffix_with, suffixes_with, postfix_with, unary_by, unary_with, operator_at, is_link, link_from, link_by, links_by, chain_by, binary_with, branches_with, assign_by, assign_from, assign_with, below_at}
+use Rattle.ash_parse.specs.TypeReader.{is_array, element_at, target_at, behind_sign, behind_elem, behind_element}
 use Rattle.ash_parse.specs.StatementReader.{is_vars, is_name, next_is_name}
 use Rattle.ash_parse.proofs.Readings.{sign_is, expect_again}
 use Rattle.ash_parse.proofs.Rereading.{no_some, no_true}
 use Rattle.ash_parse.proofs.ExpressionSound.{IsPart, operator_found}
+use Rattle.ash_parse.proofs.BeginTypes.{begin_element}
 use Rattle.ash_parse.proofs.BeginLaws.{Law, Filled, FilledBy, Explained, Then, Behind, Grows, then, law_as, fill_as, done, fill_here, stopped_at, stops_here, too_deep_at, behind, fill_behind, either, explain_either, sign_then, name_then, put_law, all_of, nowhere, some_name}
 
 -- an operand is an `assign`
@@ -48,11 +51,12 @@ unfolding is_vars next_is_name is_name
 no_vars_prim m p q k ts g = rw g refl
 
 no_vars_unary : (m : Meaning) (p : Place) (o : UnaryOp) (ts : Tokens) → primitive m ≡ None → unary_operator m ≡ Some o → is_vars ((m, p) ∷ ts) ≡ false
-unfolding is_vars is_name unary_operator
+unfolding is_vars is_name is_array unary_operator
 no_vars_unary (name t) p o ts g h = absurd (no_some o h)
 no_vars_unary (number n) p o ts g h = absurd (no_some o h)
 no_vars_unary (sign s) p o ts g h = rw g refl
-no_vars_unary (reserved w) p o ts g h = rw g refl
+no_vars_unary (reserved words.Not) p o ts g h = rw g refl
+no_vars_unary (reserved w) p o ts g h = absurd (no_some o h)
 no_vars_unary (unsupported w) p o ts g h = absurd (no_some o h)
 
 -- a token that begins an expression begins an operand, with a name or with a name in brackets where more is needed
@@ -72,7 +76,7 @@ begins_by depth m p None (Some o) g h b = record {
 begins_by depth m p None None g h b = absurd (no_true b)
 
 begins_unary : (depth : ℕ) (m : Meaning) (p : Place) → begins m ≡ true → FilledBy (m, p) (λ free. IsUnary free depth)
-unfolding begins is_vars next_is_name is_name next_is_sign is_sign same_sign primitive
+unfolding begins is_vars next_is_name is_name is_array behind_element behind_elem behind_sign next_is_sign is_sign same_sign primitive
 begins_unary depth (name text) p b = record {
   text = (sign signs.OpenParenthesis, nowhere) ∷ (sign signs.CloseParenthesis, nowhere) ∷ [];
   tree = Call p text (exprs []);
@@ -90,6 +94,18 @@ begins_unary depth (reserved words.True) p b = record { text = []; tree = Truth 
 begins_unary depth (reserved words.False) p b = record { text = []; tree = Truth p false; is = λ free left big. postfix no no_suffixes; no_vars = λ behind. refl }
 begins_unary depth (reserved words.Null) p b = record { text = []; tree = Null p; is = λ free left big. postfix null no_suffixes; no_vars = λ behind. refl }
 begins_unary depth (reserved words.This) p b = record { text = []; tree = This p; is = λ free left big. postfix this no_suffixes; no_vars = λ behind. refl }
+begins_unary depth (reserved words.Array) p b = record {
+  text = (sign signs.Less, nowhere) ∷ (name some_name, nowhere) ∷ (sign signs.Handle, nowhere) ∷ (sign signs.Greater, nowhere) ∷ (sign signs.OpenParenthesis, nowhere) ∷ (sign signs.CloseParenthesis, nowhere) ∷ [];
+  tree = NewArray p (HandleElement nowhere some_name) (exprs []);
+  is = λ free left big. postfix (new_array handle_element (args no_exprs)) no_suffixes;
+  no_vars = λ behind. refl;
+}
+begins_unary depth (reserved words.Cast) p b = record {
+  text = (sign signs.Less, nowhere) ∷ (name some_name, nowhere) ∷ (sign signs.Greater, nowhere) ∷ (sign signs.OpenParenthesis, nowhere) ∷ (name some_name, nowhere) ∷ (sign signs.CloseParenthesis, nowhere) ∷ [];
+  tree = Cast p (record { place = nowhere; name = some_name }) (Name nowhere some_name);
+  is = λ free left big. postfix (cast (inner_alone (omega arith) (postfix named no_suffixes))) no_suffixes;
+  no_vars = λ behind. refl;
+}
 begins_unary depth m p b = begins_by depth m p (primitive m) (unary_operator m) refl refl b
 
 pub begins_assign : (depth : ℕ) (m : Meaning) (p : Place) → begins m ≡ true → FilledBy (m, p) (λ free. IsAssign free depth)
@@ -121,6 +137,21 @@ pub data IsBracketed : ℕ → ℕ → Tokens → Expr → Tokens → Type 0 whe
 
 converted : {free depth : ℕ} {m : Meaning} {p : Place} {k : Primitive} {from left : Tokens} {e : Expr} → primitive m ≡ Some k → IsBracketed free depth from e left → IsPrimary free depth ((m, p) ∷ from) (Convert p k e) left
 converted g (bracketed i) = convert g i
+
+-- "<" NAME ">"
+pub data IsTarget : Tokens → TypeName → Tokens → Type 0 where
+  target : {o q z : Place} {text : List ℕ} {left : Tokens} → IsTarget ((sign signs.Less, o) ∷ (name text, q) ∷ (sign signs.Greater, z) ∷ left) (record { place = q; name = text }) left
+
+begin_target : (ts : Tokens) → Law (target_at ts) ts (λ free. IsTarget)
+unfolding target_at
+begin_target ts =
+    sign_then _ signs.Less _ ts
+    (λ o r. name_then _ _ r
+    (λ n s. sign_then _ signs.Greater _ s
+    (λ z t. done _ (record { place = n.1; name = n.0 }) t (λ free left. target))))
+
+casted : {free depth : ℕ} {p : Place} {t : TypeName} {from behind left : Tokens} {e : Expr} → IsTarget from t behind → IsBracketed free depth behind e left → IsPrimary free depth ((reserved words.Cast, p) ∷ from) (Cast p t e) left
+casted target (bracketed i) = cast i
 
 module _ (depth : ℕ) (below : Below) (whole : (ts : Tokens) → Law (below true ts) ts (λ free. IsInner free depth)) (part : (ts : Tokens) → Law (below false ts) ts (λ free. IsPart free depth)) where
   next_expr : (ts : Tokens) → Law (next_expr_with below ts) ts (Grows (λ free. AreMoreExprs free depth))
@@ -185,6 +216,20 @@ module _ (depth : ℕ) (below : Below) (whole : (ts : Tokens) → Law (below tru
       (behind _ (sign signs.OpenParenthesis, p) _ ts (then Closed _ (below true ts >>= λ e. expect_at signs.CloseParenthesis e.1 >>= λ z. Ok (e.0, z.1)) _ ts (closed ts)
       (λ e r. done _ (Brackets p e) r (λ free left before d. brackets d.1))))
 
+  begin_new_array : (p : Place) (ts : Tokens) → Law (new_array_with below p ts) ts (Behind (reserved words.Array, p) (λ free. IsPrimary free depth))
+  unfolding new_array_with
+  begin_new_array p ts =
+      then (λ free. IsElement) _ (element_at ts) _ ts (begin_element ts)
+      (λ of r. then (λ free. IsArgs free depth) _ (arguments_with below r) _ r (begin_args r)
+      (λ es s. done _ (NewArray p of (exprs es)) s (λ free left middle a before d. new_array d a)))
+
+  begin_cast : (p : Place) (ts : Tokens) → Law (cast_with below p ts) ts (Behind (reserved words.Cast, p) (λ free. IsPrimary free depth))
+  unfolding cast_with
+  begin_cast p ts =
+      then (λ free. IsTarget) _ (target_at ts) _ ts (begin_target ts)
+      (λ t r. then (λ free. IsBracketed free depth) _ (bracketed_with below r) _ r (begin_bracketed r)
+      (λ e s. done _ (Cast p t e) s (λ free left middle b before d. casted d b)))
+
   primary_by_begins : (k : Option Primitive) (m : Meaning) (p : Place) (ts : Tokens) → primitive m ≡ k → Law (primary_by below k m p ts) ((m, p) ∷ ts) (λ free. IsPrimary free depth)
   primary_by_begins (Some k) m p ts g =
       behind _ (m, p) _ ts (then (λ free. IsBracketed free depth) _ (bracketed_with below ts) _ ts (begin_bracketed ts)
@@ -196,6 +241,8 @@ module _ (depth : ℕ) (below : Below) (whole : (ts : Tokens) → Law (below tru
   primary_by_begins None (reserved words.False) p ts g = behind _ (reserved words.False, p) _ ts (done _ (Truth p false) ts (λ free left. no))
   primary_by_begins None (reserved words.Null) p ts g = behind _ (reserved words.Null, p) _ ts (done _ (Null p) ts (λ free left. null))
   primary_by_begins None (reserved words.This) p ts g = behind _ (reserved words.This, p) _ ts (done _ (This p) ts (λ free left. this))
+  primary_by_begins None (reserved words.Array) p ts g = behind _ (reserved words.Array, p) _ ts (begin_new_array p ts)
+  primary_by_begins None (reserved words.Cast) p ts g = behind _ (reserved words.Cast, p) _ ts (begin_cast p ts)
   primary_by_begins None m p ts g = stops_here (λ free. IsPrimary free depth) ((m, p) ∷ ts) (fill_primary depth)
 
   begin_primary : (ts : Tokens) → Law (primary_with below ts) ts (λ free. IsPrimary free depth)
@@ -212,6 +259,13 @@ module _ (depth : ℕ) (below : Below) (whole : (ts : Tokens) → Law (below tru
       (λ es s. done _ (Method n.1 n.0 (exprs es)) s (λ free left before d. method d)))
       (done _ (Field n.1 n.0) r (λ free left. field)))
 
+  begin_index : (p : Place) (ts : Tokens) → Law (index_with below ts) ts (Behind (sign signs.OpenBracket, p) (λ free. IsSuffix free depth))
+  unfolding index_with
+  begin_index p ts =
+      then (λ free. IsInner free depth) _ (below true ts) _ ts (whole ts)
+      (λ e r. sign_then _ signs.CloseBracket _ r
+      (λ q s. done _ (Index e) s (λ free left before d. index d)))
+
   fill_suffix : Filled (λ free. IsSuffix free depth)
   fill_suffix = fill_behind _ (sign signs.Increment, nowhere) (fill_here _ Increment (λ free left. increment))
 
@@ -219,6 +273,7 @@ module _ (depth : ℕ) (below : Below) (whole : (ts : Tokens) → Law (below tru
   unfolding suffix_with
   begin_suffix [] = stops_here (λ free. IsSuffix free depth) [] fill_suffix
   begin_suffix ((sign signs.Dot, p) ∷ ts) = behind _ (sign signs.Dot, p) _ ts (begin_member p ts)
+  begin_suffix ((sign signs.OpenBracket, p) ∷ ts) = behind _ (sign signs.OpenBracket, p) _ ts (begin_index p ts)
   begin_suffix ((sign signs.Increment, p) ∷ ts) = behind _ (sign signs.Increment, p) _ ts (done _ Increment ts (λ free left. increment))
   begin_suffix ((sign signs.Decrement, p) ∷ ts) = behind _ (sign signs.Decrement, p) _ ts (done _ Decrement ts (λ free left. decrement))
   begin_suffix ((m, p) ∷ ts) = stops_here (λ free. IsSuffix free depth) ((m, p) ∷ ts) fill_suffix

@@ -6,22 +6,24 @@ use Rattle.ash_lex.specs.Tokens.{Meaning, name, sign, reserved}
 use Rattle.ash_lex.specs.declared.signs.Sign.TheVariants as signs
 use Rattle.ash_lex.specs.declared.words.ReservedWord.TheVariants as words
 use Rattle.ash_tree.specs.declared.tree.places.Place.{Place}
-use Rattle.ash_tree.specs.Tree.{Parameter, AMethod, AField, AConstructor, Item, AClass, AFunction, AGlobal}
+use Rattle.ash_tree.specs.Tree.{Parameter, AMethod, AField, AConstructor, Item, AClass, AnInterface, AFunction, AGlobal}
 use Rattle.ash_tree.specs.Tokens.{Tokens}
 use Rattle.ash_tree.specs.Expressions.{DEPTH}
-use Rattle.ash_tree.specs.Statements.{IsType, IsVars, IsBlock}
-use Rattle.ash_tree.specs.Grammar.{IsResultType, void, typed, IsParameter, parameter, AreMoreParameters, no_more_parameters, more_parameters, AreParameters, no_parameters, parameters, IsFunction, function, IsMember, method, fields, constructor, AreMembers, no_members, more_members, IsClass, class, IsItem, a_class, a_function, globals, Derives, no_items, semicolon, item}
+use Rattle.ash_tree.specs.Types.{IsType}
+use Rattle.ash_tree.specs.Statements.{IsVars, IsBlock}
+use Rattle.ash_tree.specs.Grammar.{IsResultType, void, typed, IsParameter, parameter, AreMoreParameters, no_more_parameters, more_parameters, AreParameters, no_parameters, parameters, IsFunction, function, IsMember, method, fields, constructor, AreMembers, no_members, more_members, IsClass, class, IsItem, a_class, a_function, globals, Derives, no_items, semicolon, item, AreMoreInterfaces, no_more_interfaces, more_interfaces, AreInterfaces, no_interfaces, interfaces, IsInterfaceMethod, interface_method, AreInterfaceMethods, no_interface_methods, more_interface_methods, IsInterface, interface, an_interface}
 use Rattle.ash_parse.specs.Signs.{is_sign}
 use Rattle.ash_parse.specs.Reading.{Halt, Unexpected, TooDeep, Reading, ◌>>=◌, next_is_sign}
 use Rattle.ash_parse.specs.ExpressionReader.{below_at}
 use Rattle.ash_parse.specs.StatementReader.{type_at, is_vars, goes_on, nested_at}
-use Rattle.ash_parse.specs.ItemReader.{is_void, is_class, result_type_at, parameter_at, next_parameter_at, more_parameters_at, parameter_list_at, parameters_at, body_at, function_at, globals_at, is_function, is_constructor, constructor_at, member_at, members_at, class_at, item_at, strip, entry_at, is_left, entries_at, module_at}
+use Rattle.ash_parse.specs.ItemReader.{is_void, is_class, is_interface, result_type_at, parameter_at, next_parameter_at, more_parameters_at, parameter_list_at, parameters_at, body_at, function_at, globals_at, is_function, is_constructor, constructor_at, member_at, members_at, next_interface_at, more_interfaces_at, listed_interfaces_at, interfaces_at, class_at, interface_method_at, interface_methods_at, interface_at, other_item_at, item_at, strip, entry_at, is_left, entries_at, module_at}
 use Rattle.ash_parse.proofs.Readings.{sign_is}
-use Rattle.ash_parse.proofs.ItemSound.{void_is, class_is}
+use Rattle.ash_parse.proofs.ItemSound.{void_is, class_is, interface_is}
 use Rattle.ash_parse.proofs.StatementSound.{nested_sound}
 use Rattle.ash_parse.proofs.BeginLaws.{left_at, GoesOn, Stopped, Law, Filled, Explained, Then, Behind, Grows, Ending, then, law_as, done, fill_here, stops_here, behind, fill_behind, either, explain_either, sign_then, name_then, put_law, all_of, nowhere, some_name}
 use Rattle.ash_parse.proofs.BeginExpressions.{begin_whole, begin_part}
-use Rattle.ash_parse.proofs.BeginStatements.{begin_type, begin_declared, begin_block, begin_nested}
+use Rattle.ash_parse.proofs.BeginTypes.{begin_type}
+use Rattle.ash_parse.proofs.BeginStatements.{begin_declared, begin_block, begin_nested}
 
 fill_result : Filled (λ free. IsResultType)
 fill_result = fill_behind _ (reserved words.Void, nowhere) (fill_here _ None (λ free left. void))
@@ -118,20 +120,75 @@ begin_members ts =
     all_of goes_on member_at AreMembers (λ free left. no_members)
     (λ s b. (law_as IsMember (Grows AreMembers) (λ free from x left d xs end more. more_members d more) (member_at s) s (begin_member s)).explained) (length ts) ts
 
+begin_next_interface : (ts : Tokens) → Law (next_interface_at ts) ts (Grows (λ free. AreMoreInterfaces))
+unfolding next_interface_at
+begin_next_interface ts =
+    sign_then _ signs.Comma _ ts
+    (λ p r. name_then _ _ r
+    (λ n s. done _ (record { place = n.1; name = n.0 }) s (λ free left xs end more. more_interfaces more)))
+
+begin_more_interfaces : (ts : Tokens) → Law (more_interfaces_at ts) ts (λ free. AreMoreInterfaces)
+unfolding more_interfaces_at
+begin_more_interfaces ts = all_of (next_is_sign signs.Comma) next_interface_at (λ free. AreMoreInterfaces) (λ free left. no_more_interfaces) (λ s b. (begin_next_interface s).explained) (length ts) ts
+
+begin_listed_interfaces : (p : Place) (ts : Tokens) → Law (listed_interfaces_at ts) ts (Behind (sign signs.Colon, p) (λ free. AreInterfaces))
+unfolding listed_interfaces_at
+begin_listed_interfaces p ts =
+    name_then _ _ ts
+    (λ n r. put_law (λ free. AreMoreInterfaces) _ (record { place = n.1; name = n.0 }) (λ free from xs left more. interfaces more) (more_interfaces_at r) r (begin_more_interfaces r))
+
+begin_interfaces : (ts : Tokens) → Law (interfaces_at ts) ts (λ free. AreInterfaces)
+unfolding interfaces_at
+begin_interfaces ts =
+    either (next_is_sign signs.Colon ts) _ _ ts _
+    (sign_then _ signs.Colon _ ts begin_listed_interfaces)
+    (done _ [] ts (λ free left. no_interfaces))
+
 begin_class : (p : Place) (ts : Tokens) → Law (class_at ts) ts (Behind (reserved words.Class, p) IsClass)
 unfolding class_at
 begin_class p ts =
     name_then _ _ ts
+    (λ n a. then (λ free. AreInterfaces) _ (interfaces_at a) _ a (begin_interfaces a)
+    (λ is b. sign_then _ signs.OpenBrace _ b
+    (λ o c. then AreMembers _ (members_at c) _ c (begin_members c)
+    (λ xs d. sign_then _ signs.CloseBrace _ d
+    (λ z e. done _ (record { place = n.1; name = n.0; interfaces = is; members = xs }) e (λ free left before ms first i. class i ms))))))
+
+begin_interface_method : (ts : Tokens) → Law (interface_method_at ts) ts (λ free. IsInterfaceMethod)
+unfolding interface_method_at
+begin_interface_method ts =
+    then (λ free. IsResultType) _ (result_type_at ts) _ ts (begin_result_type ts)
+    (λ r a. name_then _ _ a
+    (λ n b. then (λ free. AreParameters) _ (parameters_at b) _ b (begin_parameters b)
+    (λ xs c. sign_then _ signs.Semicolon _ c
+    (λ z d. done _ (record { place = n.1; result = r; name = n.0; parameters = xs }) d (λ free left second ps first t. interface_method t ps)))))
+
+begin_interface_methods : (ts : Tokens) → Law (interface_methods_at ts) ts (λ free. AreInterfaceMethods)
+unfolding interface_methods_at
+begin_interface_methods ts =
+    all_of goes_on interface_method_at (λ free. AreInterfaceMethods) (λ free left. no_interface_methods)
+    (λ s b. (law_as (λ free. IsInterfaceMethod) (Grows (λ free. AreInterfaceMethods)) (λ free from x left d xs end more. more_interface_methods d more) (interface_method_at s) s (begin_interface_method s)).explained) (length ts) ts
+
+begin_interface : (p : Place) (ts : Tokens) → Law (interface_at ts) ts (Behind (reserved words.Interface, p) (λ free. IsInterface))
+unfolding interface_at
+begin_interface p ts =
+    name_then _ _ ts
     (λ n a. sign_then _ signs.OpenBrace _ a
-    (λ o b. then AreMembers _ (members_at b) _ b (begin_members b)
+    (λ o b. then (λ free. AreInterfaceMethods) _ (interface_methods_at b) _ b (begin_interface_methods b)
     (λ xs c. sign_then _ signs.CloseBrace _ c
-    (λ z d. done _ (record { place = n.1; name = n.0; members = xs }) d (λ free left before ms. class ms)))))
+    (λ z d. done _ (record { place = n.1; name = n.0; methods = xs }) d (λ free left before ms. interface ms)))))
 
 -- a class without members
 fill_item : Filled IsItem
 fill_item =
     fill_behind _ (reserved words.Class, nowhere) (fill_behind _ (name some_name, nowhere) (fill_behind _ (sign signs.OpenBrace, nowhere) (fill_behind _ (sign signs.CloseBrace, nowhere)
-    (fill_here _ (AClass (record { place = nowhere; name = some_name; members = [] })) (λ free left. a_class (class no_members))))))
+    (fill_here _ (AClass (record { place = nowhere; name = some_name; interfaces = []; members = [] })) (λ free left. a_class (class no_interfaces no_members))))))
+
+begin_other_item : (ts : Tokens) → Law (other_item_at ts) ts IsItem
+begin_other_item ts =
+    either (is_function ts) (function_at ts >>= λ f. Ok (AFunction f.0, f.1)) (globals_at ts >>= λ v. Ok (AGlobal v.0, v.1)) ts IsItem
+    (then IsFunction _ (function_at ts) _ ts (begin_function ts) (λ f r. done _ (AFunction f) r (λ free left before d. a_function d)))
+    (then (Ending signs.Semicolon (λ free. IsVars free 0)) _ (globals_at ts) _ ts (begin_globals ts) (λ v r. done _ (AGlobal v) r (λ free left before d. globals d.1)))
 
 begin_item : (ts : Tokens) → Law (item_at ts) ts IsItem
 unfolding item_at
@@ -139,12 +196,13 @@ begin_item [] = stops_here IsItem [] fill_item
 begin_item ((m, p) ∷ ts) =
     let u : Tokens = (m, p) ∷ ts in
     record {
-      explained = explain_either (is_class m) (class_at ts >>= λ c. Ok (AClass c.0, c.1)) (cond (is_function u) (function_at u >>= λ f. Ok (AFunction f.0, f.1)) (globals_at u >>= λ v. Ok (AGlobal v.0, v.1))) u IsItem
+      explained = explain_either (is_class m) (class_at ts >>= λ c. Ok (AClass c.0, c.1)) (cond (is_interface m) (interface_at ts >>= λ i. Ok (AnInterface i.0, i.1)) (other_item_at u)) u IsItem
           (λ b. subst (λ w. Explained (class_at ts >>= λ c. Ok (AClass c.0, c.1)) ((w, p) ∷ ts) IsItem) (sym (class_is m b))
           (behind IsItem (reserved words.Class, p) (class_at ts >>= λ c. Ok (AClass c.0, c.1)) ts (then (Behind (reserved words.Class, p) IsClass) _ (class_at ts) _ ts (begin_class p ts) (λ c r. done _ (AClass c) r (λ free left before d. a_class d)))).explained)
-          (λ b. (either (is_function u) (function_at u >>= λ f. Ok (AFunction f.0, f.1)) (globals_at u >>= λ v. Ok (AGlobal v.0, v.1)) u IsItem
-          (then IsFunction _ (function_at u) _ u (begin_function u) (λ f r. done _ (AFunction f) r (λ free left before d. a_function d)))
-          (then (Ending signs.Semicolon (λ free. IsVars free 0)) _ (globals_at u) _ u (begin_globals u) (λ v r. done _ (AGlobal v) r (λ free left before d. globals d.1)))).explained);
+          (λ b. explain_either (is_interface m) (interface_at ts >>= λ i. Ok (AnInterface i.0, i.1)) (other_item_at u) u IsItem
+          (λ c. subst (λ w. Explained (interface_at ts >>= λ i. Ok (AnInterface i.0, i.1)) ((w, p) ∷ ts) IsItem) (sym (interface_is m c))
+          (behind IsItem (reserved words.Interface, p) (interface_at ts >>= λ i. Ok (AnInterface i.0, i.1)) ts (then (Behind (reserved words.Interface, p) (λ free. IsInterface)) _ (interface_at ts) _ ts (begin_interface p ts) (λ i r. done _ (AnInterface i) r (λ free left before d. an_interface d)))).explained)
+          (λ c. (begin_other_item u).explained));
       filled = fill_item;
     }
 

@@ -1,44 +1,30 @@
 -- What stands before the place where the reading of a type, of variables or of a statement stops begins one.
-use Rattle.std.proofs.Common.{◌≡◌, ℕ, zero, suc, ◌+◌, ◌≤◌, List, [], ◌∷◌, ◌++◌, Bool, true, false, cond, Option, Some, None, Ok, Err, refl, sym, ap, subst, append_assoc, length, arith}
+use Rattle.std.proofs.Common.{◌≡◌, ℕ, zero, suc, ◌+◌, ◌≤◌, List, [], ◌∷◌, ◌++◌, Bool, true, false, cond, Some, None, Ok, Err, refl, sym, ap, subst, append_assoc, length, arith}
 use Rattle.ash_lex.specs.Tokens.{Meaning, name, number, sign, reserved, unsupported}
 use Rattle.ash_lex.specs.declared.signs.Sign.TheVariants as signs
 use Rattle.ash_lex.specs.declared.words.ReservedWord.TheVariants as words
 use Rattle.ash_tree.specs.declared.tree.places.Place.{Place}
-use Rattle.ash_tree.specs.declared.tree.types.Primitive.{Primitive}
 use Rattle.ash_tree.specs.declared.tree.statements.Label.{Label}
 use Rattle.ash_tree.specs.declared.tree.statements.Label.TheVariants as labels
-use Rattle.ash_tree.specs.Tree.{Named, Prim, Object, Handle, Expr, Name, Initializer, Default, Value, Arguments, Decl, Stmt, Empty, Declare, Evaluate, Block, If, IfElse, While, DoWhile, For, Switch, Break, Continue, Return, Case, labelled, place_of, place_of_type, stmts, cases}
+use Rattle.ash_tree.specs.Tree.{Named, Expr, Name, Initializer, Default, Value, Arguments, Decl, Stmt, Empty, Declare, Evaluate, Block, If, IfElse, While, DoWhile, For, Switch, Break, Continue, Return, Case, labelled, place_of, place_of_type, stmts, cases}
 use Rattle.ash_tree.specs.Tokens.{Tokens}
 use Rattle.ash_tree.specs.Operators.{primitive}
 use Rattle.ash_tree.specs.Expressions.{IsInner, AreExprs, no_exprs, IsArgs, IsAssign, named, postfix, no_suffixes}
-use Rattle.ash_tree.specs.Statements.{IsType, prim, object, handle, IsDecl, bare, valued, made, AreMoreDecls, no_more_decls, more_decls, IsVars, vars, IsFirst, no_first, first_vars, first_expr, IsTest, no_test, test, IsResult, no_result, value, IsLabel, case, case_minus, default, is_open, IsNested, nested, AreLocals, no_locals, local_vars, local_stmt, IsBlock, block, IsStmt, inner_block, empty, evaluate, if_only, if_else, while, do_while, for, switch, break, continue, return, AreCases, no_cases, more_cases, AreStmts, no_stmts, more_stmts}
+use Rattle.ash_tree.specs.Types.{IsType}
+use Rattle.ash_tree.specs.Statements.{IsDecl, bare, valued, made, AreMoreDecls, no_more_decls, more_decls, IsVars, vars, IsFirst, no_first, first_vars, first_expr, IsTest, no_test, test, IsResult, no_result, value, IsLabel, case, case_minus, default, is_open, IsNested, nested, AreLocals, no_locals, local_vars, local_stmt, IsBlock, block, IsStmt, inner_block, empty, evaluate, if_only, if_else, while, do_while, for, switch, break, continue, return, AreCases, no_cases, more_cases, AreStmts, no_stmts, more_stmts}
 use Rattle.ash_parse.specs.declared.statements.Leading.{Leading}
 use Rattle.ash_parse.specs.declared.statements.Leading.TheVariants as leads
 use Rattle.ash_parse.specs.Reading.{Reading, Unexpected, TooDeep, ◌>>=◌, next_is_sign, expect_at}
 use Rattle.ash_parse.specs.ExpressionReader.{Below, begins, arguments_with, bracketed_with, exprs_with, assign_with, below_at}
-use Rattle.ash_parse.specs.StatementReader.{Nested, is_name, type_by, type_at, is_vars, initializer_with, decl_with, next_decl_with, more_decls_with, decls_with, vars_with, declared_with, first_with, test_with, result_with, leading, begins_by, begins_stmt, stmt_limit_at, goes_on, case_goes_on, evaluate_with, is_else, else_with, if_with, while_with, is_while, while_at, do_with, for_with, number_at, case_value_at, label_by, label_at, stmts_with, case_with, cases_with, switch_with, local_with, locals_with, block_with, stmt_by, stmt_with, nested_at}
+use Rattle.ash_parse.specs.TypeReader.{is_array}
+use Rattle.ash_parse.specs.StatementReader.{Nested, is_name, type_at, is_vars, initializer_with, decl_with, next_decl_with, more_decls_with, decls_with, vars_with, declared_with, first_with, test_with, result_with, leading, begins_by, begins_stmt, stmt_limit_at, goes_on, case_goes_on, evaluate_with, is_else, else_with, if_with, while_with, is_while, while_at, do_with, for_with, number_at, case_value_at, label_by, label_at, stmts_with, case_with, cases_with, switch_with, local_with, locals_with, block_with, stmt_by, stmt_with, nested_at}
 use Rattle.ash_parse.proofs.Readings.{expect_again}
 use Rattle.ash_parse.proofs.Rereading.{no_true}
 use Rattle.ash_parse.proofs.ExpressionSound.{IsPart}
 use Rattle.ash_parse.proofs.StatementSound.{Closes, Leads, leads_to, while_leads, else_leads, nested_sound}
 use Rattle.ash_parse.proofs.BeginLaws.{Law, Filled, FilledBy, Explained, Then, Behind, Grows, Ending, then, explain_then, fill_then, law_as, done, done_at, fill_here, stopped_at, stops_here, too_deep_at, behind, fill_behind, explain_behind, either, explain_either, sign_then, name_then, ending, put_law, all_of, nowhere, some_name}
+use Rattle.ash_parse.proofs.BeginTypes.{begin_type}
 use Rattle.ash_parse.proofs.BeginExpressions.{IsBracketed, bracketed, inner_alone, begins_assign, begin_exprs, begin_args, begin_bracketed, begin_assign, begin_whole, begin_part}
-
-fill_type : Filled (λ free. IsType)
-fill_type = fill_behind _ (name some_name, nowhere) (fill_here _ (Object nowhere some_name) (λ free left. object))
-
-begin_type_by : (k : Option Primitive) (m : Meaning) (p : Place) (ts : Tokens) → primitive m ≡ k → Law (type_by k m p ts) ((m, p) ∷ ts) (λ free. IsType)
-begin_type_by (Some k) m p ts g = behind _ (m, p) _ ts (done _ (Prim p k) ts (λ free left. prim g))
-begin_type_by None (name t) p ts g =
-    behind _ (name t, p) _ ts (either (next_is_sign signs.Handle ts) _ _ ts _
-    (sign_then _ signs.Handle _ ts (λ q r. done _ (Handle p t) r (λ free left. handle)))
-    (done _ (Object p t) ts (λ free left. object)))
-begin_type_by None m p ts g = stops_here (λ free. IsType) ((m, p) ∷ ts) fill_type
-
-pub begin_type : (ts : Tokens) → Law (type_at ts) ts (λ free. IsType)
-unfolding type_at
-begin_type [] = stops_here (λ free. IsType) [] fill_type
-begin_type ((m, p) ∷ ts) = begin_type_by (primitive m) m p ts refl
 
 -- decl { "," decl }
 data AreDecls : ℕ → ℕ → Tokens → List Decl → Tokens → Type 0 where
@@ -368,7 +354,7 @@ Begun : ℕ → Place → Meaning → Type 0
 Begun depth p m = FilledBy (m, p) (λ free. IsStmt free depth)
 
 leads_stmt : (depth : ℕ) (k : Leading) (m : Meaning) (p : Place) → Leads k m → begins_by k (begins m) ≡ true → Begun depth p m
-unfolding Begun is_vars is_name primitive
+unfolding Begun is_vars is_name is_array primitive
 leads_stmt depth leads.Block m p d b = subst (Begun depth p) (sym d) (record { text = (sign signs.CloseBrace, nowhere) ∷ []; tree = Block p (stmts []); is = λ free left big. inner_block (block no_locals); no_vars = λ behind. refl })
 leads_stmt depth leads.Empty m p d b = subst (Begun depth p) (sym d) (record { text = []; tree = Empty p; is = λ free left big. empty; no_vars = λ behind. refl })
 leads_stmt depth leads.If m p d b = subst (Begun depth p) (sym d) (record { text = name_text semicolon_text; tree = If p (Name nowhere some_name) (Empty nowhere); is = λ free left big. if_only (name_inside _ (omega arith)) (empty_nested left (omega arith)); no_vars = λ behind. refl })

@@ -9,14 +9,17 @@ use Rattle.ash_tree.specs.declared.tree.types.Primitive.{Primitive}
 use Rattle.ash_tree.specs.declared.tree.operators.UnaryOp.{UnaryOp}
 use Rattle.ash_tree.specs.declared.tree.operators.BinaryOp.{BinaryOp}
 use Rattle.ash_tree.specs.declared.tree.operators.AssignOp.{AssignOp}
-use Rattle.ash_tree.specs.Tree.{Expr, Name, Call, Brackets, Convert, Unary, Conditional, Assign, Suffix, Field, Method, Operation, place_of, exprs, chained, suffixed}
+use Rattle.ash_tree.specs.Tree.{Element, Expr, Name, Call, Brackets, Convert, NewArray, Cast, Unary, Conditional, Assign, Suffix, Field, Method, Index, Operation, place_of, exprs, chained, suffixed}
 use Rattle.ash_tree.specs.Tokens.{Tokens}
 use Rattle.ash_tree.specs.Operators.{primitive, unary_operator, binary_operator, level, LEVELS, assign_operator}
-use Rattle.ash_tree.specs.Expressions.{DEPTH, IsInner, inner, AreExprs, no_exprs, some_exprs, AreMoreExprs, no_more_exprs, more_exprs, IsArgs, args, IsAssign, no_assign, assign, IsCond, no_branch, branches, IsBinary, operand, joined, AreLinks, no_links, more_links, IsUnary, applied, postfix, AreSuffixes, no_suffixes, more_suffixes, IsSuffix, field, method, increment, decrement, IsPrimary, numeral, yes, no, null, this, named, call, brackets, convert}
+use Rattle.ash_tree.specs.Types.{IsElement}
+use Rattle.ash_tree.specs.Expressions.{DEPTH, IsInner, inner, AreExprs, no_exprs, some_exprs, AreMoreExprs, no_more_exprs, more_exprs, IsArgs, args, IsAssign, no_assign, assign, IsCond, no_branch, branches, IsBinary, operand, joined, AreLinks, no_links, more_links, IsUnary, applied, postfix, AreSuffixes, no_suffixes, more_suffixes, IsSuffix, field, method, index, increment, decrement, IsPrimary, numeral, yes, no, null, this, named, call, brackets, convert, new_array, cast}
 use Rattle.ash_parse.specs.Signs.{is_sign, same_sign}
 use Rattle.ash_parse.specs.Reading.{next_is, next_is_sign}
-use Rattle.ash_parse.specs.ExpressionReader.{Below, begins, next_expr_with, more_exprs_with, exprs_with, arguments_with, bracketed_with, named_with, primary_with, begins_suffix, is_suffix, member_with, suffix_with, suffixes_with, postfix_with, unary_with, operator_at, is_link, link_by, links_by, chain_by, binary_with, branches_with, assign_from, assign_with, limit_at, below_at}
+use Rattle.ash_parse.specs.ExpressionReader.{Below, begins, next_expr_with, more_exprs_with, exprs_with, arguments_with, bracketed_with, named_with, new_array_with, cast_with, primary_with, begins_suffix, is_suffix, member_with, index_with, suffix_with, suffixes_with, postfix_with, unary_with, operator_at, is_link, link_by, links_by, chain_by, binary_with, branches_with, assign_from, assign_with, limit_at, below_at}
+use Rattle.ash_parse.specs.TypeReader.{target_at}
 use Rattle.ash_parse.proofs.Readings.{expect_again, next_is_sign-again, name_again}
+use Rattle.ash_parse.proofs.Elements.{element_read}
 use Rattle.ash_parse.proofs.ExpressionShorter.{inner_shorter, binary_shorter, suffix_shorter}
 use Rattle.ash_parse.proofs.Rereading.{no_some, no_true, Reads, whole, cut, as_read, then_reads, put_reads, ReadsAll, none_again, one_again}
 
@@ -27,6 +30,7 @@ Stops n left = (next_is_sign signs.OpenParenthesis left ≡ false) × (is_suffix
 -- what stands behind a whole expression
 unfoldable pub ends_expr : Meaning → Bool
 ends_expr (sign signs.CloseParenthesis) = true
+ends_expr (sign signs.CloseBracket) = true
 ends_expr (sign signs.Comma) = true
 ends_expr (sign signs.Colon) = true
 ends_expr (sign signs.Semicolon) = true
@@ -44,6 +48,7 @@ fewer_stop n left s = (s.0, s.1, λ k l. s.2 k (omega arith))
 operator_plain : (m : Meaning) (o : BinaryOp) → binary_operator m ≡ Some o → (is_sign signs.OpenParenthesis m ≡ false) × (begins_suffix m ≡ false)
 unfolding is_sign same_sign begins_suffix binary_operator
 operator_plain (sign signs.OpenParenthesis) o h = absurd (no_some o h)
+operator_plain (sign signs.OpenBracket) o h = absurd (no_some o h)
 operator_plain (sign signs.Dot) o h = absurd (no_some o h)
 operator_plain (sign signs.Increment) o h = absurd (no_some o h)
 operator_plain (sign signs.Decrement) o h = absurd (no_some o h)
@@ -59,6 +64,7 @@ link_stops n m p ts o h l =
 ends_plain : (m : Meaning) → ends_expr m ≡ true → (is_sign signs.OpenParenthesis m ≡ false) × (begins_suffix m ≡ false) × (binary_operator m ≡ None) × (is_sign signs.Question m ≡ false) × (assign_operator m ≡ None)
 unfolding is_sign same_sign begins_suffix binary_operator assign_operator ends_expr
 ends_plain (sign signs.CloseParenthesis) h = (refl, refl, refl, refl, refl)
+ends_plain (sign signs.CloseBracket) h = (refl, refl, refl, refl, refl)
 ends_plain (sign signs.Comma) h = (refl, refl, refl, refl, refl)
 ends_plain (sign signs.Colon) h = (refl, refl, refl, refl, refl)
 ends_plain (sign signs.Semicolon) h = (refl, refl, refl, refl, refl)
@@ -116,6 +122,7 @@ unfolding next_is_sign is_sign same_sign
 suffixes_open no_suffixes s = s
 suffixes_open (more_suffixes field b) s = refl
 suffixes_open (more_suffixes (method a) b) s = refl
+suffixes_open (more_suffixes (index a) b) s = refl
 suffixes_open (more_suffixes increment b) s = refl
 suffixes_open (more_suffixes decrement b) s = refl
 
@@ -127,6 +134,7 @@ suffix_begins : {free depth : ℕ} {from left : Tokens} {s : Suffix} → IsSuffi
 unfolding is_suffix begins_suffix
 suffix_begins field = refl
 suffix_begins (method a) = refl
+suffix_begins (index a) = refl
 suffix_begins increment = refl
 suffix_begins decrement = refl
 
@@ -164,6 +172,8 @@ primary_begins named = refl
 primary_begins (call a) = refl
 primary_begins (brackets a) = refl
 primary_begins (convert {m = m} {to = to} k a) = (primitive_begins m to k).0
+primary_begins (new_array a b) = refl
+primary_begins (cast a) = refl
 
 unary_phrase_begins : {free depth : ℕ} {from left : Tokens} {e : Expr} → IsUnary free depth from e left → next_is begins from ≡ true
 unary_phrase_begins (applied {m = m} {operator = operator} o w a) = unary_begins m operator o
@@ -207,6 +217,12 @@ primary_alone below named = refl
 primary_alone below (call a) = refl
 primary_alone below (brackets a) = refl
 primary_alone below (convert {m = m} {to = to} k a) = rw ((primitive_begins m to k).1) refl
+primary_alone below (new_array a b) = refl
+primary_alone below (cast a) = refl
+
+target_again : (o q z : Place) (text : List ℕ) (left : Tokens) → target_at ((sign signs.Less, o) ∷ (name text, q) ∷ (sign signs.Greater, z) ∷ left) ≡ Ok (record { place = q; name = text }, left)
+unfolding target_at
+target_again o q z text left = rw (expect_again signs.Less o ((name text, q) ∷ (sign signs.Greater, z) ∷ left), name_again text q ((sign signs.Greater, z) ∷ left), expect_again signs.Greater z left) refl
 
 module _ (below : Below) where
   exprs_none : (left : Tokens) → Closes left → exprs_with below left ≡ Ok ([], left)
@@ -273,6 +289,10 @@ module _ (below : Below) where
   unfolding suffix_with member_with
   method_again p q o text from left es h = rw (name_again text q ((sign signs.OpenParenthesis, o) ∷ from), next_is_sign-again signs.OpenParenthesis o from) (then_reads _ h whole)
 
+  index_again : {free : ℕ} (p q : Place) (from left : Tokens) (e : Expr) → Reads Expr free (below true from) (e, (sign signs.CloseBracket, q) ∷ left) → Reads Suffix free (suffix_with below ((sign signs.OpenBracket, p) ∷ from)) (Index e, left)
+  unfolding suffix_with index_with
+  index_again p q from left e h = then_reads _ h (rw (expect_again signs.CloseBracket q left) whole)
+
   named_again : (p : Place) (text : List ℕ) (left : Tokens) → next_is_sign signs.OpenParenthesis left ≡ false → primary_with below ((name text, p) ∷ left) ≡ Ok (Name p text, left)
   unfolding primary_with named_with primitive
   named_again p text left s = rw s refl
@@ -288,6 +308,14 @@ module _ (below : Below) where
   convert_again : {free : ℕ} (m : Meaning) (k : Primitive) (p q r : Place) (from left : Tokens) (e : Expr) → primitive m ≡ Some k → Reads Expr free (below true from) (e, (sign signs.CloseParenthesis, r) ∷ left) → Reads Expr free (primary_with below ((m, p) ∷ (sign signs.OpenParenthesis, q) ∷ from)) (Convert p k e, left)
   unfolding primary_with
   convert_again m k p q r from left e o h = rw o (then_reads _ (bracketed_again q r from left e h) whole)
+
+  new_array_again : {free : ℕ} (p : Place) (of : Element) (from behind left : Tokens) (es : List Expr) → IsElement from of behind → Reads (List Expr) free (arguments_with below behind) (es, left) → Reads Expr free (primary_with below ((reserved words.Array, p) ∷ from)) (NewArray p of (exprs es), left)
+  unfolding primary_with new_array_with primitive
+  new_array_again p of from behind left es a h = rw (element_read a) (then_reads _ h whole)
+
+  cast_again : {free : ℕ} (p o q r s z : Place) (text : List ℕ) (from left : Tokens) (e : Expr) → Reads Expr free (below true from) (e, (sign signs.CloseParenthesis, z) ∷ left) → Reads Expr free (primary_with below ((reserved words.Cast, p) ∷ (sign signs.Less, o) ∷ (name text, q) ∷ (sign signs.Greater, r) ∷ (sign signs.OpenParenthesis, s) ∷ from)) (Cast p (record { place = q; name = text }) e, left)
+  unfolding primary_with cast_with primitive
+  cast_again p o q r s z text from left e h = rw (target_again o q r text ((sign signs.OpenParenthesis, s) ∷ from)) (then_reads _ (bracketed_again s z from left e h) whole)
 
 question_stops : (p : Place) (ts : Tokens) → Stops LEVELS ((sign signs.Question, p) ∷ ts)
 unfolding is_sign same_sign begins_suffix binary_operator
@@ -363,6 +391,7 @@ mutual
   suffix_read (field {p = p} {q = q} {text = text} {left = left}) room d s = as_read (field_again (below_at room) p q text left s)
   suffix_read (method {p = p} {q = q} {text = text} {left = left} {es = es} (args {p = o} {q = c} {from = from} a)) room d s =
       method_again (below_at room) p q o text from left es (args_again (below_at room) o c from left es (exprs_read a room d (next_is_sign-again signs.CloseParenthesis c left)))
+  suffix_read (index {p = p} {q = q} {from = from} {left = left} {e = e} a) room d s = index_again (below_at room) p q from left e (inner_read a room d refl)
   suffix_read increment room d s = whole
   suffix_read decrement room d s = whole
 
@@ -377,3 +406,6 @@ mutual
       call_again (below_at room) p o text from left es (args_again (below_at room) o c from left es (exprs_read a room d (next_is_sign-again signs.CloseParenthesis c left)))
   primary_read (brackets {p = p} {q = q} {from = from} {left = left} {e = e} a) room d s = brackets_again (below_at room) p q from left e (inner_read a room d refl)
   primary_read (convert {m = m} {p = p} {q = q} {r = r} {to = to} {from = from} {left = left} {e = e} k a) room d s = convert_again (below_at room) m to p q r from left e k (inner_read a room d refl)
+  primary_read (new_array {p = p} {of = of} {from = from} {left = left} {es = es} a (args {p = o} {q = c} {from = inside} b)) room d s =
+      new_array_again (below_at room) p of from ((sign signs.OpenParenthesis, o) ∷ inside) left es a (args_again (below_at room) o c inside left es (exprs_read b room d (next_is_sign-again signs.CloseParenthesis c left)))
+  primary_read (cast {p = p} {o = o} {q = q} {r = r} {s = b} {z = z} {text = text} {from = from} {left = left} {e = e} a) room d s = cast_again (below_at room) p o q r b z text from left e (inner_read a room d refl)

@@ -2,7 +2,7 @@
 use Rattle.std.proofs.Common.{ℕ, ◌≤◌, List, arith}
 use Rattle.ash_tree.specs.Tree.{Expr, Suffix, Operation}
 use Rattle.ash_tree.specs.Tokens.{Tokens}
-use Rattle.ash_tree.specs.Expressions.{IsInner, inner, AreExprs, no_exprs, some_exprs, AreMoreExprs, no_more_exprs, more_exprs, IsArgs, args, IsAssign, no_assign, assign, IsCond, no_branch, branches, IsBinary, operand, joined, AreLinks, no_links, more_links, IsUnary, applied, postfix, AreSuffixes, no_suffixes, more_suffixes, IsSuffix, field, method, increment, decrement, IsPrimary, numeral, yes, no, null, this, named, call, brackets, convert}
+use Rattle.ash_tree.specs.Expressions.{IsInner, inner, AreExprs, no_exprs, some_exprs, AreMoreExprs, no_more_exprs, more_exprs, IsArgs, args, IsAssign, no_assign, assign, IsCond, no_branch, branches, IsBinary, operand, joined, AreLinks, no_links, more_links, IsUnary, applied, postfix, AreSuffixes, no_suffixes, more_suffixes, IsSuffix, field, method, index, increment, decrement, IsPrimary, numeral, yes, no, null, this, named, call, brackets, convert, new_array, cast}
 
 mutual
   pub inner_freer : {free depth : ℕ} {from left : Tokens} {x : Expr} → IsInner free depth from x left → (more : ℕ) → free ≤ more → IsInner more depth from x left
@@ -46,6 +46,7 @@ mutual
   suffix_freer : {free depth : ℕ} {from left : Tokens} {x : Suffix} → IsSuffix free depth from x left → (more : ℕ) → free ≤ more → IsSuffix more depth from x left
   suffix_freer field more h = field
   suffix_freer (method a) more h = method (args_freer a more h)
+  suffix_freer (index a) more h = index (inner_freer a more h)
   suffix_freer increment more h = increment
   suffix_freer decrement more h = decrement
 
@@ -59,3 +60,5 @@ mutual
   primary_freer (call a) more h = call (args_freer a more h)
   primary_freer (brackets a) more h = brackets (inner_freer a more h)
   primary_freer (convert k a) more h = convert k (inner_freer a more h)
+  primary_freer (new_array a b) more h = new_array a (args_freer b more h)
+  primary_freer (cast a) more h = cast (inner_freer a more h)

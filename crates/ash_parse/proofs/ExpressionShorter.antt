@@ -2,7 +2,8 @@
 use Rattle.std.proofs.Common.{ℕ, ◌<◌, ◌≤◌, ◌∷◌, List, length, arith}
 use Rattle.ash_tree.specs.Tree.{Expr, Suffix, Operation}
 use Rattle.ash_tree.specs.Tokens.{Tokens}
-use Rattle.ash_tree.specs.Expressions.{IsInner, inner, AreExprs, no_exprs, some_exprs, AreMoreExprs, no_more_exprs, more_exprs, IsArgs, args, IsAssign, no_assign, assign, IsCond, no_branch, branches, IsBinary, operand, joined, AreLinks, no_links, more_links, IsUnary, applied, postfix, AreSuffixes, no_suffixes, more_suffixes, IsSuffix, field, method, increment, decrement, IsPrimary, numeral, yes, no, null, this, named, call, brackets, convert}
+use Rattle.ash_tree.specs.Expressions.{IsInner, inner, AreExprs, no_exprs, some_exprs, AreMoreExprs, no_more_exprs, more_exprs, IsArgs, args, IsAssign, no_assign, assign, IsCond, no_branch, branches, IsBinary, operand, joined, AreLinks, no_links, more_links, IsUnary, applied, postfix, AreSuffixes, no_suffixes, more_suffixes, IsSuffix, field, method, index, increment, decrement, IsPrimary, numeral, yes, no, null, this, named, call, brackets, convert, new_array, cast}
+use Rattle.ash_parse.proofs.Types.{element_shorter}
 
 mutual
   pub inner_shorter : {free depth : ℕ} {from left : Tokens} {e : Expr} → IsInner free depth from e left → length left < length from
@@ -46,6 +47,7 @@ mutual
   pub suffix_shorter : {free depth : ℕ} {from left : Tokens} {s : Suffix} → IsSuffix free depth from s left → length left < length from
   suffix_shorter field = omega arith
   suffix_shorter (method a) = let x = args_shorter a in omega arith
+  suffix_shorter (index a) = let x = inner_shorter a in omega arith
   suffix_shorter increment = omega arith
   suffix_shorter decrement = omega arith
 
@@ -59,6 +61,8 @@ mutual
   primary_shorter (call a) = let x = args_shorter a in omega arith
   primary_shorter (brackets a) = let x = inner_shorter a in omega arith
   primary_shorter (convert k a) = let x = inner_shorter a in omega arith
+  primary_shorter (new_array a b) = let x = element_shorter a in let y = args_shorter b in omega arith
+  primary_shorter (cast a) = let x = inner_shorter a in omega arith
 
 pub more_exprs_strict : {free depth : ℕ} {from left : Tokens} {e : Expr} {es : List Expr} → AreMoreExprs free depth from (e ∷ es) left → length left < length from
 more_exprs_strict (more_exprs a b) = let x = inner_shorter a in let y = more_exprs_shorter b in omega arith

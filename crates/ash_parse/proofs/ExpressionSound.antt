@@ -9,14 +9,16 @@ use Rattle.ash_tree.specs.declared.tree.types.Primitive.{Primitive}
 use Rattle.ash_tree.specs.declared.tree.operators.UnaryOp.{UnaryOp}
 use Rattle.ash_tree.specs.declared.tree.operators.BinaryOp.{BinaryOp}
 use Rattle.ash_tree.specs.declared.tree.operators.AssignOp.{AssignOp}
-use Rattle.ash_tree.specs.Tree.{Expr, Number, Truth, Null, This, Name, Call, Brackets, Convert, Unary, Conditional, Assign, Suffix, Field, Method, Increment, Decrement, Operation, place_of, exprs, chained, suffixed}
+use Rattle.ash_tree.specs.Tree.{Expr, Number, Truth, Null, This, Name, Call, Brackets, Convert, NewArray, Cast, Unary, Conditional, Assign, Suffix, Field, Method, Index, Increment, Decrement, Operation, place_of, exprs, chained, suffixed}
 use Rattle.ash_tree.specs.Tokens.{Tokens}
 use Rattle.ash_tree.specs.Operators.{primitive, unary_operator, binary_operator, level, LEVELS, assign_operator}
-use Rattle.ash_tree.specs.Expressions.{Within, IsInner, inner, AreExprs, no_exprs, some_exprs, AreMoreExprs, no_more_exprs, more_exprs, IsArgs, args, IsAssign, no_assign, assign, IsCond, no_branch, branches, IsBinary, operand, joined, AreLinks, no_links, more_links, IsUnary, applied, postfix, AreSuffixes, no_suffixes, more_suffixes, IsSuffix, field, method, increment, decrement, IsPrimary, numeral, yes, no, null, this, named, call, brackets, convert}
+use Rattle.ash_tree.specs.Expressions.{Within, IsInner, inner, AreExprs, no_exprs, some_exprs, AreMoreExprs, no_more_exprs, more_exprs, IsArgs, args, IsAssign, no_assign, assign, IsCond, no_branch, branches, IsBinary, operand, joined, AreLinks, no_links, more_links, IsUnary, applied, postfix, AreSuffixes, no_suffixes, more_suffixes, IsSuffix, field, method, index, increment, decrement, IsPrimary, numeral, yes, no, null, this, named, call, brackets, convert, new_array, cast}
 use Rattle.ash_parse.specs.Signs.{is_sign}
 use Rattle.ash_parse.specs.Reading.{Reading, Unexpected, TooDeep, ◌>>=◌, put, next_is, next_is_sign, expect_at, name_at}
-use Rattle.ash_parse.specs.ExpressionReader.{Below, limit_at, next_expr_with, more_exprs_with, exprs_with, arguments_with, bracketed_with, named_with, primary_by, primary_with, is_suffix, member_with, suffix_with, suffixes_with, postfix_with, unary_by, unary_with, operator_by, operator_at, is_link, link_from, link_by, links_by, chain_by, binary_with, branches_with, assign_by, assign_from, assign_with, below_at}
+use Rattle.ash_parse.specs.ExpressionReader.{Below, limit_at, next_expr_with, more_exprs_with, exprs_with, arguments_with, bracketed_with, named_with, new_array_with, cast_with, primary_by, primary_with, is_suffix, member_with, index_with, suffix_with, suffixes_with, postfix_with, unary_by, unary_with, operator_by, operator_at, is_link, link_from, link_by, links_by, chain_by, binary_with, branches_with, assign_by, assign_from, assign_with, below_at}
+use Rattle.ash_parse.specs.TypeReader.{element_at, target_at}
 use Rattle.ash_parse.proofs.Readings.{no_err, bind_ok, at_pair, if_elim, put_ok, Finds, repeat_sound, sign_is, expect_sound, name_sound}
+use Rattle.ash_parse.proofs.Types.{ends_in, element_sound, target_sound}
 
 -- the operand of a unary operator
 abbrev pub IsPart : ℕ → ℕ → Tokens → Expr → Tokens → Type 0
@@ -95,6 +97,24 @@ module _ (free depth : ℕ) (below : Below) (whole : Finds (below true) (IsInner
       bracketed_sound ((sign signs.OpenParenthesis, p) ∷ ts) x rest (λ r. ((sign signs.OpenParenthesis, p) ∷ ts ≡ r) → IsPrimary free depth ((sign signs.OpenParenthesis, p) ∷ ts) (Brackets p x) rest) h
       (λ o c r i e. brackets (subst (λ t. IsInner free depth t x ((sign signs.CloseParenthesis, c) ∷ rest)) (sym (tails (sign signs.OpenParenthesis, p) (sign signs.OpenParenthesis, o) ts r e)) i)) refl
 
+  new_array_sound : (p : Place) (ts : Tokens) (x : Expr) (rest : Tokens) → new_array_with below p ts ≡ Ok (x, rest) → IsPrimary free depth ((reserved words.Array, p) ∷ ts) x rest
+  unfolding new_array_with
+  new_array_sound p ts x rest h =
+      let e = bind_ok (element_at ts) (λ e. arguments_with below e.1 >>= λ es. Ok (NewArray p e.0 (exprs es.0), es.1)) (x, rest) h in
+      let es = bind_ok (arguments_with below (e.0).1) (λ es. Ok (NewArray p (e.0).0 (exprs es.0), es.1)) (x, rest) e.2 in
+      at_pair (IsPrimary free depth ((reserved words.Array, p) ∷ ts)) (NewArray p (e.0).0 (exprs (es.0).0)) (es.0).1 x rest es.2
+      (new_array (element_sound ts (e.0).0 (e.0).1 e.1) (args_sound (e.0).1 (es.0).0 (es.0).1 es.1))
+
+  cast_sound : (p : Place) (ts : Tokens) (x : Expr) (rest : Tokens) → cast_with below p ts ≡ Ok (x, rest) → IsPrimary free depth ((reserved words.Cast, p) ∷ ts) x rest
+  unfolding cast_with
+  cast_sound p ts x rest h =
+      let t = bind_ok (target_at ts) (λ t. bracketed_with below t.1 >>= λ e. Ok (Cast p t.0 e.0, e.1)) (x, rest) h in
+      let e = bind_ok (bracketed_with below (t.0).1) (λ e. Ok (Cast p (t.0).0 e.0, e.1)) (x, rest) t.2 in
+      at_pair (IsPrimary free depth ((reserved words.Cast, p) ∷ ts)) (Cast p (t.0).0 (e.0).0) (e.0).1 x rest e.2
+      (target_sound ts (t.0).0 (t.0).1 (λ n l. bracketed_with below l ≡ Ok ((e.0).0, (e.0).1) → IsPrimary free depth ((reserved words.Cast, p) ∷ ts) (Cast p n (e.0).0) (e.0).1) t.1
+      (λ o q z text left g k. bracketed_sound left (e.0).0 (e.0).1 (λ r. ts ≡ (sign signs.Less, o) ∷ (name text, q) ∷ (sign signs.Greater, z) ∷ r → IsPrimary free depth ((reserved words.Cast, p) ∷ ts) (Cast p (record { place = q; name = text }) (e.0).0) (e.0).1) k
+      (λ b c r i f. subst (λ l. IsPrimary free depth ((reserved words.Cast, p) ∷ l) (Cast p (record { place = q; name = text }) (e.0).0) (e.0).1) (sym f) (cast i)) g) e.1)
+
   primary_by_sound : (k : Option Primitive) (m : Meaning) (p : Place) (ts : Tokens) (x : Expr) (rest : Tokens) → primitive m ≡ k → primary_by below k m p ts ≡ Ok (x, rest) → IsPrimary free depth ((m, p) ∷ ts) x rest
   primary_by_sound (Some k) m p ts x rest g h =
       let b = bind_ok (bracketed_with below ts) (λ e. Ok (Convert p k e.0, e.1)) (x, rest) h in
@@ -110,6 +130,8 @@ module _ (free depth : ℕ) (below : Below) (whole : Finds (below true) (IsInner
   primary_by_sound None (reserved words.False) p ts x rest g h = at_pair (IsPrimary free depth ((reserved words.False, p) ∷ ts)) (Truth p false) ts x rest h no
   primary_by_sound None (reserved words.Null) p ts x rest g h = at_pair (IsPrimary free depth ((reserved words.Null, p) ∷ ts)) (Null p) ts x rest h null
   primary_by_sound None (reserved words.This) p ts x rest g h = at_pair (IsPrimary free depth ((reserved words.This, p) ∷ ts)) (This p) ts x rest h this
+  primary_by_sound None (reserved words.Array) p ts x rest g h = new_array_sound p ts x rest h
+  primary_by_sound None (reserved words.Cast) p ts x rest g h = cast_sound p ts x rest h
   primary_by_sound None m p ts x rest g h = absurd (no_err (Unexpected ((m, p) ∷ ts)) (x, rest) h)
 
   pub primary_sound : Finds (primary_with below) (IsPrimary free depth)
@@ -130,10 +152,19 @@ module _ (free depth : ℕ) (below : Below) (whole : Finds (below true) (IsInner
       at_pair (IsSuffix free depth ((sign signs.Dot, p) ∷ (name t, q) ∷ r)) (Method q t (exprs (a.0).0)) (a.0).1 x rest a.2 (method (args_sound r (a.0).0 (a.0).1 a.1)))
       (λ b e. at_pair (IsSuffix free depth ((sign signs.Dot, p) ∷ (name t, q) ∷ r)) (Field q t) r x rest e field))
 
+  index_sound : (p : Place) (ts : Tokens) (x : Suffix) (rest : Tokens) → index_with below ts ≡ Ok (x, rest) → IsSuffix free depth ((sign signs.OpenBracket, p) ∷ ts) x rest
+  unfolding index_with
+  index_sound p ts x rest h =
+      let e = bind_ok (below true ts) (λ e. expect_at signs.CloseBracket e.1 >>= λ closed. Ok (Index e.0, closed.1)) (x, rest) h in
+      let c = bind_ok (expect_at signs.CloseBracket (e.0).1) (λ closed. Ok (Index (e.0).0, closed.1)) (x, rest) e.2 in
+      at_pair (IsSuffix free depth ((sign signs.OpenBracket, p) ∷ ts)) (Index (e.0).0) (c.0).1 x rest c.2
+      (index (ends_in signs.CloseBracket (e.0).1 (c.0).0 (c.0).1 (λ r. IsInner free depth ts (e.0).0 r) c.1 (whole ts (e.0).0 (e.0).1 e.1)))
+
   pub suffix_sound : Finds (suffix_with below) (IsSuffix free depth)
   unfolding suffix_with
   suffix_sound [] x rest h = absurd (no_err (Unexpected []) (x, rest) h)
   suffix_sound ((sign signs.Dot, p) ∷ ts) x rest h = member_sound p ts x rest h
+  suffix_sound ((sign signs.OpenBracket, p) ∷ ts) x rest h = index_sound p ts x rest h
   suffix_sound ((sign signs.Increment, p) ∷ ts) x rest h = at_pair (IsSuffix free depth ((sign signs.Increment, p) ∷ ts)) Increment ts x rest h increment
   suffix_sound ((sign signs.Decrement, p) ∷ ts) x rest h = at_pair (IsSuffix free depth ((sign signs.Decrement, p) ∷ ts)) Decrement ts x rest h decrement
   suffix_sound ((m, p) ∷ ts) x rest h = absurd (no_err (Unexpected ((m, p) ∷ ts)) (x, rest) h)

@@ -1,18 +1,15 @@
 -- Where reading stops is the first fault by the grammar: what is proved of the tokens in front of it, and of those up to it.
-use Rattle.std.proofs.Common.{◌≡◌, suc, ◌≤◌, ◌⊎◌, inl, inr, List, [], ◌∷◌, ◌++◌, length, Ok, Err, sym, ap, subst, ◌∙◌, refl, append_assoc, arith}
-use Rattle.ash_lex.specs.Tokens.{Meaning}
+use Rattle.std.proofs.Common.{◌≡◌, suc, inl, inr, List, [], ◌∷◌, ◌++◌, length, Ok, Err, sym, ap, ◌∙◌, refl, append_assoc}
 use Rattle.ash_lex.specs.declared.tokens.Token.{Token}
-use Rattle.ash_tree.specs.declared.tree.places.Place.{Place}
 use Rattle.ash_tree.specs.Tree.{Item, Declaration}
 use Rattle.ash_tree.specs.Tokens.{Tokens, tokens_of}
-use Rattle.ash_tree.specs.Grammar.{Derives}
 use Rattle.ash_parse.specs.declared.faults.ParseFault.{ParseFault}
 use Rattle.ash_parse.specs.declared.faults.ParseFault.TheVariants as faults
 use Rattle.ash_parse.specs.Reading.{Halt, Unexpected, TooDeep, Reading}
 use Rattle.ash_parse.specs.ItemReader.{module_at}
 use Rattle.ash_parse.specs.Faults.{IsFault, whole_declaration_at}
 use Rattle.ash_parse.specs.Unique.{HasTreeOrFault, HasDeclarationOrFault}
-use Rattle.ash_parse.specs.FirstFault.{NoneWithin, NoneLeftDeep, FirstFault, FirstDeclarationFault, TellsFirst}
+use Rattle.ash_parse.specs.FirstFault.{NoneLeftDeep, FirstFault, FirstDeclarationFault, TellsFirst}
 use Rattle.ash_parse.proofs.NoneGoesOn.{goes_too_deep, none_goes_on, none_within, no_declaration_goes_on}
 use Rattle.ash_parse.proofs.BeginItems.{begun, begun_deep, some_token_deep}
 use Rattle.ash_parse.proofs.BeginDeclarations.{begun_declaration}
@@ -20,7 +17,7 @@ use Rattle.ash_parse.proofs.NeverDeep.{declaration_never_deep}
 use Rattle.ash_parse.proofs.ItemComplete.{module_cut}
 use Rattle.ash_parse.proofs.WholeModules.{module_derived, declaration_derived}
 use Rattle.ash_parse.proofs.KeepsItems.{keeps_not_deep}
-use Rattle.ash_parse.proofs.OneFault.{heads, tails, split, same_place, by_place, within_later, whole_within, one_fault, no_module}
+use Rattle.ash_parse.proofs.OneFault.{cut_there, one_fault, no_module}
 
 -- where reading stops, each fault is such a one
 abbrev pub StopsFirst : {A : Type 0} → (Tokens → Halt → Type 0) → Tokens → Reading A → Type 0
@@ -36,28 +33,12 @@ told_first_at IsFirst all (faults.Unsupported word at) (Err e) first h = (e, h, 
 told_first_at IsFirst all (faults.TooDeep at) (Ok x) first h = absurd h
 told_first_at IsFirst all (faults.TooDeep at) (Err e) first h = (e, h, first e refl)
 
--- where only `t` and what is behind it are free, and `t` is too deep, reading is cut there
-cut_there : (less tail : Tokens) (t : Meaning × Place) (items : List Item) → Derives (suc (length tail)) (less ++ t ∷ tail) items → NoneWithin less t tail → (module_at (less ++ t ∷ tail) ≡ Ok (items, [])) ⊎ ((rest : Tokens) × (module_at (less ++ t ∷ tail) ≡ Err (TooDeep rest)) × (length rest ≤ suc (length tail))) → module_at (less ++ t ∷ tail) ≡ Err (TooDeep (t ∷ tail))
-cut_there less tail t items d none (inl e) = absurd (whole_within less t tail items none (module_derived (less ++ t ∷ tail) items [] e))
-cut_there less tail t items d none (inr ([], e, l)) = absurd (some_token_deep (less ++ t ∷ tail) e)
-cut_there less tail t items d none (inr (u ∷ rest, e, l)) =
-    let b = begun_deep (less ++ t ∷ tail) rest u e in
-    by_place (module_at (less ++ t ∷ tail) ≡ Err (TooDeep (t ∷ tail))) (t ∷ tail) (u ∷ rest)
-    (λ k. let q = split less (t ∷ tail) b.0 (u ∷ rest) b.3 k in
-    let same : t ≡ q.0 = heads t q.0 tail (q.1 ++ u ∷ rest) q.3 in
-    let behind : tail ≡ q.1 ++ u ∷ rest = tails t q.0 tail (q.1 ++ u ∷ rest) q.3 in
-    let f : b.0 ≡ less ++ t ∷ q.1 = q.2 ∙ ap (λ (a : Meaning × Place). less ++ a ∷ q.1) (sym same) in
-    let g : Derives (suc (length b.1)) ((less ++ t ∷ q.1) ++ u ∷ b.1) b.2 = subst (λ (l : Tokens). Derives (suc (length b.1)) (l ++ u ∷ b.1) b.2) f b.5 in
-    absurd (within_later less t q.1 b.1 rest u (suc (length b.1)) b.2 (subst (NoneWithin less t) behind none) (subst (λ (l : Tokens). Derives (suc (length b.1)) l b.2) (append_assoc less (t ∷ q.1) (u ∷ b.1)) g) (omega arith)))
-    (λ k. e ∙ ap (λ (l : Tokens). Err (TooDeep l)) (sym (same_place less (t ∷ tail) b.0 (u ∷ rest) b.3 k).1))
-    (λ k. absurd (omega arith))
-
--- right behind a token that could be too deep, nothing is unexpected
+-- behind a token that could be too deep, nothing is unexpected as long as it is open what the token begins
 none_left_deep : (front rest : Tokens) → module_at (front ++ rest) ≡ Err (Unexpected rest) → NoneLeftDeep front
-none_left_deep front rest h less t e deep =
-    let is : (less ++ t ∷ []) ++ rest ≡ less ++ t ∷ rest = append_assoc less (t ∷ []) rest in
-    let here : module_at (less ++ t ∷ rest) ≡ Err (Unexpected rest) = ap module_at (sym is) ∙ ap (λ (l : Tokens). module_at (l ++ rest)) (sym e) ∙ h in
-    keeps_not_deep less rest deep.0 t here (cut_there less deep.0 t deep.1 deep.2 deep.3 (module_cut (suc (length deep.0)) (less ++ t ∷ deep.0) deep.1 deep.2))
+none_left_deep front rest h less t seen e leaves deep =
+    let is : (less ++ t ∷ seen) ++ rest ≡ less ++ t ∷ (seen ++ rest) = append_assoc less (t ∷ seen) rest in
+    let here : module_at (less ++ t ∷ (seen ++ rest)) ≡ Err (Unexpected rest) = ap module_at (sym is) ∙ ap (λ (l : Tokens). module_at (l ++ rest)) (sym e) ∙ h in
+    keeps_not_deep less seen deep.0 t (Unexpected rest) leaves here (cut_there less deep.0 t deep.1 deep.2 deep.3 (module_cut (suc (length deep.0)) (less ++ t ∷ deep.0) deep.1 deep.2))
 
 at_unexpected : (ts rest : Tokens) → module_at ts ≡ Err (Unexpected rest) → FirstFault ts (Unexpected rest)
 at_unexpected ts rest h =

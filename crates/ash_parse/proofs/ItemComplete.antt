@@ -5,27 +5,27 @@ use Rattle.ash_lex.specs.Tokens.{name, sign}
 use Rattle.ash_lex.specs.declared.signs.Sign.TheVariants as signs
 use Rattle.ash_lex.specs.declared.tokens.Token.{Token}
 use Rattle.ash_tree.specs.declared.tree.places.Place.{Place}
-use Rattle.ash_tree.specs.Tree.{Named, Vars, Stmt, Parameter, Function, Constructor, Member, Class, Item, AFunction, AGlobal, Declaration, AProperty}
+use Rattle.ash_tree.specs.Tree.{Named, TypeName, Vars, Stmt, Parameter, Function, Constructor, Member, Class, InterfaceMethod, Item, AFunction, AGlobal, Declaration, AProperty}
 use Rattle.ash_tree.specs.Tokens.{Tokens}
 use Rattle.ash_tree.specs.Expressions.{DEPTH}
 use Rattle.ash_tree.specs.Statements.{IsVars, IsBlock}
-use Rattle.ash_tree.specs.Grammar.{IsResultType, void, typed, IsParameter, parameter, AreMoreParameters, no_more_parameters, more_parameters, AreParameters, no_parameters, parameters, IsFunction, function, IsMember, method, fields, constructor, AreMembers, no_members, more_members, class, IsItem, a_class, a_function, globals, Derives, no_items, semicolon, item, IsUnnamed, unnamed, with_name, AreMoreUnnamed, no_more_unnamed, more_unnamed, AreUnnamed, no_unnamed, some_unnamed, Declares, signature, property}
+use Rattle.ash_tree.specs.Grammar.{IsResultType, void, typed, IsParameter, parameter, AreMoreParameters, no_more_parameters, more_parameters, AreParameters, no_parameters, parameters, IsFunction, function, IsMember, method, fields, constructor, AreMembers, no_members, more_members, AreMoreInterfaces, no_more_interfaces, more_interfaces, AreInterfaces, no_interfaces, interfaces, class, IsInterfaceMethod, interface_method, AreInterfaceMethods, no_interface_methods, more_interface_methods, interface, IsItem, a_class, an_interface, a_function, globals, Derives, no_items, semicolon, item, IsUnnamed, unnamed, with_name, AreMoreUnnamed, no_more_unnamed, more_unnamed, AreUnnamed, no_unnamed, some_unnamed, Declares, signature, property}
 use Rattle.ash_parse.specs.declared.faults.ParseFault.{ParseFault}
 use Rattle.ash_parse.specs.declared.faults.ParseFault.TheVariants as faults
 use Rattle.ash_parse.specs.Signs.{is_sign, same_sign}
 use Rattle.ash_parse.specs.Reading.{TooDeep, Reading, next_is, next_is_sign}
-use Rattle.ash_parse.specs.ExpressionReader.{begins}
 use Rattle.ash_parse.specs.StatementReader.{is_name, next_is_name, type_at, goes_on}
-use Rattle.ash_parse.specs.ItemReader.{is_void, is_class, result_type_at, parameter_at, next_parameter_at, more_parameters_at, parameter_list_at, parameters_at, body_at, function_at, globals_at, behind, is_function, constructor_at, member_at, members_at, class_at, item_at, strip, entry_at, is_left, entries_at, module_at, unnamed_at, next_unnamed_at, more_unnamed_at, unnamed_list_at, unnamed_parameters_at, declaration_behind, declaration_at}
+use Rattle.ash_parse.specs.ExpressionReader.{begins}
+use Rattle.ash_parse.specs.ItemReader.{is_void, is_class, is_interface, result_type_at, parameter_at, next_parameter_at, more_parameters_at, parameter_list_at, parameters_at, body_at, function_at, globals_at, behind, is_function, constructor_at, member_at, members_at, next_interface_at, more_interfaces_at, listed_interfaces_at, interfaces_at, class_at, interface_method_at, interface_methods_at, interface_at, item_at, strip, entry_at, is_left, entries_at, module_at, unnamed_at, next_unnamed_at, more_unnamed_at, unnamed_list_at, unnamed_parameters_at, declaration_behind, declaration_at}
 use Rattle.ash_parse.specs.Faults.{IsFault, whole_declaration_at}
 use Rattle.ash_parse.specs.Unique.{HasOneModule, HasOneDeclaration}
 use Rattle.ash_parse.proofs.Readings.{ok_is, expect_again, next_is_sign-again, name_again}
-use Rattle.ash_parse.proofs.ItemShorter.{parameter_shorter, member_shorter, item_shorter, unnamed_shorter, strip_shorter, strip-done, no_more_left}
+use Rattle.ash_parse.proofs.ItemShorter.{parameter_shorter, member_shorter, interface_method_shorter, item_shorter, unnamed_shorter, strip_shorter, strip-done, no_more_left}
 use Rattle.ash_parse.proofs.Rereading.{no_true, Reads, whole, as_read, then_reads, is_cut, is_whole, ReadsAll, none_again, one_again}
 use Rattle.ash_parse.proofs.ExpressionComplete.{Closes, begins_no_close, close_ends}
 use Rattle.ash_parse.proofs.VarsComplete.{Follows, ends_follow, type_read, type_begins, declared_read}
 use Rattle.ash_parse.proofs.StatementComplete.{brace_rests, block_read}
-use Rattle.ash_parse.proofs.ItemHeads.{begins_no_void, function_heads, vars_heads, member_goes, item_heads, function_function, vars_no_function, function_no_constructor, vars_no_constructor, constructor_constructor}
+use Rattle.ash_parse.proofs.ItemHeads.{begins_no_void, function_heads, vars_heads, member_goes, interface_method_goes, item_heads, function_function, vars_no_function, function_no_constructor, vars_no_constructor, constructor_constructor}
 
 name_no_handle : (text : List ℕ) (p : Place) (ts : Tokens) → next_is_sign signs.Handle ((name text, p) ∷ ts) ≡ false
 unfolding next_is_sign is_sign
@@ -91,28 +91,64 @@ members_read (no_members {left = left}) s = none_again _ goes_on member_at left 
 members_read (more_members {from = from} {behind = next} {left = left} {x = x} {xs = xs} a b) s =
     one_again _ goes_on member_at from next left x xs (member_goes a) (member_read a) (member_shorter a) (members_read b s)
 
-class_again : {free : ℕ} (q o w : Place) (text : List ℕ) (from left : Tokens) (xs : List Member) → ReadsAll free goes_on member_at from xs ((sign signs.CloseBrace, w) ∷ left) → Reads Class free (class_at ((name text, q) ∷ (sign signs.OpenBrace, o) ∷ from)) (record { place = q; name = text; members = xs }, left)
+next_interface_again : (p q : Place) (text : List ℕ) (ts : Tokens) → next_interface_at ((sign signs.Comma, p) ∷ (name text, q) ∷ ts) ≡ Ok (record { place = q; name = text }, ts)
+unfolding next_interface_at
+next_interface_again p q text ts = rw (expect_again signs.Comma p ((name text, q) ∷ ts), name_again text q ts) refl
+
+more_interfaces_read : {from left : Tokens} {xs : List TypeName} → AreMoreInterfaces from xs left → next_is_sign signs.Comma left ≡ false → ReadsAll 0 (next_is_sign signs.Comma) next_interface_at from xs left
+more_interfaces_read (no_more_interfaces {left = left}) s = none_again 0 (next_is_sign signs.Comma) next_interface_at left s
+more_interfaces_read (more_interfaces {p = p} {q = q} {text = text} {behind = next} {left = left} {xs = xs} a) s =
+    one_again 0 (next_is_sign signs.Comma) next_interface_at ((sign signs.Comma, p) ∷ (name text, q) ∷ next) next left (record { place = q; name = text }) xs (next_is_sign-again signs.Comma p ((name text, q) ∷ next)) (as_read (next_interface_again p q text next)) (omega arith) (more_interfaces_read a s)
+
+interfaces_read : {from left : Tokens} {xs : List TypeName} → AreInterfaces from xs left → next_is_sign signs.Colon left ≡ false → next_is_sign signs.Comma left ≡ false → interfaces_at from ≡ Ok (xs, left)
+unfolding interfaces_at listed_interfaces_at more_interfaces_at
+interfaces_read no_interfaces c s = rw c refl
+interfaces_read (interfaces {p = p} {q = q} {text = text} {behind = next} a) c s =
+    rw (next_is_sign-again signs.Colon p ((name text, q) ∷ next), expect_again signs.Colon p ((name text, q) ∷ next), name_again text q next, is_whole (more_interfaces_read a s (length next) (omega arith)) refl) refl
+
+-- no list of interfaces goes on with a brace
+brace_ends_list : (o : Place) (ts : Tokens) → (next_is_sign signs.Colon ((sign signs.OpenBrace, o) ∷ ts) ≡ false) × (next_is_sign signs.Comma ((sign signs.OpenBrace, o) ∷ ts) ≡ false)
+unfolding next_is_sign is_sign same_sign
+brace_ends_list o ts = (refl, refl)
+
+class_again : {free : ℕ} (q o w : Place) (text : List ℕ) (head from left : Tokens) (is : List TypeName) (xs : List Member) → interfaces_at head ≡ Ok (is, (sign signs.OpenBrace, o) ∷ from) → ReadsAll free goes_on member_at from xs ((sign signs.CloseBrace, w) ∷ left) → Reads Class free (class_at ((name text, q) ∷ head)) (record { place = q; name = text; interfaces = is; members = xs }, left)
 unfolding class_at members_at
-class_again q o w text from left xs r = rw (name_again text q ((sign signs.OpenBrace, o) ∷ from), expect_again signs.OpenBrace o from) (then_reads _ (r (length from) (omega arith)) (rw (expect_again signs.CloseBrace w left) whole))
+class_again q o w text head from left is xs i r = rw (name_again text q head, i, expect_again signs.OpenBrace o from) (then_reads _ (r (length from) (omega arith)) (rw (expect_again signs.CloseBrace w left) whole))
 
-function_again : {free : ℕ} (from left : Tokens) (f : Function) → is_left from ≡ true → next_is is_class from ≡ false → is_function from ≡ true → Reads Function free (function_at from) (f, left) → Reads Item free (item_at from) (AFunction f, left)
-unfolding item_at is_left
-function_again [] left f l c i h = absurd (no_true l)
-function_again ((m, p) ∷ ts) left f l c i h = rw (c, i) (then_reads _ h whole)
+interface_method_read : {from left : Tokens} {x : InterfaceMethod} → IsInterfaceMethod from x left → interface_method_at from ≡ Ok (x, left)
+unfolding interface_method_at
+interface_method_read (interface_method {p = p} {q = q} {text = text} {behind = next} {left = left} a b) = rw (result_type_read a (name_no_handle text p next), name_again text p next, parameters_read b, expect_again signs.Semicolon q left) refl
 
-globals_again : {free : ℕ} (from left : Tokens) (v : Vars) → is_left from ≡ true → next_is is_class from ≡ false → is_function from ≡ false → Reads Vars free (globals_at from) (v, left) → Reads Item free (item_at from) (AGlobal v, left)
+interface_methods_read : {from left : Tokens} {xs : List InterfaceMethod} → AreInterfaceMethods from xs left → goes_on left ≡ false → ReadsAll 0 goes_on interface_method_at from xs left
+interface_methods_read (no_interface_methods {left = left}) s = none_again 0 goes_on interface_method_at left s
+interface_methods_read (more_interface_methods {from = from} {behind = next} {left = left} {x = x} {xs = xs} a b) s =
+    one_again 0 goes_on interface_method_at from next left x xs (interface_method_goes a) (as_read (interface_method_read a)) (interface_method_shorter a) (interface_methods_read b s)
+
+interface_again : (q o w : Place) (text : List ℕ) (from left : Tokens) (xs : List InterfaceMethod) → ReadsAll 0 goes_on interface_method_at from xs ((sign signs.CloseBrace, w) ∷ left) → interface_at ((name text, q) ∷ (sign signs.OpenBrace, o) ∷ from) ≡ Ok (record { place = q; name = text; methods = xs }, left)
+unfolding interface_at interface_methods_at
+interface_again q o w text from left xs r = rw (name_again text q ((sign signs.OpenBrace, o) ∷ from), expect_again signs.OpenBrace o from, is_whole (r (length from) (omega arith)) refl, expect_again signs.CloseBrace w left) refl
+
+function_again : {free : ℕ} (from left : Tokens) (f : Function) → is_left from ≡ true → next_is is_class from ≡ false → next_is is_interface from ≡ false → is_function from ≡ true → Reads Function free (function_at from) (f, left) → Reads Item free (item_at from) (AFunction f, left)
 unfolding item_at is_left
-globals_again [] left v l c i h = absurd (no_true l)
-globals_again ((m, p) ∷ ts) left v l c i h = rw (c, i) (then_reads _ h whole)
+function_again [] left f l c d i h = absurd (no_true l)
+function_again ((m, p) ∷ ts) left f l c d i h = rw (c, d, i) (then_reads _ h whole)
+
+globals_again : {free : ℕ} (from left : Tokens) (v : Vars) → is_left from ≡ true → next_is is_class from ≡ false → next_is is_interface from ≡ false → is_function from ≡ false → Reads Vars free (globals_at from) (v, left) → Reads Item free (item_at from) (AGlobal v, left)
+unfolding item_at is_left
+globals_again [] left v l c d i h = absurd (no_true l)
+globals_again ((m, p) ∷ ts) left v l c d i h = rw (c, d, i) (then_reads _ h whole)
 
 brace_ends : (p : Place) (left : Tokens) → goes_on ((sign signs.CloseBrace, p) ∷ left) ≡ false
 brace_ends p left = (brace_rests p left).0
 
 item_read : {free : ℕ} {from left : Tokens} {x : Item} → IsItem free from x left → Reads Item free (item_at from) (x, left)
-unfolding item_at is_class
-item_read (a_class (class {q = q} {o = o} {z = w} {text = text} {from = from} {left = left} {xs = xs} a)) = then_reads _ (class_again q o w text from left xs (members_read a (brace_ends w left))) whole
-item_read (a_function {from = from} {left = left} {f = f} a) = let q = function_heads a in function_again from left f q.2 q.0 (function_function a) (function_read a)
-item_read (globals {p = p} {from = from} {left = left} {v = v} a) = let q = vars_heads a in globals_again from left v q.2 q.0 (vars_no_function a (next_is_sign-again signs.Semicolon p left)) (globals_read p left a)
+unfolding item_at is_class is_interface
+item_read (a_class (class {q = q} {o = o} {z = w} {text = text} {behind = next} {from = from} {left = left} {is = is} {xs = xs} i a)) =
+    let b = brace_ends_list o from in
+    then_reads _ (class_again q o w text next from left is xs (interfaces_read i b.0 b.1) (members_read a (brace_ends w left))) whole
+item_read (an_interface (interface {q = q} {o = o} {z = w} {text = text} {from = from} {left = left} {xs = xs} a)) = then_reads _ (as_read (interface_again q o w text from left xs (interface_methods_read a (brace_ends w left)))) whole
+item_read (a_function {from = from} {left = left} {f = f} a) = let q = function_heads a in function_again from left f q.2 q.0 q.4 (function_function a) (function_read a)
+item_read (globals {p = p} {from = from} {left = left} {v = v} a) = let q = vars_heads a in globals_again from left v q.2 q.0 q.4 (vars_no_function a (next_is_sign-again signs.Semicolon p left)) (globals_read p left a)
 
 entry_again : {free : ℕ} (from left : Tokens) (x : Item) → Reads Item free (item_at from) (x, left) → Reads Item free (entry_at from) (x, strip left)
 unfolding entry_at

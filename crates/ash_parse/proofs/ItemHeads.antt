@@ -5,44 +5,48 @@ use Rattle.ash_lex.specs.declared.signs.Sign.TheVariants as signs
 use Rattle.ash_lex.specs.declared.words.ReservedWord.TheVariants as words
 use Rattle.ash_tree.specs.declared.tree.places.Place.{Place}
 use Rattle.ash_tree.specs.declared.tree.types.Primitive.{Primitive}
-use Rattle.ash_tree.specs.Tree.{Named, Expr, Decl, Vars, Stmt, Parameter, Function, Member, Item}
+use Rattle.ash_tree.specs.Tree.{Named, Expr, Decl, Vars, Stmt, Parameter, Function, Member, InterfaceMethod, Item}
 use Rattle.ash_tree.specs.Tokens.{Tokens}
 use Rattle.ash_tree.specs.Operators.{primitive, unary_operator}
 use Rattle.ash_tree.specs.Expressions.{AreExprs, no_exprs, some_exprs, args}
-use Rattle.ash_tree.specs.Statements.{IsType, prim, object, handle, IsDecl, bare, valued, made, IsVars, vars, IsBlock, block}
-use Rattle.ash_tree.specs.Grammar.{IsResultType, void, typed, IsParameter, parameter, AreParameters, no_parameters, parameters, IsFunction, function, IsMember, method, fields, constructor, class, IsItem, a_class, a_function, globals}
+use Rattle.ash_tree.specs.Types.{IsType, prim, object, handle, array, array_handle}
+use Rattle.ash_tree.specs.Statements.{IsDecl, bare, valued, made, IsVars, vars, IsBlock, block}
+use Rattle.ash_tree.specs.Grammar.{IsResultType, void, typed, IsParameter, parameter, AreParameters, no_parameters, parameters, IsFunction, function, IsMember, method, fields, constructor, class, IsItem, a_class, a_function, globals, IsInterfaceMethod, interface_method, interface, an_interface}
 use Rattle.ash_parse.specs.Signs.{is_sign, same_sign}
 use Rattle.ash_parse.specs.Reading.{next_is, next_is_sign}
 use Rattle.ash_parse.specs.ExpressionReader.{begins}
+use Rattle.ash_parse.specs.TypeReader.{is_array}
 use Rattle.ash_parse.specs.StatementReader.{is_name, next_is_name, is_vars, goes_on, leading}
-use Rattle.ash_parse.specs.ItemReader.{is_void, is_class, behind, opens_body, names_function, is_function, is_constructor, is_left}
+use Rattle.ash_parse.specs.ItemReader.{is_void, is_class, behind, opens_body, names_function, handle_names_function, is_function, is_constructor, is_left, is_interface}
 use Rattle.ash_parse.proofs.Rereading.{no_some, no_true}
 use Rattle.ash_parse.proofs.ExpressionComplete.{Closes, begins_no_close, inner_begins, more_end}
+use Rattle.ash_parse.proofs.Elements.{element_passed}
 use Rattle.ash_parse.proofs.VarsComplete.{Next, Done, ends_follow, inner_no_vars, type_begins, type_vars, decl_begins, decls_next, next_ends, ends_decl}
-use Rattle.ash_parse.proofs.StatementComplete.{begins_no_semicolon, begins_both, goes_further}
+use Rattle.ash_parse.proofs.StatementComplete.{starts_no_semicolon, starts_further}
 
--- neither a class nor a ";" stands here, and an item or a member does
+-- neither a class, an interface nor a ";" stands here, and an item or a member does
 abbrev pub Heads : Tokens → Type 0
-Heads ts = (next_is is_class ts ≡ false) × (next_is_sign signs.Semicolon ts ≡ false) × (is_left ts ≡ true) × (goes_on ts ≡ true)
+Heads ts = (next_is is_class ts ≡ false) × (next_is_sign signs.Semicolon ts ≡ false) × (is_left ts ≡ true) × (goes_on ts ≡ true) × (next_is is_interface ts ≡ false)
 
-begins_heads_at : (m : Meaning) → begins m ≡ true → (is_class m ≡ false) × (is_void m ≡ false)
-unfolding begins is_class is_void primitive unary_operator
+begins_heads_at : (m : Meaning) → begins m ≡ true → (is_class m ≡ false) × (is_void m ≡ false) × (is_interface m ≡ false)
+unfolding begins is_class is_void is_interface primitive unary_operator
 begins_heads_at (reserved words.Class) h = absurd (no_true h)
 begins_heads_at (reserved words.Void) h = absurd (no_true h)
-begins_heads_at m h = (refl, refl)
+begins_heads_at (reserved words.Interface) h = absurd (no_true h)
+begins_heads_at m h = (refl, refl, refl)
 
 pub begins_heads : (ts : Tokens) → next_is begins ts ≡ true → Heads ts
 unfolding is_left
 begins_heads [] h = absurd (no_true h)
-begins_heads ((m, p) ∷ ts) h = ((begins_heads_at m h).0, begins_no_semicolon ((m, p) ∷ ts) h, refl, (goes_further ((m, p) ∷ ts) (begins_both ((m, p) ∷ ts) h)).0)
+begins_heads ((m, p) ∷ ts) h = ((begins_heads_at m h).0, starts_no_semicolon ((m, p) ∷ ts) h, refl, (starts_further ((m, p) ∷ ts) h).0, (begins_heads_at m h).2)
 
 pub begins_no_void : (ts : Tokens) → next_is begins ts ≡ true → next_is is_void ts ≡ false
 begins_no_void [] h = refl
 begins_no_void ((m, p) ∷ ts) h = (begins_heads_at m h).1
 
 result_heads : {from left : Tokens} {r : Option Named} → IsResultType from r left → Heads from
-unfolding is_left is_class next_is_sign is_sign same_sign goes_on leading
-result_heads void = (refl, refl, refl, refl)
+unfolding is_left is_class is_interface next_is_sign is_sign same_sign goes_on leading
+result_heads void = (refl, refl, refl, refl, refl)
 result_heads (typed {from = from} t) = begins_heads from (type_begins t)
 
 pub function_heads : {free : ℕ} {from left : Tokens} {f : Function} → IsFunction free from f left → Heads from
@@ -57,24 +61,31 @@ member_goes (method f) = (function_heads f).3
 member_goes (fields v) = (vars_heads v).3
 member_goes (constructor p b) = refl
 
+pub interface_method_goes : {from left : Tokens} {x : InterfaceMethod} → IsInterfaceMethod from x left → goes_on from ≡ true
+interface_method_goes (interface_method r p) = (result_heads r).3
+
 pub item_heads : {free : ℕ} {from left : Tokens} {x : Item} → IsItem free from x left → (next_is_sign signs.Semicolon from ≡ false) × (is_left from ≡ true)
 unfolding next_is_sign is_sign same_sign is_left
-item_heads (a_class (class ms)) = (refl, refl)
+item_heads (a_class (class is ms)) = (refl, refl)
+item_heads (an_interface (interface ms)) = (refl, refl)
 item_heads (a_function f) = let q = function_heads f in (q.1, q.2)
 item_heads (globals v) = let q = vars_heads v in (q.1, q.2)
 
-primitive_token : (m : Meaning) (k : Primitive) → primitive m ≡ Some k → (is_void m ≡ false) × (is_name m ≡ false)
-unfolding primitive is_void is_name
+primitive_token : (m : Meaning) (k : Primitive) → primitive m ≡ Some k → (is_void m ≡ false) × (is_name m ≡ false) × (is_array m ≡ false)
+unfolding primitive is_void is_name is_array
 primitive_token (reserved words.Void) k h = absurd (no_some k h)
 primitive_token (name t) k h = absurd (no_some k h)
-primitive_token m k h = (refl, refl)
+primitive_token (reserved words.Array) k h = absurd (no_some k h)
+primitive_token m k h = (refl, refl, refl)
 
 -- behind a type, its name and what follows tell whether this is a function
 typed_function : {from left : Tokens} {t : Named} → IsType from t left → next_is_sign signs.Handle left ≡ false → is_function from ≡ names_function left
-unfolding is_function is_void behind next_is_sign is_sign same_sign
-typed_function (prim {m = m} {k = k} g) s = rw ((primitive_token m k g).0, s) refl
+unfolding is_function is_void is_array handle_names_function behind next_is_sign is_sign same_sign
+typed_function (prim {m = m} {k = k} g) s = rw ((primitive_token m k g).0, (primitive_token m k g).2, s) refl
 typed_function object s = rw s refl
 typed_function handle s = refl
+typed_function (array a) s = rw (element_passed a, s) refl
+typed_function (array_handle a) s = rw (element_passed a) refl
 
 block_opens : {free depth : ℕ} {from left : Tokens} {ss : List Stmt} → IsBlock free depth from ss left → next_is_sign signs.OpenBrace from ≡ true
 unfolding next_is_sign is_sign same_sign
@@ -85,7 +96,7 @@ unfolding next_is_name is_name
 parameter_vars (parameter t) = type_vars t refl
 
 names_parameters : (text : List ℕ) (p : Place) {from left : Tokens} {xs : List Parameter} → AreParameters from xs left → next_is_sign signs.OpenBrace left ≡ true → names_function ((name text, p) ∷ from) ≡ true
-unfolding names_function next_is_name is_name behind next_is_sign is_sign same_sign opens_body is_vars primitive
+unfolding names_function next_is_name is_name is_array behind next_is_sign is_sign same_sign opens_body is_vars primitive
 names_parameters text p no_parameters s = s
 names_parameters text p (parameters a b) s = rw (parameter_vars a) refl
 
@@ -104,7 +115,7 @@ function_function (function void b c) = refl
 function_function (function {p = p} {text = text} {behind = behind} (typed t) b c) = rw (typed_function t (name_no_handle text p behind)) (names_parameters text p b (block_opens c))
 
 close_opens_no_body : (m : Meaning) (p : Place) (ts : Tokens) → is_sign signs.CloseParenthesis m ≡ true → next_is_sign signs.OpenBrace ts ≡ false → (is_vars ((m, p) ∷ ts) ≡ false) × (opens_body ((m, p) ∷ ts) ≡ false)
-unfolding is_sign same_sign is_vars primitive is_name opens_body
+unfolding is_sign same_sign is_vars primitive is_name is_array opens_body
 close_opens_no_body (sign signs.CloseParenthesis) p ts h s = (refl, s)
 close_opens_no_body m p ts h s = absurd (no_true h)
 
@@ -150,6 +161,8 @@ unfolding is_constructor next_is_name is_name behind next_is_sign is_sign same_s
 typed_no_constructor (prim {m = m} {k = k} g) s = rw ((primitive_token m k g).1) refl
 typed_no_constructor object s = s
 typed_no_constructor handle s = refl
+typed_no_constructor (array a) s = refl
+typed_no_constructor (array_handle a) s = refl
 
 pub function_no_constructor : {free : ℕ} {from left : Tokens} {f : Function} → IsFunction free from f left → is_constructor from ≡ false
 unfolding is_constructor next_is_name is_name

@@ -3,18 +3,18 @@ use Rattle.std.proofs.Common.{◌≡◌, ℕ, ◌<◌, ◌≤◌, [], ◌∷◌,
 use Rattle.ash_lex.specs.Tokens.{name, sign}
 use Rattle.ash_lex.specs.declared.signs.Sign.TheVariants as signs
 use Rattle.ash_tree.specs.declared.tree.places.Place.{Place}
-use Rattle.ash_tree.specs.Tree.{Named, Parameter, Function, Member, Class, Item, Declaration, ASignature, AProperty}
+use Rattle.ash_tree.specs.Tree.{Named, TypeName, Parameter, Function, Member, Class, InterfaceMethod, Interface, Item, Declaration, ASignature, AProperty}
 use Rattle.ash_tree.specs.Tokens.{Tokens}
-use Rattle.ash_tree.specs.Statements.{IsType}
-use Rattle.ash_tree.specs.Grammar.{IsResultType, void, typed, IsParameter, parameter, AreMoreParameters, no_more_parameters, more_parameters, AreParameters, no_parameters, parameters, IsFunction, function, IsMember, method, fields, constructor, AreMembers, no_members, more_members, IsClass, class, IsItem, a_class, a_function, globals, IsUnnamed, unnamed, with_name, AreMoreUnnamed, no_more_unnamed, more_unnamed, AreUnnamed, no_unnamed, some_unnamed, Declares, signature, property}
+use Rattle.ash_tree.specs.Types.{IsType}
+use Rattle.ash_tree.specs.Grammar.{IsResultType, void, typed, IsParameter, parameter, AreMoreParameters, no_more_parameters, more_parameters, AreParameters, no_parameters, parameters, IsFunction, function, IsMember, method, fields, constructor, AreMembers, no_members, more_members, IsClass, class, IsItem, a_class, a_function, globals, IsUnnamed, unnamed, with_name, AreMoreUnnamed, no_more_unnamed, more_unnamed, AreUnnamed, no_unnamed, some_unnamed, Declares, signature, property, AreMoreInterfaces, no_more_interfaces, more_interfaces, AreInterfaces, no_interfaces, interfaces, IsInterfaceMethod, interface_method, AreInterfaceMethods, no_interface_methods, more_interface_methods, IsInterface, interface, an_interface}
 use Rattle.ash_parse.specs.Signs.{is_sign}
 use Rattle.ash_parse.specs.Reading.{Unexpected, ◌>>=◌, put, loop, next_is_sign, expect_at, name_at}
 use Rattle.ash_parse.specs.StatementReader.{is_name, next_is_name, type_at}
-use Rattle.ash_parse.specs.ItemReader.{next_parameter_at, member_at, item_at, entry_at, strip, behind, is_left, unnamed_at, next_unnamed_at, more_unnamed_at, unnamed_list_at, unnamed_parameters_at, property_by, declaration_behind, declaration_at, result_type_at}
+use Rattle.ash_parse.specs.ItemReader.{next_parameter_at, member_at, next_interface_at, interface_method_at, item_at, entry_at, strip, behind, is_left, unnamed_at, next_unnamed_at, more_unnamed_at, unnamed_list_at, unnamed_parameters_at, property_by, declaration_behind, declaration_at, result_type_at}
 use Rattle.ash_parse.proofs.Readings.{no_err, bind_ok, at_pair, if_elim, put_ok, Finds, repeat_sound, expect_sound}
 use Rattle.ash_parse.proofs.Types.{ends_in, type_sound, type_shorter}
 use Rattle.ash_parse.proofs.StatementShorter.{vars_shorter, block_shorter}
-use Rattle.ash_parse.proofs.ItemSound.{grow_parameters, member_sound, item_sound, result_type_sound, names_in}
+use Rattle.ash_parse.proofs.ItemSound.{grow_parameters, member_sound, grow_interfaces, interface_method_sound, item_sound, result_type_sound, names_in}
 use Rattle.ash_parse.proofs.Loop.{Shrinks}
 
 no_truth : false ≡ true → ⊥
@@ -50,11 +50,33 @@ members_shorter : {free : ℕ} {from left : Tokens} {ms : List Member} → AreMe
 members_shorter no_members = omega arith
 members_shorter (more_members a b) = let x = member_shorter a in let y = members_shorter b in omega arith
 
+more_interfaces_shorter : {from left : Tokens} {xs : List TypeName} → AreMoreInterfaces from xs left → length left ≤ length from
+more_interfaces_shorter no_more_interfaces = omega arith
+more_interfaces_shorter (more_interfaces a) = let x = more_interfaces_shorter a in omega arith
+
+more_interfaces_strict : {from left : Tokens} {x : TypeName} {xs : List TypeName} → AreMoreInterfaces from (x ∷ xs) left → length left < length from
+more_interfaces_strict (more_interfaces a) = let x = more_interfaces_shorter a in omega arith
+
+interfaces_shorter : {from left : Tokens} {xs : List TypeName} → AreInterfaces from xs left → length left ≤ length from
+interfaces_shorter no_interfaces = omega arith
+interfaces_shorter (interfaces a) = let x = more_interfaces_shorter a in omega arith
+
 class_shorter : {free : ℕ} {from left : Tokens} {c : Class} → IsClass free from c left → length left < length from
-class_shorter (class ms) = let x = members_shorter ms in omega arith
+class_shorter (class is ms) = let x = interfaces_shorter is in let y = members_shorter ms in omega arith
+
+pub interface_method_shorter : {from left : Tokens} {m : InterfaceMethod} → IsInterfaceMethod from m left → length left < length from
+interface_method_shorter (interface_method r p) = let x = result_shorter r in let y = parameters_shorter p in omega arith
+
+interface_methods_shorter : {from left : Tokens} {ms : List InterfaceMethod} → AreInterfaceMethods from ms left → length left ≤ length from
+interface_methods_shorter no_interface_methods = omega arith
+interface_methods_shorter (more_interface_methods a b) = let x = interface_method_shorter a in let y = interface_methods_shorter b in omega arith
+
+interface_shorter : {from left : Tokens} {i : Interface} → IsInterface from i left → length left < length from
+interface_shorter (interface ms) = let x = interface_methods_shorter ms in omega arith
 
 pub item_shorter : {free : ℕ} {from left : Tokens} {x : Item} → IsItem free from x left → length left < length from
 item_shorter (a_class c) = class_shorter c
+item_shorter (an_interface i) = interface_shorter i
 item_shorter (a_function f) = function_shorter f
 item_shorter (globals v) = let x = vars_shorter v in omega arith
 
@@ -63,6 +85,12 @@ next_parameter_shrinks ts x rest e = more_parameters_strict (grow_parameters ts 
 
 pub member_shrinks : Shrinks member_at
 member_shrinks ts x rest e = member_shorter (member_sound ts x rest e)
+
+pub next_interface_shrinks : Shrinks next_interface_at
+next_interface_shrinks ts x rest e = more_interfaces_strict (grow_interfaces ts rest rest x [] e no_more_interfaces)
+
+pub interface_method_shrinks : Shrinks interface_method_at
+interface_method_shrinks ts x rest e = interface_method_shorter (interface_method_sound ts x rest e)
 
 pub strip_shorter : (ts : Tokens) → length (strip ts) ≤ length ts
 unfolding strip

@@ -4,16 +4,17 @@ use Rattle.ash_lex.specs.Tokens.{Meaning, name, sign, reserved}
 use Rattle.ash_lex.specs.declared.signs.Sign.TheVariants as signs
 use Rattle.ash_lex.specs.declared.words.ReservedWord.TheVariants as words
 use Rattle.ash_tree.specs.declared.tree.places.Place.{Place}
-use Rattle.ash_tree.specs.Tree.{Vars, Parameter, Constructor, AMethod, AField, AConstructor, Class, Item, AClass, AFunction, AGlobal}
+use Rattle.ash_tree.specs.Tree.{TypeName, Vars, Parameter, Constructor, AMethod, AField, AConstructor, Class, Interface, Item, AClass, AnInterface, AFunction, AGlobal}
 use Rattle.ash_tree.specs.Tokens.{Tokens}
 use Rattle.ash_tree.specs.Expressions.{DEPTH}
-use Rattle.ash_tree.specs.Statements.{IsType, IsVars, IsBlock}
-use Rattle.ash_tree.specs.Grammar.{IsResultType, void, typed, IsParameter, parameter, AreMoreParameters, no_more_parameters, more_parameters, AreParameters, no_parameters, parameters, IsFunction, function, IsMember, method, fields, constructor, AreMembers, no_members, more_members, IsClass, class, IsItem, a_class, a_function, globals, Derives, no_items, semicolon, item}
+use Rattle.ash_tree.specs.Types.{IsType}
+use Rattle.ash_tree.specs.Statements.{IsVars, IsBlock}
+use Rattle.ash_tree.specs.Grammar.{IsResultType, void, typed, IsParameter, parameter, AreMoreParameters, no_more_parameters, more_parameters, AreParameters, no_parameters, parameters, IsFunction, function, IsMember, method, fields, constructor, AreMembers, no_members, more_members, IsClass, class, IsItem, a_class, a_function, globals, Derives, no_items, semicolon, item, AreMoreInterfaces, no_more_interfaces, more_interfaces, AreInterfaces, no_interfaces, interfaces, IsInterfaceMethod, interface_method, AreInterfaceMethods, no_interface_methods, more_interface_methods, IsInterface, interface, an_interface}
 use Rattle.ash_parse.specs.Signs.{is_sign}
 use Rattle.ash_parse.specs.Reading.{Unexpected, ◌>>=◌, put, loop, next_is_sign, expect_at, name_at}
 use Rattle.ash_parse.specs.ExpressionReader.{below_at}
 use Rattle.ash_parse.specs.StatementReader.{type_at, goes_on, nested_at}
-use Rattle.ash_parse.specs.ItemReader.{is_void, is_class, result_type_at, parameter_at, next_parameter_at, more_parameters_at, parameter_list_at, parameters_at, body_at, function_at, globals_at, behind, is_function, is_constructor, constructor_at, member_at, members_at, class_at, item_at, strip, entry_at, is_left, entries_at, module_at}
+use Rattle.ash_parse.specs.ItemReader.{is_void, is_class, is_interface, result_type_at, parameter_at, next_parameter_at, more_parameters_at, parameter_list_at, parameters_at, body_at, function_at, globals_at, behind, is_function, is_constructor, constructor_at, member_at, members_at, next_interface_at, more_interfaces_at, listed_interfaces_at, interfaces_at, class_at, interface_method_at, interface_methods_at, interface_at, other_item_at, item_at, strip, entry_at, is_left, entries_at, module_at}
 use Rattle.ash_parse.proofs.Readings.{no_err, bind_ok, at_pair, if_elim, put_ok, Finds, repeat_sound, sign_is, expect_sound, name_sound}
 use Rattle.ash_parse.proofs.Types.{ends_in, type_sound}
 use Rattle.ash_parse.proofs.ExpressionSound.{whole_sound, part_sound}
@@ -28,6 +29,11 @@ pub class_is : (m : Meaning) → is_class m ≡ true → m ≡ reserved words.Cl
 unfolding is_class
 class_is (reserved words.Class) h = refl
 class_is _ h = cc
+
+pub interface_is : (m : Meaning) → is_interface m ≡ true → m ≡ reserved words.Interface
+unfolding is_interface
+interface_is (reserved words.Interface) h = refl
+interface_is _ h = cc
 
 -- the name that is expected stands where a phrase ends
 pub names_in : (ts : Tokens) (x : List ℕ × Place) (rest : Tokens) (Q : Tokens → Type 0) → name_at ts ≡ Ok (x, rest) → Q ts → Q ((name x.0, x.1) ∷ rest)
@@ -111,33 +117,86 @@ member_sound ts x rest h =
     (λ c l. let v = bind_ok (globals_at ts) (λ v. Ok (AField v.0, v.1)) (x, rest) l in
     at_pair (λ y l. IsMember 0 ts y l) (AField (v.0).0) (v.0).1 x rest v.2 (fields (globals_sound ts (v.0).0 (v.0).1 v.1).1)))
 
+pub grow_interfaces : (from behind left : Tokens) (x : TypeName) (xs : List TypeName) → next_interface_at from ≡ Ok (x, behind) → AreMoreInterfaces behind xs left → AreMoreInterfaces from (x ∷ xs) left
+unfolding next_interface_at
+grow_interfaces from behind left x xs h more =
+    let c = bind_ok (expect_at signs.Comma from) (λ comma. name_at comma.1 >>= λ n. Ok (record { place = (n.0).1; name = (n.0).0 }, n.1)) (x, behind) h in
+    let n = bind_ok (name_at (c.0).1) (λ n. Ok (record { place = (n.0).1; name = (n.0).0 }, n.1)) (x, behind) c.2 in
+    at_pair (λ (y : TypeName) (r : Tokens). AreMoreInterfaces r xs left → AreMoreInterfaces from (y ∷ xs) left) (record { place = ((n.0).0).1; name = ((n.0).0).0 }) (n.0).1 x behind n.2
+    (λ m. expect_sound signs.Comma from (c.0).0 (c.0).1 (λ r. AreMoreInterfaces r (record { place = ((n.0).0).1; name = ((n.0).0).0 } ∷ xs) left) c.1
+    (name_sound (c.0).1 (n.0).0 (n.0).1 (λ r. AreMoreInterfaces ((sign signs.Comma, (c.0).0) ∷ r) (record { place = ((n.0).0).1; name = ((n.0).0).0 } ∷ xs) left) n.1 (more_interfaces m))) more
+
+interfaces_sound : Finds interfaces_at AreInterfaces
+unfolding interfaces_at listed_interfaces_at more_interfaces_at
+interfaces_sound ts x rest h =
+    if_elim (next_is_sign signs.Colon ts) (expect_at signs.Colon ts >>= λ c. name_at c.1 >>= λ n. put (record { place = (n.0).1; name = (n.0).0 }) (loop (next_is_sign signs.Comma) next_interface_at n.1)) (Ok ([], ts)) (Ok (x, rest)) (AreInterfaces ts x rest) h
+    (λ b k. let c = bind_ok (expect_at signs.Colon ts) (λ c. name_at c.1 >>= λ n. put (record { place = (n.0).1; name = (n.0).0 }) (loop (next_is_sign signs.Comma) next_interface_at n.1)) (x, rest) k in
+    let n = bind_ok (name_at (c.0).1) (λ n. put (record { place = (n.0).1; name = (n.0).0 }) (loop (next_is_sign signs.Comma) next_interface_at n.1)) (x, rest) c.2 in
+    expect_sound signs.Colon ts (c.0).0 (c.0).1 (λ r. AreInterfaces r x rest) c.1
+    (name_sound (c.0).1 (n.0).0 (n.0).1 (λ r. AreInterfaces ((sign signs.Colon, (c.0).0) ∷ r) x rest) n.1
+    (put_ok (record { place = ((n.0).0).1; name = ((n.0).0).0 }) (loop (next_is_sign signs.Comma) next_interface_at (n.0).1) x rest (λ ys left. AreInterfaces ((sign signs.Colon, (c.0).0) ∷ (name ((n.0).0).0, ((n.0).0).1) ∷ (n.0).1) ys left) n.2
+    (λ ys left r. interfaces (repeat_sound (next_is_sign signs.Comma) next_interface_at AreMoreInterfaces (λ s. no_more_interfaces) grow_interfaces (length (n.0).1) (n.0).1 ys left r)))))
+    (λ b k. at_pair (AreInterfaces ts) [] ts x rest k no_interfaces)
+
 class_sound : (p : Place) (ts : Tokens) (x : Class) (rest : Tokens) → class_at ts ≡ Ok (x, rest) → IsClass 0 ((reserved words.Class, p) ∷ ts) x rest
 unfolding class_at members_at
 class_sound p ts x rest h =
-    let n = bind_ok (name_at ts) (λ n. expect_at signs.OpenBrace n.1 >>= λ o. loop goes_on member_at o.1 >>= λ xs. expect_at signs.CloseBrace xs.1 >>= λ z. Ok (record { place = (n.0).1; name = (n.0).0; members = xs.0 }, z.1)) (x, rest) h in
-    let o = bind_ok (expect_at signs.OpenBrace (n.0).1) (λ o. loop goes_on member_at o.1 >>= λ xs. expect_at signs.CloseBrace xs.1 >>= λ z. Ok (record { place = ((n.0).0).1; name = ((n.0).0).0; members = xs.0 }, z.1)) (x, rest) n.2 in
-    let xs = bind_ok (loop goes_on member_at (o.0).1) (λ xs. expect_at signs.CloseBrace xs.1 >>= λ z. Ok (record { place = ((n.0).0).1; name = ((n.0).0).0; members = xs.0 }, z.1)) (x, rest) o.2 in
-    let z = bind_ok (expect_at signs.CloseBrace (xs.0).1) (λ z. Ok (record { place = ((n.0).0).1; name = ((n.0).0).0; members = (xs.0).0 }, z.1)) (x, rest) xs.2 in
-    let c : Class = record { place = ((n.0).0).1; name = ((n.0).0).0; members = (xs.0).0 } in
+    let n = bind_ok (name_at ts) (λ n. interfaces_at n.1 >>= λ is. expect_at signs.OpenBrace is.1 >>= λ o. loop goes_on member_at o.1 >>= λ xs. expect_at signs.CloseBrace xs.1 >>= λ z. Ok (record { place = (n.0).1; name = (n.0).0; interfaces = is.0; members = xs.0 }, z.1)) (x, rest) h in
+    let is = bind_ok (interfaces_at (n.0).1) (λ is. expect_at signs.OpenBrace is.1 >>= λ o. loop goes_on member_at o.1 >>= λ xs. expect_at signs.CloseBrace xs.1 >>= λ z. Ok (record { place = ((n.0).0).1; name = ((n.0).0).0; interfaces = is.0; members = xs.0 }, z.1)) (x, rest) n.2 in
+    let o = bind_ok (expect_at signs.OpenBrace (is.0).1) (λ o. loop goes_on member_at o.1 >>= λ xs. expect_at signs.CloseBrace xs.1 >>= λ z. Ok (record { place = ((n.0).0).1; name = ((n.0).0).0; interfaces = (is.0).0; members = xs.0 }, z.1)) (x, rest) is.2 in
+    let xs = bind_ok (loop goes_on member_at (o.0).1) (λ xs. expect_at signs.CloseBrace xs.1 >>= λ z. Ok (record { place = ((n.0).0).1; name = ((n.0).0).0; interfaces = (is.0).0; members = xs.0 }, z.1)) (x, rest) o.2 in
+    let z = bind_ok (expect_at signs.CloseBrace (xs.0).1) (λ z. Ok (record { place = ((n.0).0).1; name = ((n.0).0).0; interfaces = (is.0).0; members = (xs.0).0 }, z.1)) (x, rest) xs.2 in
+    let c : Class = record { place = ((n.0).0).1; name = ((n.0).0).0; interfaces = (is.0).0; members = (xs.0).0 } in
+    let i : AreInterfaces (n.0).1 (is.0).0 (is.0).1 = interfaces_sound (n.0).1 (is.0).0 (is.0).1 is.1 in
     let m : AreMembers 0 (o.0).1 (xs.0).0 (xs.0).1 = repeat_sound goes_on member_at (AreMembers 0) (λ s. no_members) (λ from behind left x xs e a. more_members (member_sound from x behind e) a) (length (o.0).1) (o.0).1 (xs.0).0 (xs.0).1 xs.1 in
     at_pair (λ y l. IsClass 0 ((reserved words.Class, p) ∷ ts) y l) c (z.0).1 x rest z.2
     (name_sound ts (n.0).0 (n.0).1 (λ l. IsClass 0 ((reserved words.Class, p) ∷ l) c (z.0).1) n.1
-    (expect_sound signs.OpenBrace (n.0).1 (o.0).0 (o.0).1 (λ l. IsClass 0 ((reserved words.Class, p) ∷ (name ((n.0).0).0, ((n.0).0).1) ∷ l) c (z.0).1) o.1
-    (class (ends_in signs.CloseBrace (xs.0).1 (z.0).0 (z.0).1 (λ l. AreMembers 0 (o.0).1 (xs.0).0 l) z.1 m))))
+    (class (ends_in signs.OpenBrace (is.0).1 (o.0).0 (o.0).1 (λ l. AreInterfaces (n.0).1 (is.0).0 l) o.1 i) (ends_in signs.CloseBrace (xs.0).1 (z.0).0 (z.0).1 (λ l. AreMembers 0 (o.0).1 (xs.0).0 l) z.1 m)))
+
+pub interface_method_sound : Finds interface_method_at IsInterfaceMethod
+unfolding interface_method_at
+interface_method_sound ts x rest h =
+    let r = bind_ok (result_type_at ts) (λ r. name_at r.1 >>= λ n. parameters_at n.1 >>= λ xs. expect_at signs.Semicolon xs.1 >>= λ z. Ok (record { place = (n.0).1; result = r.0; name = (n.0).0; parameters = xs.0 }, z.1)) (x, rest) h in
+    let n = bind_ok (name_at (r.0).1) (λ n. parameters_at n.1 >>= λ xs. expect_at signs.Semicolon xs.1 >>= λ z. Ok (record { place = (n.0).1; result = (r.0).0; name = (n.0).0; parameters = xs.0 }, z.1)) (x, rest) r.2 in
+    let xs = bind_ok (parameters_at (n.0).1) (λ xs. expect_at signs.Semicolon xs.1 >>= λ z. Ok (record { place = ((n.0).0).1; result = (r.0).0; name = ((n.0).0).0; parameters = xs.0 }, z.1)) (x, rest) n.2 in
+    let z = bind_ok (expect_at signs.Semicolon (xs.0).1) (λ z. Ok (record { place = ((n.0).0).1; result = (r.0).0; name = ((n.0).0).0; parameters = (xs.0).0 }, z.1)) (x, rest) xs.2 in
+    at_pair (IsInterfaceMethod ts) (record { place = ((n.0).0).1; result = (r.0).0; name = ((n.0).0).0; parameters = (xs.0).0 }) (z.0).1 x rest z.2
+    (interface_method (names_in (r.0).1 (n.0).0 (n.0).1 (λ l. IsResultType ts (r.0).0 l) n.1 (result_type_sound ts (r.0).0 (r.0).1 r.1)) (ends_in signs.Semicolon (xs.0).1 (z.0).0 (z.0).1 (λ l. AreParameters (n.0).1 (xs.0).0 l) z.1 (parameters_sound (n.0).1 (xs.0).0 (xs.0).1 xs.1)))
+
+interface_sound : (p : Place) (ts : Tokens) (x : Interface) (rest : Tokens) → interface_at ts ≡ Ok (x, rest) → IsInterface ((reserved words.Interface, p) ∷ ts) x rest
+unfolding interface_at interface_methods_at
+interface_sound p ts x rest h =
+    let n = bind_ok (name_at ts) (λ n. expect_at signs.OpenBrace n.1 >>= λ o. loop goes_on interface_method_at o.1 >>= λ xs. expect_at signs.CloseBrace xs.1 >>= λ z. Ok (record { place = (n.0).1; name = (n.0).0; methods = xs.0 }, z.1)) (x, rest) h in
+    let o = bind_ok (expect_at signs.OpenBrace (n.0).1) (λ o. loop goes_on interface_method_at o.1 >>= λ xs. expect_at signs.CloseBrace xs.1 >>= λ z. Ok (record { place = ((n.0).0).1; name = ((n.0).0).0; methods = xs.0 }, z.1)) (x, rest) n.2 in
+    let xs = bind_ok (loop goes_on interface_method_at (o.0).1) (λ xs. expect_at signs.CloseBrace xs.1 >>= λ z. Ok (record { place = ((n.0).0).1; name = ((n.0).0).0; methods = xs.0 }, z.1)) (x, rest) o.2 in
+    let z = bind_ok (expect_at signs.CloseBrace (xs.0).1) (λ z. Ok (record { place = ((n.0).0).1; name = ((n.0).0).0; methods = (xs.0).0 }, z.1)) (x, rest) xs.2 in
+    let i : Interface = record { place = ((n.0).0).1; name = ((n.0).0).0; methods = (xs.0).0 } in
+    let m : AreInterfaceMethods (o.0).1 (xs.0).0 (xs.0).1 = repeat_sound goes_on interface_method_at AreInterfaceMethods (λ s. no_interface_methods) (λ from behind left x xs e a. more_interface_methods (interface_method_sound from x behind e) a) (length (o.0).1) (o.0).1 (xs.0).0 (xs.0).1 xs.1 in
+    at_pair (λ y l. IsInterface ((reserved words.Interface, p) ∷ ts) y l) i (z.0).1 x rest z.2
+    (name_sound ts (n.0).0 (n.0).1 (λ l. IsInterface ((reserved words.Interface, p) ∷ l) i (z.0).1) n.1
+    (expect_sound signs.OpenBrace (n.0).1 (o.0).0 (o.0).1 (λ l. IsInterface ((reserved words.Interface, p) ∷ (name ((n.0).0).0, ((n.0).0).1) ∷ l) i (z.0).1) o.1
+    (interface (ends_in signs.CloseBrace (xs.0).1 (z.0).0 (z.0).1 (λ l. AreInterfaceMethods (o.0).1 (xs.0).0 l) z.1 m))))
+
+other_item_sound : Finds other_item_at (IsItem 0)
+other_item_sound u x rest h =
+    if_elim (is_function u) (function_at u >>= λ f. Ok (AFunction f.0, f.1)) (globals_at u >>= λ v. Ok (AGlobal v.0, v.1)) (Ok (x, rest)) (IsItem 0 u x rest) h
+    (λ c l. let f = bind_ok (function_at u) (λ f. Ok (AFunction f.0, f.1)) (x, rest) l in
+    at_pair (λ y l. IsItem 0 u y l) (AFunction (f.0).0) (f.0).1 x rest f.2 (a_function (function_sound u (f.0).0 (f.0).1 f.1)))
+    (λ c l. let v = bind_ok (globals_at u) (λ v. Ok (AGlobal v.0, v.1)) (x, rest) l in
+    at_pair (λ y l. IsItem 0 u y l) (AGlobal (v.0).0) (v.0).1 x rest v.2 (globals (globals_sound u (v.0).0 (v.0).1 v.1).1))
 
 pub item_sound : Finds item_at (IsItem 0)
 unfolding item_at
 item_sound [] x rest h = absurd (no_err (Unexpected []) (x, rest) h)
 item_sound ((m, p) ∷ ts) x rest h =
     let u : Tokens = (m, p) ∷ ts in
-    if_elim (is_class m) (class_at ts >>= λ c. Ok (AClass c.0, c.1)) (cond (is_function u) (function_at u >>= λ f. Ok (AFunction f.0, f.1)) (globals_at u >>= λ v. Ok (AGlobal v.0, v.1))) (Ok (x, rest)) (IsItem 0 u x rest) h
+    if_elim (is_class m) (class_at ts >>= λ c. Ok (AClass c.0, c.1)) (cond (is_interface m) (interface_at ts >>= λ i. Ok (AnInterface i.0, i.1)) (other_item_at u)) (Ok (x, rest)) (IsItem 0 u x rest) h
     (λ b k. let c = bind_ok (class_at ts) (λ c. Ok (AClass c.0, c.1)) (x, rest) k in
     at_pair (λ y l. IsItem 0 u y l) (AClass (c.0).0) (c.0).1 x rest c.2 (a_class (subst (λ w. IsClass 0 ((w, p) ∷ ts) (c.0).0 (c.0).1) (sym (class_is m b)) (class_sound p ts (c.0).0 (c.0).1 c.1))))
-    (λ b k. if_elim (is_function u) (function_at u >>= λ f. Ok (AFunction f.0, f.1)) (globals_at u >>= λ v. Ok (AGlobal v.0, v.1)) (Ok (x, rest)) (IsItem 0 u x rest) k
-    (λ c l. let f = bind_ok (function_at u) (λ f. Ok (AFunction f.0, f.1)) (x, rest) l in
-    at_pair (λ y l. IsItem 0 u y l) (AFunction (f.0).0) (f.0).1 x rest f.2 (a_function (function_sound u (f.0).0 (f.0).1 f.1)))
-    (λ c l. let v = bind_ok (globals_at u) (λ v. Ok (AGlobal v.0, v.1)) (x, rest) l in
-    at_pair (λ y l. IsItem 0 u y l) (AGlobal (v.0).0) (v.0).1 x rest v.2 (globals (globals_sound u (v.0).0 (v.0).1 v.1).1)))
+    (λ b k. if_elim (is_interface m) (interface_at ts >>= λ i. Ok (AnInterface i.0, i.1)) (other_item_at u) (Ok (x, rest)) (IsItem 0 u x rest) k
+    (λ c l. let i = bind_ok (interface_at ts) (λ i. Ok (AnInterface i.0, i.1)) (x, rest) l in
+    at_pair (λ y l. IsItem 0 u y l) (AnInterface (i.0).0) (i.0).1 x rest i.2 (an_interface (subst (λ w. IsInterface ((w, p) ∷ ts) (i.0).0 (i.0).1) (sym (interface_is m c)) (interface_sound p ts (i.0).0 (i.0).1 i.1))))
+    (λ c l. other_item_sound u x rest l))
 
 -- what stands behind each ";" is a module where the whole is
 strip_sound : (ts : Tokens) (xs : List Item) → Derives 0 (strip ts) xs → Derives 0 ts xs

@@ -1,101 +1,120 @@
 -- What is answered where a function or variables begin hangs only on the tokens that are taken and the next one. Six
 -- tokens tell at most which of the two it is, and both readers take each of them that leaves it open.
-use Rattle.std.proofs.Common.{◌≡◌, ℕ, ◌≤◌, ◌⊎◌, inl, inr, List, [], ◌∷◌, ◌++◌, length, Bool, true, false, cond, Option, Some, None, Ok, Err, refl, sym, subst, arith}
+use Rattle.std.proofs.Common.{◌≡◌, ℕ, ◌≤◌, ◌⊎◌, inl, inr, List, [], ◌∷◌, ◌++◌, length, Bool, true, false, cond, Option, Some, None, Ok, Err, refl, sym, ap, subst, arith}
 use Rattle.ash_lex.specs.Tokens.{Meaning, name, number, sign, reserved, unsupported}
+use Rattle.ash_lex.specs.declared.signs.Sign.{Sign}
 use Rattle.ash_lex.specs.declared.signs.Sign.TheVariants as signs
+use Rattle.ash_lex.specs.declared.words.ReservedWord.TheVariants as words
 use Rattle.ash_tree.specs.declared.tree.places.Place.{Place}
 use Rattle.ash_tree.specs.declared.tree.types.Primitive.{Primitive}
-use Rattle.ash_tree.specs.Tree.{Named, Prim, Object, Handle, Expr, Decl, Initializer, Arguments, Vars, Parameter, Function}
+use Rattle.ash_tree.specs.Tree.{Element, Named, Prim, Object, Handle, Array, ArrayHandle, Expr, Decl, Initializer, Arguments, Vars, Parameter, Function}
 use Rattle.ash_tree.specs.Tokens.{Tokens}
 use Rattle.ash_tree.specs.Operators.{primitive}
 use Rattle.ash_tree.specs.Expressions.{DEPTH}
 use Rattle.ash_parse.specs.Signs.{is_sign, same_sign}
 use Rattle.ash_parse.specs.Reading.{Unexpected, Reading, ◌>>=◌, put, next_is_sign, expect_at, name_at}
 use Rattle.ash_parse.specs.ExpressionReader.{below_at, exprs_with, arguments_with, more_exprs_with}
-use Rattle.ash_parse.specs.StatementReader.{is_name, next_is_name, type_by, type_at, is_vars, initializer_with, decl_with, more_decls_with, decls_with, vars_with, declared_with}
-use Rattle.ash_parse.specs.ItemReader.{is_void, result_type_at, parameter_at, next_parameter_at, more_parameters_at, parameter_list_at, parameters_at, body_at, function_at, globals_at, behind, opens_body, names_function, is_function}
+use Rattle.ash_parse.specs.TypeReader.{is_array, element_at, behind_element}
+use Rattle.ash_parse.specs.StatementReader.{is_name, next_is_name, handle_by, type_by, type_at, is_vars, initializer_with, decl_with, more_decls_with, decls_with, vars_with, declared_with}
+use Rattle.ash_parse.specs.ItemReader.{is_void, result_type_at, parameter_at, next_parameter_at, more_parameters_at, parameter_list_at, parameters_at, body_at, function_at, globals_at, behind, opens_body, names_function, handle_names_function, array_names_function, is_function}
 use Rattle.ash_parse.proofs.Readings.{sign_is}
 use Rattle.ash_parse.proofs.ItemShorter.{next_parameter_shrinks}
-use Rattle.ash_parse.proofs.Rereading.{no_true}
-use Rattle.ash_parse.proofs.Keeps.{differs_on, differs_off, alike, Past, past_more, past, Lawful, ok_lawful, bind_past, bind_lawful, put_lawful, sign_steady, Crosses, choice_lawful, if_lawful, Led, led_behind, led_from, led_if, led_lawful, expect_lawful, name_lawful, Takes, bind_takes, loop_lawful}
-use Rattle.ash_parse.proofs.KeepsExpressions.{BeginsType, by_name, below_lawful, below_takes, more_exprs_lawful}
-use Rattle.ash_parse.proofs.KeepsStatements.{type_lawful, type_takes, vars_type, vars_behind, more_decls_lawful, initializer_lawful, declared_lawful, block_lawful, nested_lawful}
+use Rattle.ash_parse.proofs.Rereading.{no_some, no_true}
+use Rattle.ash_parse.proofs.Keeps.{differs_on, differs_off, alike, Past, past, Lawful, ok_lawful, bind_past, bind_lawful, put_lawful, sign_steady, Crosses, choice_lawful, if_lawful, IsNoArray, Led, led_behind, led_from, led_if, led_lawful, expect_lawful, name_lawful, Takes, bind_takes, loop_lawful}
+use Rattle.ash_parse.proofs.Choices.{left_of, passed_is_read, Passed, name_passed, word_passed, array_passed, differ_passed, word_no_array}
+use Rattle.ash_parse.proofs.KeepsExpressions.{below_lawful, room_takes, more_exprs_lawful}
+use Rattle.ash_parse.proofs.KeepsStatements.{type_lawful, type_takes, more_decls_lawful, initializer_lawful, declared_lawful, block_lawful, nested_lawful}
 
 pub within : DEPTH ≤ 64
 within = omega arith
 
-module _ {slack : ℕ} where
-  result_led : (m : Meaning) (p : Place) → Led slack (m, p) (λ s. result_type_at ((m, p) ∷ s))
-  unfolding result_type_at
-  result_led m p = led_if (is_void m) (led_behind (ok_lawful None)) (led_from {read = λ s. type_at s >>= λ t. Ok (Some t.0, t.1)} (bind_lawful _ type_lawful λ t. ok_lawful (Some t)))
+void_no_array : (m : Meaning) → is_void m ≡ true → IsNoArray m
+unfolding is_void
+void_no_array (reserved words.Array) e = no_true e
+void_no_array m e = tt
 
-  pub result_lawful : Lawful slack result_type_at
-  unfolding result_type_at
-  result_lawful = led_lawful (λ n. omega arith) result_led
+result_led : (m : Meaning) (p : Place) → Led (m, p) (λ s. result_type_at ((m, p) ∷ s))
+unfolding result_type_at
+result_led m p = led_if (is_void m) (λ e. led_behind (void_no_array m e) (ok_lawful None)) (led_from {read = λ s. type_at s >>= λ t. Ok (Some t.0, t.1)} (bind_lawful _ type_lawful λ t. ok_lawful (Some t)))
 
-  behind_parameter : (t : Named) → Lawful {A = Parameter} slack (λ s. name_at s >>= λ n. Ok (record { of = t; place = (n.0).1; name = (n.0).0 }, n.1))
-  behind_parameter t = bind_lawful _ name_lawful λ n. ok_lawful (record { of = t; place = n.1; name = n.0 })
+pub result_lawful : Lawful result_type_at
+unfolding result_type_at
+result_lawful = led_lawful (λ n. omega arith) result_led
 
-  parameter_lawful : Lawful slack parameter_at
-  unfolding parameter_at
-  parameter_lawful = bind_lawful _ type_lawful behind_parameter
+behind_parameter : (t : Named) → Lawful {A = Parameter} (λ s. name_at s >>= λ n. Ok (record { of = t; place = (n.0).1; name = (n.0).0 }, n.1))
+behind_parameter t = bind_lawful _ name_lawful λ n. ok_lawful (record { of = t; place = n.1; name = n.0 })
 
-  next_parameter_lawful : Lawful slack next_parameter_at
-  unfolding next_parameter_at
-  next_parameter_lawful = bind_lawful _ (expect_lawful signs.Comma) λ c. parameter_lawful
+parameter_lawful : Lawful parameter_at
+unfolding parameter_at
+parameter_lawful = bind_lawful _ type_lawful behind_parameter
 
-  more_parameters_lawful : Lawful slack more_parameters_at
-  unfolding more_parameters_at
-  more_parameters_lawful = loop_lawful (next_is_sign signs.Comma) next_parameter_at next_parameter_shrinks (sign_steady signs.Comma) next_parameter_lawful
+next_parameter_lawful : Lawful next_parameter_at
+unfolding next_parameter_at
+next_parameter_lawful = bind_lawful _ (expect_lawful signs.Comma) λ c. parameter_lawful
+
+more_parameters_lawful : Lawful more_parameters_at
+unfolding more_parameters_at
+more_parameters_lawful = loop_lawful (next_is_sign signs.Comma) next_parameter_at next_parameter_shrinks (sign_steady signs.Comma) next_parameter_lawful
 
 -- a list with its ")", where `some` reads a list with an element at least
 abbrev closed : {A : Type 0} → (Tokens → Reading (List A)) → Tokens → Reading (List A)
 closed some s = cond (next_is_sign signs.CloseParenthesis s) (Ok ([], s)) (some s) >>= λ xs. expect_at signs.CloseParenthesis xs.1 >>= λ z. Ok (xs.0, z.1)
 
-module _ {slack : ℕ} where
-  closes : {A : Type 0} (xs : List A) → Lawful slack (λ s. expect_at signs.CloseParenthesis s >>= λ z. Ok (xs, z.1))
-  closes xs = bind_lawful _ (expect_lawful signs.CloseParenthesis) λ z. ok_lawful xs
+closes : {A : Type 0} (xs : List A) → Lawful (λ s. expect_at signs.CloseParenthesis s >>= λ z. Ok (xs, z.1))
+closes xs = bind_lawful _ (expect_lawful signs.CloseParenthesis) λ z. ok_lawful xs
 
-  closed_lawful : {A : Type 0} {some : Tokens → Reading (List A)} → Lawful slack some → Lawful slack (closed some)
-  closed_lawful {some} law = bind_lawful {read = λ s. cond (next_is_sign signs.CloseParenthesis s) (Ok ([], s)) (some s)} (λ xs. expect_at signs.CloseParenthesis xs.1 >>= λ z. Ok (xs.0, z.1)) (if_lawful (next_is_sign signs.CloseParenthesis) (sign_steady signs.CloseParenthesis) (ok_lawful []) law) closes
+closed_lawful : {A : Type 0} {some : Tokens → Reading (List A)} → Lawful some → Lawful (closed some)
+closed_lawful {some} law = bind_lawful {read = λ s. cond (next_is_sign signs.CloseParenthesis s) (Ok ([], s)) (some s)} (λ xs. expect_at signs.CloseParenthesis xs.1 >>= λ z. Ok (xs.0, z.1)) (if_lawful (next_is_sign signs.CloseParenthesis) (sign_steady signs.CloseParenthesis) (ok_lawful []) law) closes
 
--- the token stands behind the "(" of parameters
-BeginsParameters : Meaning → Type 0
-BeginsParameters m = BeginsType m ⊎ (is_sign signs.CloseParenthesis m ≡ true)
+-- these tokens begin what stands behind the "(" of parameters, and so many are behind it at the most
+Opened : ℕ → Tokens → Type 0
+Opened n [] = ⊥
+Opened n ((m, p) ∷ s) = Passed n ((m, p) ∷ s) ⊎ ((is_sign signs.CloseParenthesis m ≡ true) × (length s ≤ n))
 
-module _ {slack : ℕ} where
-  closed_takes : {A : Type 0} {some : Tokens → Reading (List A)} (m : Meaning) (p : Place) → (BeginsType m → Takes slack (m, p) some) → BeginsParameters m → Takes slack (m, p) (closed some)
-  unfolding BeginsParameters next_is_sign expect_at
-  closed_takes {A} {some} m p takes (inr e) = record { taken = λ n s l. rw (e, e) l }
-  closed_takes {A} {some} m p takes (inl b) = record { taken = λ n s l. by_sign (is_sign signs.CloseParenthesis m) refl n s l }
-    where
-      by_sign : (v : Bool) → is_sign signs.CloseParenthesis m ≡ v → (n : ℕ) (s : Tokens) → length s ≤ n → Past slack n (closed some ((m, p) ∷ s))
-      by_sign true e n s l = rw (e, e) l
-      by_sign false e n s l = rw e (bind_past (λ xs. expect_at signs.CloseParenthesis xs.1 >>= λ z. Ok (xs.0, z.1)) slack n (some ((m, p) ∷ s)) ((takes b).taken n s l) (λ xs r k. (closes {slack = slack} xs).stays n r k))
+word_no_sign : (s : Sign) (m : Meaning) (k : Primitive) → primitive m ≡ Some k → is_sign s m ≡ false
+unfolding primitive is_sign
+word_no_sign s (sign x) k h = absurd (no_some k h)
+word_no_sign s m k h = refl
+
+passed_no_sign : (o : Sign) (n : ℕ) (s : Tokens) → Passed n s → next_is_sign o s ≡ false
+unfolding next_is_sign is_sign
+passed_no_sign o n _ (name_passed text p s l) = refl
+passed_no_sign o n _ (word_passed m p k s e l) = word_no_sign o m k e
+passed_no_sign o n _ (array_passed p s l) = refl
+
+closed_takes : {A : Type 0} {some : Tokens → Reading (List A)} → Takes Passed some → Takes Opened (closed some)
+unfolding Opened next_is_sign expect_at
+closed_takes {A} {some} takes = record { taken = by_opened }
+  where
+    by_opened : (n : ℕ) (s : Tokens) → Opened n s → Past n (closed some s)
+    by_opened n [] b = absurd b
+    by_opened n ((m, p) ∷ s) (inr b) = rw (b.0, b.0) b.1
+    by_opened n ((m, p) ∷ s) (inl b) =
+        rw (passed_no_sign signs.CloseParenthesis n ((m, p) ∷ s) b)
+        (bind_past (λ xs. expect_at signs.CloseParenthesis xs.1 >>= λ z. Ok (xs.0, z.1)) n (some ((m, p) ∷ s)) (takes.taken n ((m, p) ∷ s) b) (λ xs r k. (closes xs).stays n r k))
 
 some_parameters : Tokens → Reading (List Parameter)
 some_parameters s = parameter_at s >>= λ x. put x.0 (more_parameters_at x.1)
 
-module _ {slack : ℕ} where
-  some_parameters_lawful : Lawful slack some_parameters
-  unfolding some_parameters
-  some_parameters_lawful = bind_lawful _ parameter_lawful λ x. put_lawful x more_parameters_lawful
+some_parameters_lawful : Lawful some_parameters
+unfolding some_parameters
+some_parameters_lawful = bind_lawful _ parameter_lawful λ x. put_lawful x more_parameters_lawful
 
-  some_parameters_takes : (m : Meaning) (p : Place) → BeginsType m → Takes slack (m, p) some_parameters
-  unfolding some_parameters parameter_at
-  some_parameters_takes m p b = bind_takes _ (bind_takes _ (type_takes m p b) behind_parameter) (λ x. put_lawful x more_parameters_lawful)
+some_parameters_takes : Takes Passed some_parameters
+unfolding some_parameters parameter_at
+some_parameters_takes = bind_takes _ (bind_takes _ type_takes behind_parameter) (λ x. put_lawful x more_parameters_lawful)
 
-  pub parameters_lawful : Lawful slack parameters_at
-  unfolding parameters_at parameter_list_at some_parameters
-  parameters_lawful = bind_lawful _ (expect_lawful signs.OpenParenthesis) λ o. closed_lawful some_parameters_lawful
+pub parameters_lawful : Lawful parameters_at
+unfolding parameters_at parameter_list_at some_parameters
+parameters_lawful = bind_lawful _ (expect_lawful signs.OpenParenthesis) λ o. closed_lawful some_parameters_lawful
 
-  pub body_lawful : Lawful slack body_at
-  unfolding body_at
-  body_lawful = block_lawful DEPTH within (nested_lawful DEPTH within)
+pub body_lawful : Lawful body_at
+unfolding body_at
+body_lawful = block_lawful DEPTH within (nested_lawful DEPTH within)
 
-  globals_lawful : Lawful slack globals_at
-  unfolding globals_at
-  globals_lawful = declared_lawful DEPTH within
+globals_lawful : Lawful globals_at
+unfolding globals_at
+globals_lawful = declared_lawful DEPTH within
 
 -- behind the name: the parameters of a function, by the next three tokens
 opens_function : Tokens → Bool
@@ -109,52 +128,60 @@ opens_sign m p s h = by_sign (is_sign signs.OpenParenthesis m) refl h
     by_sign true e h = sign_is signs.OpenParenthesis m e
     by_sign false e h = absurd (no_true h)
 
-opens_parameters : (a : Meaning × Place) (m : Meaning) (p : Place) (s : Tokens) → opens_function (a ∷ (m, p) ∷ s) ≡ true → BeginsParameters m
-unfolding opens_function next_is_sign behind opens_body BeginsParameters
-opens_parameters a m p s h = by_sign (is_sign signs.OpenParenthesis a.0) h
-  where
-    by_close : (v : Bool) → is_sign signs.CloseParenthesis m ≡ v → cond v (next_is_sign signs.OpenBrace s) false ≡ true → BeginsParameters m
-    by_close true e h = inr e
-    by_close false e h = absurd (no_true h)
-
-    by_vars : (v : Bool) → is_vars ((m, p) ∷ s) ≡ v → cond v true (cond (is_sign signs.CloseParenthesis m) (next_is_sign signs.OpenBrace s) false) ≡ true → BeginsParameters m
-    by_vars true e h = inl (vars_type m p s e)
-    by_vars false e h = by_close (is_sign signs.CloseParenthesis m) refl h
-
-    by_sign : (v : Bool) → cond v (cond (is_vars ((m, p) ∷ s)) true (cond (is_sign signs.CloseParenthesis m) (next_is_sign signs.OpenBrace s) false)) false ≡ true → BeginsParameters m
-    by_sign true h = by_vars (is_vars ((m, p) ∷ s)) refl h
-    by_sign false h = absurd (no_true h)
-
 brace_steady : (a t : Meaning × Place) (more other front : Tokens) → opens_body (a ∷ front ++ t ∷ more) ≡ opens_body (a ∷ front ++ t ∷ other)
 unfolding opens_body
 brace_steady (m, p) t more other front = rw (sign_steady signs.OpenBrace t more other front) refl
 
-opens_behind : (a b t : Meaning × Place) (more other front : Tokens) → opens_function (a ∷ b ∷ front ++ t ∷ more) ≡ opens_function (a ∷ b ∷ front ++ t ∷ other)
-unfolding opens_function next_is_sign behind
-opens_behind a b t more other front = rw (vars_behind b t more other front, brace_steady b t more other front) refl
+-- behind the "(" where tokens that are the same up to `t` differ in what tells a function, `t` is taken
+body_opened : (t : Meaning × Place) (more other front : Tokens) → (opens_body (front ++ t ∷ more) ≡ opens_body (front ++ t ∷ other) → ⊥) → Opened (length more) (front ++ t ∷ more)
+unfolding opens_body Opened
+body_opened (m, p) more other [] differs = inr (by_sign (is_sign signs.CloseParenthesis m) differs, omega arith)
+  where
+    by_sign : (v : Bool) → (cond v (next_is_sign signs.OpenBrace more) false ≡ cond v (next_is_sign signs.OpenBrace other) false → ⊥) → v ≡ true
+    by_sign true d = refl
+    by_sign false d = absurd (d refl)
+body_opened t more other (a ∷ front) differs = absurd (differs (brace_steady a t more other front))
 
-module _ {slack : ℕ} where
-  -- a reader that reads parameters or arguments behind a "("
-  module _ {A : Type 0} (read inside : Tokens → Reading A) (opened : (p : Place) (s : Tokens) → read ((sign signs.OpenParenthesis, p) ∷ s) ≡ inside s) (law : Lawful slack inside) (takes : (m : Meaning) (p : Place) → BeginsParameters m → Takes slack (m, p) inside) where
-    takes_open : (m : Meaning) (p : Place) (n : ℕ) (s : Tokens) → m ≡ sign signs.OpenParenthesis → length s ≤ n → Past slack n (read ((m, p) ∷ s))
-    takes_open m p n s e l = subst (λ w. Past slack n (read ((w, p) ∷ s))) (sym e) (subst (λ x. Past slack n x) (sym (opened p s)) (past_more slack n (inside s) (law.stays n s l)))
+passed_opened : (n : ℕ) (s : Tokens) → Passed n s → Opened n s
+unfolding Opened
+passed_opened n _ (name_passed text p s l) = inl (name_passed text p s l)
+passed_opened n _ (word_passed m p k s e l) = inl (word_passed m p k s e l)
+passed_opened n _ (array_passed p s l) = inl (array_passed p s l)
 
-    takes_parameters : (m : Meaning) (p : Place) (a : Meaning × Place) (n : ℕ) (s : Tokens) → m ≡ sign signs.OpenParenthesis → BeginsParameters a.0 → length s ≤ n → Past slack n (read ((m, p) ∷ a ∷ s))
-    takes_parameters m p a n s e b l = subst (λ w. Past slack n (read ((w, p) ∷ a ∷ s))) (sym e) (subst (λ x. Past slack n x) (sym (opened p (a ∷ s))) ((takes a.0 a.1 b).taken n s l))
+parameters_opened : (t : Meaning × Place) (more other front : Tokens) → (cond (is_vars (front ++ t ∷ more)) true (opens_body (front ++ t ∷ more)) ≡ cond (is_vars (front ++ t ∷ other)) true (opens_body (front ++ t ∷ other)) → ⊥) → Opened (length more) (front ++ t ∷ more)
+parameters_opened t more other front differs = by_vars (is_vars s) (is_vars r) refl refl differs
+  where
+    s : Tokens
+    s = front ++ t ∷ more
 
-    -- what tells a function is taken
-    takes_told : (t : Meaning × Place) (more other seen front : Tokens) → opens_function (front ++ t ∷ seen) ≡ true → (opens_function (front ++ t ∷ more) ≡ opens_function (front ++ t ∷ other) → ⊥) → Past slack (length more) (read (front ++ t ∷ more))
-    takes_told (m, p) more other seen [] h differs = takes_open m p (length more) more (opens_sign m p seen h) (omega arith)
-    takes_told t more other seen ((m, p) ∷ []) h differs = takes_parameters m p t (length more) more (opens_sign m p (t ∷ seen) h) (opens_parameters (m, p) t.0 t.1 seen h) (omega arith)
-    takes_told t more other seen (a ∷ b ∷ front) h differs = absurd (differs (opens_behind a b t more other front))
+    r : Tokens
+    r = front ++ t ∷ other
+
+    by_vars : (v w : Bool) → is_vars s ≡ v → is_vars r ≡ w → (cond v true (opens_body s) ≡ cond w true (opens_body r) → ⊥) → Opened (length more) s
+    by_vars true true e k d = absurd (d refl)
+    by_vars true false e k d = passed_opened (length more) s (differ_passed t more other front (differs_on (is_vars s) (is_vars r) e k))
+    by_vars false true e k d = passed_opened (length more) s (differ_passed t more other front (differs_off (is_vars s) (is_vars r) e k))
+    by_vars false false e k d = body_opened t more other front d
+
+-- a reader that reads parameters or arguments behind a "("
+module _ {A : Type 0} (read inside : Tokens → Reading A) (opened : (p : Place) (s : Tokens) → read ((sign signs.OpenParenthesis, p) ∷ s) ≡ inside s) (law : Lawful inside) (takes : Takes Opened inside) where
+  takes_open : (m : Meaning) (p : Place) (n : ℕ) (s : Tokens) → m ≡ sign signs.OpenParenthesis → Past n (inside s) → Past n (read ((m, p) ∷ s))
+  takes_open m p n s e l = subst (λ w. Past n (read ((w, p) ∷ s))) (sym e) (subst (λ x. Past n x) (sym (opened p s)) l)
+
+  -- what tells a function is taken
+  takes_told : (t : Meaning × Place) (more other seen front : Tokens) → opens_function (front ++ t ∷ seen) ≡ true → (opens_function (front ++ t ∷ more) ≡ opens_function (front ++ t ∷ other) → ⊥) → Past (length more) (read (front ++ t ∷ more))
+  unfolding opens_function next_is_sign behind
+  takes_told (m, p) more other seen [] h differs = takes_open m p (length more) more (opens_sign m p seen h) (law.stays (length more) more (omega arith))
+  takes_told t more other seen ((m, p) ∷ front) h differs =
+      takes_open m p (length more) (front ++ t ∷ more) (opens_sign m p (front ++ t ∷ seen) h)
+      (takes.taken (length more) (front ++ t ∷ more) (parameters_opened t more other front (λ e. differs (ap (λ v. cond (is_sign signs.OpenParenthesis m) v false) e))))
 
 -- a function's parameters and its body, behind its name
 abbrev function_by : Option Named → List ℕ × Place → Reading (List Parameter) → Reading Function
 function_by r n o = o >>= λ xs. body_at xs.1 >>= λ b. Ok (record { place = n.1; result = r; name = n.0; parameters = xs.0; body = b.0 }, b.1)
 
-module _ {slack : ℕ} where
-  behind_parameters : (r : Option Named) (n : List ℕ × Place) (xs : List Parameter) → Lawful {A = Function} slack (λ s. body_at s >>= λ b. Ok (record { place = n.1; result = r; name = n.0; parameters = xs; body = b.0 }, b.1))
-  behind_parameters r n xs = bind_lawful _ body_lawful λ b. ok_lawful (record { place = n.1; result = r; name = n.0; parameters = xs; body = b })
+behind_parameters : (r : Option Named) (n : List ℕ × Place) (xs : List Parameter) → Lawful {A = Function} (λ s. body_at s >>= λ b. Ok (record { place = n.1; result = r; name = n.0; parameters = xs; body = b.0 }, b.1))
+behind_parameters r n xs = bind_lawful _ body_lawful λ b. ok_lawful (record { place = n.1; result = r; name = n.0; parameters = xs; body = b })
 
 -- the variables, behind the name of the first of them
 abbrev globals_by : Named → List ℕ × Place → Reading Initializer → Reading Vars
@@ -163,37 +190,35 @@ globals_by t n o =
     >>= λ v. expect_at signs.Semicolon v.1 >>= λ z. Ok (v.0, z.1)
 
 module _ (t : Named) (n : List ℕ × Place) where
-  module _ {slack : ℕ} where
-    first_decl : (i : Initializer) → Lawful {A = Decl} slack (λ s. Ok (record { place = n.1; name = n.0; initializer = i }, s))
-    first_decl i = ok_lawful (record { place = n.1; name = n.0; initializer = i })
+  first_decl : (i : Initializer) → Lawful {A = Decl} (λ s. Ok (record { place = n.1; name = n.0; initializer = i }, s))
+  first_decl i = ok_lawful (record { place = n.1; name = n.0; initializer = i })
 
-    more_behind : (d : Decl) → Lawful slack (λ s. put d (more_decls_with (below_at DEPTH) s))
-    more_behind d = put_lawful d (more_decls_lawful DEPTH within)
+  more_behind : (d : Decl) → Lawful (λ s. put d (more_decls_with (below_at DEPTH) s))
+  more_behind d = put_lawful d (more_decls_lawful DEPTH within)
 
-    all_decls : (ds : List Decl) → Lawful {A = Vars} slack (λ s. Ok (record { of = t; decls = ds }, s))
-    all_decls ds = ok_lawful (record { of = t; decls = ds })
+  all_decls : (ds : List Decl) → Lawful {A = Vars} (λ s. Ok (record { of = t; decls = ds }, s))
+  all_decls ds = ok_lawful (record { of = t; decls = ds })
 
-    end_behind : (v : Vars) → Lawful slack (λ s. expect_at signs.Semicolon s >>= λ z. Ok (v, z.1))
-    end_behind v = bind_lawful _ (expect_lawful signs.Semicolon) λ z. ok_lawful v
+  end_behind : (v : Vars) → Lawful (λ s. expect_at signs.Semicolon s >>= λ z. Ok (v, z.1))
+  end_behind v = bind_lawful _ (expect_lawful signs.Semicolon) λ z. ok_lawful v
 
-    globals_by_lawful : {read : Tokens → Reading Initializer} → Lawful slack read → Lawful slack (λ s. globals_by t n (read s))
-    globals_by_lawful law = bind_lawful _ (bind_lawful _ (bind_lawful _ (bind_lawful _ law first_decl) more_behind) all_decls) end_behind
+  globals_by_lawful : {read : Tokens → Reading Initializer} → Lawful read → Lawful (λ s. globals_by t n (read s))
+  globals_by_lawful law = bind_lawful _ (bind_lawful _ (bind_lawful _ (bind_lawful _ law first_decl) more_behind) all_decls) end_behind
 
-    globals_by_takes : {read : Tokens → Reading Initializer} {a : Meaning × Place} → Takes slack a read → Takes slack a (λ s. globals_by t n (read s))
-    globals_by_takes takes = bind_takes _ (bind_takes _ (bind_takes _ (bind_takes _ takes first_decl) more_behind) all_decls) end_behind
+  globals_by_takes : {P : ℕ → Tokens → Type 0} {read : Tokens → Reading Initializer} → Takes P read → Takes P (λ s. globals_by t n (read s))
+  globals_by_takes takes = bind_takes _ (bind_takes _ (bind_takes _ (bind_takes _ takes first_decl) more_behind) all_decls) end_behind
 
 abbrev some_exprs : Tokens → Reading (List Expr)
 some_exprs s = below_at DEPTH true s >>= λ e. put e.0 (more_exprs_with (below_at DEPTH) e.1)
 
-module _ {slack : ℕ} where
-  more_of : (e : Expr) → Lawful slack (λ s. put e (more_exprs_with (below_at DEPTH) s))
-  more_of e = put_lawful e (more_exprs_lawful DEPTH within (below_lawful DEPTH within))
+more_of : (e : Expr) → Lawful (λ s. put e (more_exprs_with (below_at DEPTH) s))
+more_of e = put_lawful e (more_exprs_lawful DEPTH within (below_lawful DEPTH within))
 
-  some_exprs_lawful : Lawful slack some_exprs
-  some_exprs_lawful = bind_lawful (λ e. put e.0 (more_exprs_with (below_at DEPTH) e.1)) (below_lawful DEPTH within true) more_of
+some_exprs_lawful : Lawful some_exprs
+some_exprs_lawful = bind_lawful (λ e. put e.0 (more_exprs_with (below_at DEPTH) e.1)) (below_lawful DEPTH within true) more_of
 
-  some_exprs_takes : (m : Meaning) (p : Place) → BeginsType m → Takes slack (m, p) some_exprs
-  some_exprs_takes m p b = bind_takes (λ e. put e.0 (more_exprs_with (below_at DEPTH) e.1)) (below_takes DEPTH within (omega arith) m p b) more_of
+some_exprs_takes : Takes Passed some_exprs
+some_exprs_takes = bind_takes (λ e. put e.0 (more_exprs_with (below_at DEPTH) e.1)) (room_takes 63 (omega arith)) more_of
 
 module _ {B : Type 0} (of_function : Function → B) (of_globals : Vars → B) where
   abbrev on : Option Named → List ℕ × Place → Reading (List Parameter) → Reading B
@@ -202,28 +227,26 @@ module _ {B : Type 0} (of_function : Function → B) (of_globals : Vars → B) w
   abbrev off : Named → List ℕ × Place → Reading Initializer → Reading B
   off t n o = globals_by t n o >>= λ v. Ok (of_globals v.0, v.1)
 
-  module _ {slack : ℕ} where
-    on_lawful : (r : Option Named) (n : List ℕ × Place) {read : Tokens → Reading (List Parameter)} → Lawful slack read → Lawful slack (λ s. on r n (read s))
-    on_lawful r n law = bind_lawful _ (bind_lawful _ law (behind_parameters r n)) λ f. ok_lawful (of_function f)
+  on_lawful : (r : Option Named) (n : List ℕ × Place) {read : Tokens → Reading (List Parameter)} → Lawful read → Lawful (λ s. on r n (read s))
+  on_lawful r n law = bind_lawful _ (bind_lawful _ law (behind_parameters r n)) λ f. ok_lawful (of_function f)
 
-    on_takes : (r : Option Named) (n : List ℕ × Place) {read : Tokens → Reading (List Parameter)} {a : Meaning × Place} → Takes slack a read → Takes slack a (λ s. on r n (read s))
-    on_takes r n takes = bind_takes _ (bind_takes _ takes (behind_parameters r n)) λ f. ok_lawful (of_function f)
+  on_takes : (r : Option Named) (n : List ℕ × Place) {P : ℕ → Tokens → Type 0} {read : Tokens → Reading (List Parameter)} → Takes P read → Takes P (λ s. on r n (read s))
+  on_takes r n takes = bind_takes _ (bind_takes _ takes (behind_parameters r n)) λ f. ok_lawful (of_function f)
 
-    off_lawful : (t : Named) (n : List ℕ × Place) {read : Tokens → Reading Initializer} → Lawful slack read → Lawful slack (λ s. off t n (read s))
-    off_lawful t n law = bind_lawful _ (globals_by_lawful t n law) λ v. ok_lawful (of_globals v)
+  off_lawful : (t : Named) (n : List ℕ × Place) {read : Tokens → Reading Initializer} → Lawful read → Lawful (λ s. off t n (read s))
+  off_lawful t n law = bind_lawful _ (globals_by_lawful t n law) λ v. ok_lawful (of_globals v)
 
-    off_takes : (t : Named) (n : List ℕ × Place) {read : Tokens → Reading Initializer} {a : Meaning × Place} → Takes slack a read → Takes slack a (λ s. off t n (read s))
-    off_takes t n takes = bind_takes _ (globals_by_takes t n takes) λ v. ok_lawful (of_globals v)
+  off_takes : (t : Named) (n : List ℕ × Place) {P : ℕ → Tokens → Type 0} {read : Tokens → Reading Initializer} → Takes P read → Takes P (λ s. off t n (read s))
+  off_takes t n takes = bind_takes _ (globals_by_takes t n takes) λ v. ok_lawful (of_globals v)
 
   abbrev made : Tokens → Reading Initializer
   made s = closed some_exprs s >>= λ es. Ok (Arguments es.0, es.1)
 
-  module _ {slack : ℕ} where
-    made_lawful : Lawful slack made
-    made_lawful = bind_lawful {read = closed some_exprs} (λ es. Ok (Arguments es.0, es.1)) (closed_lawful some_exprs_lawful) (λ es. ok_lawful (Arguments es))
+  made_lawful : Lawful made
+  made_lawful = bind_lawful {read = closed some_exprs} (λ es. Ok (Arguments es.0, es.1)) (closed_lawful some_exprs_lawful) (λ es. ok_lawful (Arguments es))
 
-    made_takes : (m : Meaning) (p : Place) → BeginsParameters m → Takes slack (m, p) made
-    made_takes m p b = bind_takes {read = closed some_exprs} (λ es. Ok (Arguments es.0, es.1)) (closed_takes m p (some_exprs_takes m p) b) (λ es. ok_lawful (Arguments es))
+  made_takes : Takes Opened made
+  made_takes = bind_takes {read = closed some_exprs} (λ es. Ok (Arguments es.0, es.1)) (closed_takes some_exprs_takes) (λ es. ok_lawful (Arguments es))
 
   on_opened : (r : Option Named) (n : List ℕ × Place) (p : Place) (s : Tokens) → on r n (parameters_at ((sign signs.OpenParenthesis, p) ∷ s)) ≡ on r n (closed some_parameters s)
   unfolding parameters_at parameter_list_at some_parameters expect_at is_sign same_sign
@@ -233,31 +256,28 @@ module _ {B : Type 0} (of_function : Function → B) (of_globals : Vars → B) w
   unfolding initializer_with arguments_with exprs_with next_is_sign expect_at is_sign same_sign
   off_opened t n p s = refl
 
-  module _ (slack : ℕ) where
-    function_told : (t : Named) (n : List ℕ × Place) (a : Meaning × Place) (more other seen front : Tokens) → opens_function (front ++ a ∷ seen) ≡ true → (opens_function (front ++ a ∷ more) ≡ opens_function (front ++ a ∷ other) → ⊥) → Past slack (length more) (on (Some t) n (parameters_at (front ++ a ∷ more)))
-    function_told t n = takes_told (λ s. on (Some t) n (parameters_at s)) (λ s. on (Some t) n (closed some_parameters s)) (on_opened (Some t) n) (on_lawful (Some t) n {read = closed some_parameters} (closed_lawful some_parameters_lawful)) (λ m p b. on_takes (Some t) n {read = closed some_parameters} (closed_takes m p (some_parameters_takes m p) b))
+  function_told : (t : Named) (n : List ℕ × Place) (a : Meaning × Place) (more other seen front : Tokens) → opens_function (front ++ a ∷ seen) ≡ true → (opens_function (front ++ a ∷ more) ≡ opens_function (front ++ a ∷ other) → ⊥) → Past (length more) (on (Some t) n (parameters_at (front ++ a ∷ more)))
+  function_told t n = takes_told (λ s. on (Some t) n (parameters_at s)) (λ s. on (Some t) n (closed some_parameters s)) (on_opened (Some t) n) (on_lawful (Some t) n {read = closed some_parameters} (closed_lawful some_parameters_lawful)) (on_takes (Some t) n {read = closed some_parameters} (closed_takes some_parameters_takes))
 
-    globals_told : (t : Named) (n : List ℕ × Place) (a : Meaning × Place) (more other seen front : Tokens) → opens_function (front ++ a ∷ seen) ≡ true → (opens_function (front ++ a ∷ more) ≡ opens_function (front ++ a ∷ other) → ⊥) → Past slack (length more) (off t n (initializer_with (below_at DEPTH) (front ++ a ∷ more)))
-    globals_told t n = takes_told (λ s. off t n (initializer_with (below_at DEPTH) s)) (λ s. off t n (made s)) (off_opened t n) (off_lawful t n {read = made} made_lawful) (λ m p b. off_takes t n {read = made} (made_takes m p b))
+  globals_told : (t : Named) (n : List ℕ × Place) (a : Meaning × Place) (more other seen front : Tokens) → opens_function (front ++ a ∷ seen) ≡ true → (opens_function (front ++ a ∷ more) ≡ opens_function (front ++ a ∷ other) → ⊥) → Past (length more) (off t n (initializer_with (below_at DEPTH) (front ++ a ∷ more)))
+  globals_told t n = takes_told (λ s. off t n (initializer_with (below_at DEPTH) s)) (λ s. off t n (made s)) (off_opened t n) (off_lawful t n {read = made} made_lawful) (off_takes t n {read = made} made_takes)
 
-  module _ {slack : ℕ} where
-    -- what opens a body tells a function
-    told_crosses : (t : Named) (n : List ℕ × Place) → Crosses slack opens_function (λ s. on (Some t) n (parameters_at s)) (λ s. off t n (initializer_with (below_at DEPTH) s))
-    told_crosses t n a more other front fair = (
-      λ h k. past (function_told slack t n a more other more front h (differs_on (opens_function (front ++ a ∷ more)) (opens_function (front ++ a ∷ other)) h k)) (inl (globals_told 0 t n a other more more front h (λ e. differs_on (opens_function (front ++ a ∷ more)) (opens_function (front ++ a ∷ other)) h k (sym e)))),
-      λ h k. past (globals_told slack t n a more other other front k (differs_off (opens_function (front ++ a ∷ more)) (opens_function (front ++ a ∷ other)) h k)) (inl (function_told 0 t n a other more other front k (λ e. differs_off (opens_function (front ++ a ∷ more)) (opens_function (front ++ a ∷ other)) h k (sym e)))),
-    )
+  -- what opens a body tells a function
+  told_crosses : (t : Named) (n : List ℕ × Place) → Crosses opens_function (λ s. on (Some t) n (parameters_at s)) (λ s. off t n (initializer_with (below_at DEPTH) s))
+  told_crosses t n a more other front = (
+    λ h k. past (function_told t n a more other more front h (differs_on (opens_function (front ++ a ∷ more)) (opens_function (front ++ a ∷ other)) h k)) (globals_told t n a other more more front h (λ e. differs_on (opens_function (front ++ a ∷ more)) (opens_function (front ++ a ∷ other)) h k (sym e))),
+    λ h k. past (globals_told t n a more other other front k (differs_off (opens_function (front ++ a ∷ more)) (opens_function (front ++ a ∷ other)) h k)) (function_told t n a other more other front k (λ e. differs_off (opens_function (front ++ a ∷ more)) (opens_function (front ++ a ∷ other)) h k (sym e))),
+  )
 
   -- behind its type, a function or variables
   abbrev named : Named → Tokens → Reading B
   named t s = name_at s >>= λ n. cond (opens_function n.1) (on (Some t) n.0 (parameters_at n.1)) (off t n.0 (initializer_with (below_at DEPTH) n.1))
 
-  module _ {slack : ℕ} where
-    behind_name : (t : Named) (n : List ℕ × Place) → Lawful slack (λ s. cond (opens_function s) (on (Some t) n (parameters_at s)) (off t n (initializer_with (below_at DEPTH) s)))
-    behind_name t n = choice_lawful opens_function (told_crosses t n) (on_lawful (Some t) n {read = parameters_at} parameters_lawful) (off_lawful t n {read = initializer_with (below_at DEPTH)} (initializer_lawful DEPTH within))
+  behind_name : (t : Named) (n : List ℕ × Place) → Lawful (λ s. cond (opens_function s) (on (Some t) n (parameters_at s)) (off t n (initializer_with (below_at DEPTH) s)))
+  behind_name t n = choice_lawful opens_function (told_crosses t n) (on_lawful (Some t) n {read = parameters_at} parameters_lawful) (off_lawful t n {read = initializer_with (below_at DEPTH)} (initializer_lawful DEPTH within))
 
-    named_lawful : (t : Named) → Lawful slack (named t)
-    named_lawful t = bind_lawful {read = name_at} (λ n. cond (opens_function n.1) (on (Some t) n.0 (parameters_at n.1)) (off t n.0 (initializer_with (below_at DEPTH) n.1))) name_lawful (behind_name t)
+  named_lawful : (t : Named) → Lawful (named t)
+  named_lawful t = bind_lawful {read = name_at} (λ n. cond (opens_function n.1) (on (Some t) n.0 (parameters_at n.1)) (off t n.0 (initializer_with (below_at DEPTH) n.1))) name_lawful (behind_name t)
 
   -- behind a type that was read, or where none was
   abbrev on_type : Reading Named → Reading B
@@ -288,21 +308,41 @@ module _ {B : Type 0} (of_function : Function → B) (of_globals : Vars → B) w
   by_next t ((reserved n, p) ∷ s) = refl
   by_next t ((unsupported n, p) ∷ s) = refl
 
-  by_handle : (v : Bool) (text : List ℕ) (p q : Place) (m : Meaning) (s : Tokens) →
-      cond (cond v (names_function s) (names_function ((m, q) ∷ s))) (on_type (cond v (cond v (Ok (q, s)) (Err (Unexpected ((m, q) ∷ s))) >>= λ h. Ok (Handle p text, h.1)) (Ok (Object p text, (m, q) ∷ s)))) (off_type (cond v (cond v (Ok (q, s)) (Err (Unexpected ((m, q) ∷ s))) >>= λ h. Ok (Handle p text, h.1)) (Ok (Object p text, (m, q) ∷ s))))
-      ≡ (cond v (cond v (Ok (q, s)) (Err (Unexpected ((m, q) ∷ s))) >>= λ h. Ok (Handle p text, h.1)) (Ok (Object p text, (m, q) ∷ s)) >>= λ t. named t.0 t.1)
-  by_handle true text p q m s = by_names (Handle p text) s
-  by_handle false text p q m s = by_names (Object p text) ((m, q) ∷ s)
+  by_handle : (v : Bool) (plain handle : Named) (q : Place) (m : Meaning) (s : Tokens) →
+      cond (cond v (names_function s) (names_function ((m, q) ∷ s))) (on_type (cond v (cond v (Ok (q, s)) (Err (Unexpected ((m, q) ∷ s))) >>= λ h. Ok (handle, h.1)) (Ok (plain, (m, q) ∷ s)))) (off_type (cond v (cond v (Ok (q, s)) (Err (Unexpected ((m, q) ∷ s))) >>= λ h. Ok (handle, h.1)) (Ok (plain, (m, q) ∷ s))))
+      ≡ (cond v (cond v (Ok (q, s)) (Err (Unexpected ((m, q) ∷ s))) >>= λ h. Ok (handle, h.1)) (Ok (plain, (m, q) ∷ s)) >>= λ t. named t.0 t.1)
+  by_handle true plain handle q m s = by_names handle s
+  by_handle false plain handle q m s = by_names plain ((m, q) ∷ s)
 
-  by_kind : (k : Option Primitive) (m : Meaning) (p : Place) (s : Tokens) → cond (cond (next_is_sign signs.Handle s) (names_function (behind s)) (names_function s)) (on_type (type_by k m p s)) (off_type (type_by k m p s)) ≡ (type_by k m p s >>= λ t. named t.0 t.1)
-  unfolding next_is_sign expect_at behind
-  by_kind (Some k) m p s = by_next (Prim p k) s
-  by_kind None (name text) p [] = by_names (Object p text) []
-  by_kind None (name text) p ((m, q) ∷ s) = by_handle (is_sign signs.Handle m) text p q m s
-  by_kind None (number n) p s = one_of (cond (next_is_sign signs.Handle s) (names_function (behind s)) (names_function s)) (Err (Unexpected ((number n, p) ∷ s)))
-  by_kind None (sign n) p s = one_of (cond (next_is_sign signs.Handle s) (names_function (behind s)) (names_function s)) (Err (Unexpected ((sign n, p) ∷ s)))
-  by_kind None (reserved n) p s = one_of (cond (next_is_sign signs.Handle s) (names_function (behind s)) (names_function s)) (Err (Unexpected ((reserved n, p) ∷ s)))
-  by_kind None (unsupported n) p s = one_of (cond (next_is_sign signs.Handle s) (names_function (behind s)) (names_function s)) (Err (Unexpected ((unsupported n, p) ∷ s)))
+  -- behind what is a type with an "@" or without one
+  by_handles : (plain handle : Named) (s : Tokens) → cond (handle_names_function s) (on_type (handle_by plain handle s)) (off_type (handle_by plain handle s)) ≡ (handle_by plain handle s >>= λ t. named t.0 t.1)
+  unfolding handle_names_function next_is_sign expect_at behind
+  by_handles plain handle [] = by_names plain []
+  by_handles plain handle ((m, q) ∷ s) = by_handle (is_sign signs.Handle m) plain handle q m s
+
+  abbrev array_by : Place → Reading Element → Reading Named
+  array_by p o = o >>= λ e. handle_by (Array p e.0) (ArrayHandle p e.0) e.1
+
+  by_element : (p : Place) (o : Reading Element) → cond (array_names_function (left_of o)) (on_type (array_by p o)) (off_type (array_by p o)) ≡ (array_by p o >>= λ t. named t.0 t.1)
+  by_element p (Ok e) = by_handles (Array p e.0) (ArrayHandle p e.0) e.1
+  by_element p (Err h) = refl
+
+  by_array : (p : Place) (s : Tokens) → cond (array_names_function (behind_element s)) (on_type (array_by p (element_at s))) (off_type (array_by p (element_at s))) ≡ (array_by p (element_at s) >>= λ t. named t.0 t.1)
+  by_array p s = subst (λ v. cond (array_names_function v) (on_type (array_by p (element_at s))) (off_type (array_by p (element_at s))) ≡ (array_by p (element_at s) >>= λ t. named t.0 t.1)) (sym (passed_is_read s)) (by_element p (element_at s))
+
+  by_plain : (t : Named) (s : Tokens) → cond (handle_names_function s) (on_type (Ok (t, s))) (off_type (Ok (t, s))) ≡ named t s
+  unfolding handle_names_function
+  by_plain t s = by_next t s
+
+  by_kind : (k : Option Primitive) (m : Meaning) (p : Place) (s : Tokens) → primitive m ≡ k → cond (cond (is_array m) (array_names_function (behind_element s)) (handle_names_function s)) (on_type (type_by k m p s)) (off_type (type_by k m p s)) ≡ (type_by k m p s >>= λ t. named t.0 t.1)
+  unfolding is_array
+  by_kind (Some k) m p s g = rw (word_no_array m k g) (by_plain (Prim p k) s)
+  by_kind None (name text) p s g = by_handles (Object p text) (Handle p text) s
+  by_kind None (number n) p s g = one_of (handle_names_function s) (Err (Unexpected ((number n, p) ∷ s)))
+  by_kind None (sign n) p s g = one_of (handle_names_function s) (Err (Unexpected ((sign n, p) ∷ s)))
+  by_kind None (reserved words.Array) p s g = by_array p s
+  by_kind None (reserved n) p s g = one_of (handle_names_function s) (Err (Unexpected ((reserved n, p) ∷ s)))
+  by_kind None (unsupported n) p s g = one_of (handle_names_function s) (Err (Unexpected ((unsupported n, p) ∷ s)))
 
   -- a function or variables, whichever the tokens begin
   abbrev pub either : Tokens → Reading B
@@ -316,29 +356,28 @@ module _ {B : Type 0} (of_function : Function → B) (of_globals : Vars → B) w
   either_by ((m, p) ∷ s) = cond (is_void m) (of_void s) (type_at ((m, p) ∷ s) >>= λ t. named t.0 t.1)
 
   by_void : (v : Bool) (m : Meaning) (p : Place) (s : Tokens) →
-      cond (cond v true (cond (next_is_sign signs.Handle s) (names_function (behind s)) (names_function s)))
+      cond (cond v true (cond (is_array m) (array_names_function (behind_element s)) (handle_names_function s)))
       ((cond v (Ok (None, s)) (type_by (primitive m) m p s >>= λ t. Ok (Some t.0, t.1)) >>= λ r. name_at r.1 >>= λ n. function_by r.0 n.0 (parameters_at n.1)) >>= λ f. Ok (of_function f.0, f.1))
       (off_type (type_by (primitive m) m p s))
       ≡ cond v (of_void s) (type_by (primitive m) m p s >>= λ t. named t.0 t.1)
   by_void true m p s = refl
-  by_void false m p s = by_kind (primitive m) m p s
+  by_void false m p s = by_kind (primitive m) m p s refl
 
   same_either : (s : Tokens) → either s ≡ either_by s
   unfolding either_by is_function function_at result_type_at globals_at declared_with vars_with type_at
   same_either [] = refl
   same_either ((m, p) ∷ s) = by_void (is_void m) m p s
 
-  module _ {slack : ℕ} where
-    void_lawful : Lawful slack of_void
-    void_lawful = bind_lawful _ (bind_lawful {read = name_at} (λ n. function_by None n.0 (parameters_at n.1)) name_lawful λ n. bind_lawful _ parameters_lawful (behind_parameters None n)) λ f. ok_lawful (of_function f)
+  void_lawful : Lawful of_void
+  void_lawful = bind_lawful _ (bind_lawful {read = name_at} (λ n. function_by None n.0 (parameters_at n.1)) name_lawful λ n. bind_lawful _ parameters_lawful (behind_parameters None n)) λ f. ok_lawful (of_function f)
 
-    typed_lawful : Lawful slack (λ s. type_at s >>= λ t. named t.0 t.1)
-    typed_lawful = bind_lawful {read = type_at} (λ t. named t.0 t.1) type_lawful named_lawful
+  typed_lawful : Lawful (λ s. type_at s >>= λ t. named t.0 t.1)
+  typed_lawful = bind_lawful {read = type_at} (λ t. named t.0 t.1) type_lawful named_lawful
 
-    pub either_lawful : Lawful slack either
-    unfolding either_by
-    either_lawful = alike same_either (led_lawful {read = either_by} (λ n. omega arith) (λ m p. led_if (is_void m) (led_behind void_lawful) (led_from {read = λ s. type_at s >>= λ t. named t.0 t.1} typed_lawful)))
+  pub either_lawful : Lawful either
+  unfolding either_by
+  either_lawful = alike same_either (led_lawful {read = either_by} (λ n. omega arith) (λ m p. led_if (is_void m) (λ e. led_behind (void_no_array m e) void_lawful) (led_from {read = λ s. type_at s >>= λ t. named t.0 t.1} typed_lawful)))
 
-    pub either_takes : (text : List ℕ) (p : Place) → Takes slack (name text, p) either
-    unfolding either_by is_void
-    either_takes text p = record { taken = λ n s l. subst (λ x. Past slack n x) (sym (same_either ((name text, p) ∷ s))) ((bind_takes {read = type_at} (λ t. named t.0 t.1) (type_takes (name text) p (by_name text)) named_lawful).taken n s l) }
+  pub either_takes : (text : List ℕ) (p : Place) (n : ℕ) (s : Tokens) → length s ≤ n → Past n (either ((name text, p) ∷ s))
+  unfolding either_by is_void
+  either_takes text p n s l = subst (λ x. Past n x) (sym (same_either ((name text, p) ∷ s))) ((bind_takes {read = type_at} (λ t. named t.0 t.1) type_takes named_lawful).taken n ((name text, p) ∷ s) (name_passed text p s l))

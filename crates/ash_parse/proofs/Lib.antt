@@ -1,11 +1,12 @@
 pub mod Signs
 pub mod Readings
+pub mod Types
+pub mod Elements
 pub mod ExpressionShorter
 pub mod ExpressionSound
 pub mod Loop
 pub mod ExpressionLoops
 pub mod Climbing
-pub mod Types
 pub mod StatementShorter
 pub mod StatementSound
 pub mod StatementLoops
@@ -20,11 +21,15 @@ pub mod ItemHeads
 pub mod ItemComplete
 pub mod WholeModules
 pub mod BeginLaws
+pub mod BeginTypes
 pub mod BeginExpressions
 pub mod BeginStatements
 pub mod BeginItems
 pub mod BeginDeclarations
+pub mod NeverDeep
 pub mod Keeps
+pub mod Choices
+pub mod Openings
 pub mod KeepsExpressions
 pub mod KeepsStatements
 pub mod KeepsFunctions
@@ -32,6 +37,5 @@ pub mod KeepsItems
 pub mod NoneGoesOn
 pub mod ExpressionFreer
 pub mod ModuleFreer
-pub mod NeverDeep
 pub mod OneFault
 pub mod FirstFaults

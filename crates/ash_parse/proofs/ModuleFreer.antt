@@ -4,7 +4,7 @@ use Rattle.std.proofs.Common.{ℕ, ◌≤◌, List, Option, arith}
 use Rattle.ash_tree.specs.Tree.{Expr, Decl, Vars, Stmt, Case, Function, Member, Class, Item}
 use Rattle.ash_tree.specs.Tokens.{Tokens}
 use Rattle.ash_tree.specs.Statements.{IsDecl, bare, valued, made, AreMoreDecls, no_more_decls, more_decls, IsVars, vars, IsFirst, no_first, first_vars, first_expr, IsTest, no_test, test, IsResult, no_result, value, IsNested, nested, AreLocals, no_locals, local_vars, local_stmt, IsBlock, block, IsStmt, inner_block, empty, evaluate, if_only, if_else, while, do_while, for, switch, break, continue, return, AreCases, no_cases, more_cases, AreStmts, no_stmts, more_stmts}
-use Rattle.ash_tree.specs.Grammar.{IsFunction, function, IsMember, method, fields, constructor, AreMembers, no_members, more_members, IsClass, class, IsItem, a_class, a_function, globals, Derives, no_items, semicolon, item}
+use Rattle.ash_tree.specs.Grammar.{IsFunction, function, IsMember, method, fields, constructor, AreMembers, no_members, more_members, IsClass, class, IsItem, a_class, an_interface, a_function, globals, Derives, no_items, semicolon, item}
 use Rattle.ash_parse.proofs.ExpressionFreer.{inner_freer, exprs_freer, args_freer, assign_freer}
 
 decl_freer : {free depth : ℕ} {from left : Tokens} {x : Decl} → IsDecl free depth from x left → (more : ℕ) → free ≤ more → IsDecl more depth from x left
@@ -79,10 +79,11 @@ members_freer no_members more h = no_members
 members_freer (more_members a b) more h = more_members (member_freer a more h) (members_freer b more h)
 
 class_freer : {free : ℕ} {from left : Tokens} {x : Class} → IsClass free from x left → (more : ℕ) → free ≤ more → IsClass more from x left
-class_freer (class a) more h = class (members_freer a more h)
+class_freer (class i a) more h = class i (members_freer a more h)
 
 item_freer : {free : ℕ} {from left : Tokens} {x : Item} → IsItem free from x left → (more : ℕ) → free ≤ more → IsItem more from x left
 item_freer (a_class a) more h = a_class (class_freer a more h)
+item_freer (an_interface a) more h = an_interface a
 item_freer (a_function a) more h = a_function (function_freer a more h)
 item_freer (globals a) more h = globals (vars_freer a more h)
 

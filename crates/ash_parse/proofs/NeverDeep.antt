@@ -3,19 +3,21 @@ use Rattle.std.proofs.Common.{◌≡◌, ℕ, zero, suc, List, [], ◌∷◌, Bo
 use Rattle.ash_lex.specs.Tokens.{Meaning, name, number, sign, reserved, unsupported}
 use Rattle.ash_lex.specs.declared.signs.Sign.{Sign}
 use Rattle.ash_lex.specs.declared.signs.Sign.TheVariants as signs
+use Rattle.ash_lex.specs.declared.words.ReservedWord.TheVariants as words
 use Rattle.ash_tree.specs.declared.tree.places.Place.{Place}
 use Rattle.ash_tree.specs.declared.tree.types.Primitive.{Primitive}
-use Rattle.ash_tree.specs.Tree.{Named}
+use Rattle.ash_tree.specs.Tree.{Named, Object, Handle, Array, ArrayHandle}
 use Rattle.ash_tree.specs.Tokens.{Tokens}
 use Rattle.ash_tree.specs.Operators.{primitive}
 use Rattle.ash_parse.specs.Signs.{is_sign}
 use Rattle.ash_parse.specs.Reading.{Unexpected, TooDeep, Reading, ◌>>=◌, put, repeat, next_is_sign, expect_at, name_at}
-use Rattle.ash_parse.specs.StatementReader.{type_by, type_at}
+use Rattle.ash_parse.specs.TypeReader.{elem_by, elem_at, element_at}
+use Rattle.ash_parse.specs.StatementReader.{handle_by, type_by, type_at}
 use Rattle.ash_parse.specs.ItemReader.{is_void, result_type_at, unnamed_at, next_unnamed_at, more_unnamed_at, unnamed_list_at, unnamed_parameters_at, property_by, declaration_behind, declaration_at, is_left}
 use Rattle.ash_parse.specs.Faults.{whole_declaration_at}
 
 -- reading is not cut at the depth
-abbrev IsUncut : {A : Type 0} → Reading A → Type 0
+abbrev pub IsUncut : {A : Type 0} → Reading A → Type 0
 IsUncut (Ok x) = Unit {0}
 IsUncut (Err (Unexpected rest)) = Unit {0}
 IsUncut (Err (TooDeep rest)) = ⊥
@@ -53,11 +55,32 @@ name_uncut ((sign s, p) ∷ ts) = tt
 name_uncut ((reserved w, p) ∷ ts) = tt
 name_uncut ((unsupported w, p) ∷ ts) = tt
 
+elem_by_uncut : (k : Option Primitive) (m : Meaning) (p : Place) (ts : Tokens) → IsUncut (elem_by k m p ts)
+elem_by_uncut (Some k) m p ts = tt
+elem_by_uncut None (name text) p ts = then_uncut _ (expect_at signs.Handle ts) (expect_uncut signs.Handle ts) (λ x r. tt)
+elem_by_uncut None (number n) p ts = tt
+elem_by_uncut None (sign s) p ts = tt
+elem_by_uncut None (reserved w) p ts = tt
+elem_by_uncut None (unsupported w) p ts = tt
+
+elem_uncut : (ts : Tokens) → IsUncut (elem_at ts)
+unfolding elem_at
+elem_uncut [] = tt
+elem_uncut ((m, p) ∷ ts) = elem_by_uncut (primitive m) m p ts
+
+pub element_uncut : (ts : Tokens) → IsUncut (element_at ts)
+unfolding element_at
+element_uncut ts = then_uncut _ (expect_at signs.Less ts) (expect_uncut signs.Less ts) (λ o r. then_uncut _ (elem_at r) (elem_uncut r) (λ e s. then_uncut _ (expect_at signs.Greater s) (expect_uncut signs.Greater s) (λ z u. tt)))
+
+handle_uncut : (plain handle : Named) (ts : Tokens) → IsUncut (handle_by plain handle ts)
+handle_uncut plain handle ts = cond_uncut (next_is_sign signs.Handle ts) _ _ (then_uncut _ (expect_at signs.Handle ts) (expect_uncut signs.Handle ts) (λ x r. tt)) tt
+
 type_by_uncut : (k : Option Primitive) (m : Meaning) (p : Place) (ts : Tokens) → IsUncut (type_by k m p ts)
 type_by_uncut (Some k) m p ts = tt
-type_by_uncut None (name text) p ts = cond_uncut (next_is_sign signs.Handle ts) _ _ (then_uncut _ (expect_at signs.Handle ts) (expect_uncut signs.Handle ts) (λ x r. tt)) tt
+type_by_uncut None (name text) p ts = handle_uncut (Object p text) (Handle p text) ts
 type_by_uncut None (number n) p ts = tt
 type_by_uncut None (sign s) p ts = tt
+type_by_uncut None (reserved words.Array) p ts = then_uncut _ (element_at ts) (element_uncut ts) (λ e r. handle_uncut (Array p e) (ArrayHandle p e) r)
 type_by_uncut None (reserved w) p ts = tt
 type_by_uncut None (unsupported w) p ts = tt
 

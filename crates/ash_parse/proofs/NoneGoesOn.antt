@@ -1,5 +1,5 @@
 -- No module, and no declaration, goes on where reading stops.
-use Rattle.std.proofs.Common.{false, ◌≡◌, ℕ, suc, ◌≤◌, List, [], ◌∷◌, ◌++◌, length, Ok, Err, sym, ap, ◌∙◌, arith}
+use Rattle.std.proofs.Common.{false, ◌≡◌, ℕ, suc, ◌+◌, ◌≤◌, List, [], ◌∷◌, ◌++◌, length, Ok, Err, refl, sym, ap, subst, ◌∙◌, length-append, arith}
 use Rattle.std.proofs.lemmas.List.{append-nil}
 use Rattle.ash_lex.specs.Tokens.{Meaning}
 use Rattle.ash_tree.specs.declared.tree.places.Place.{Place}
@@ -10,9 +10,10 @@ use Rattle.ash_parse.specs.Reading.{Halt, Unexpected, TooDeep, Reading}
 use Rattle.ash_parse.specs.StatementReader.{is_vars}
 use Rattle.ash_parse.specs.ItemReader.{module_at}
 use Rattle.ash_parse.specs.Faults.{whole_declaration_at}
-use Rattle.ash_parse.specs.FirstFault.{NoneGoesOn, GoesTooDeep, NoneWithin, NoDeclarationGoesOn}
+use Rattle.ash_parse.specs.FirstFault.{NoneGoesOn, GoesTooDeep, NoneKeeps, NoneWithin, NoDeclarationGoesOn}
 use Rattle.ash_parse.proofs.Rereading.{Reads, whole, cut}
 use Rattle.ash_parse.proofs.ItemComplete.{module_reads, whole_read}
+use Rattle.ash_parse.proofs.Openings.{opening}
 use Rattle.ash_parse.proofs.KeepsItems.{keeps_unexpected, keeps_too_deep, keeps_deep, keeps_unexpected_declaration}
 
 pub no_ok : {A : Type 0} (x : A × Tokens) (e : Halt) → ◌≡◌ {A = Reading A} (Ok x) (Err e) → ⊥
@@ -42,9 +43,18 @@ pub none_goes_on : (front rest : Tokens) → module_at (front ++ rest) ≡ Err (
 none_goes_on front [] h = λ free items d. reads_expected [] (module_reads free front items d) (ap module_at (sym (append-nil front)) ∙ h)
 none_goes_on front (t ∷ rest) h = λ free tail items d. reads_expected (t ∷ tail) (module_reads free (front ++ t ∷ tail) items d) (keeps_unexpected front rest tail t h)
 
+none_keeps : (front seen behind : Tokens) (t : Meaning × Place) → ((u : Meaning × Place) (more other : Tokens) → behind ≡ u ∷ more → is_vars (t ∷ (seen ++ u ∷ more)) ≡ is_vars (t ∷ (seen ++ u ∷ other))) → module_at (front ++ t ∷ (seen ++ behind)) ≡ Err (TooDeep (t ∷ (seen ++ behind))) → NoneKeeps front t seen behind
+none_keeps front seen [] t tells h =
+    let k : module_at (front ++ t ∷ seen) ≡ Err (TooDeep (t ∷ seen)) = subst (λ (l : Tokens). module_at (front ++ t ∷ l) ≡ Err (TooDeep (t ∷ l))) (append-nil seen) h in
+    λ items d. not_shallower (length seen) (front ++ t ∷ seen) (t ∷ seen) items k (omega arith) d
+none_keeps front seen (u ∷ more) t tells h = λ tail items d.
+    let n : length (seen ++ u ∷ tail) ≡ length seen + length (u ∷ tail) = length-append seen (u ∷ tail) in
+    not_shallower (length seen + suc (length tail)) (front ++ t ∷ (seen ++ u ∷ tail)) (t ∷ (seen ++ u ∷ tail)) items (keeps_too_deep front seen more tail t u (tells u more tail refl) h) (omega arith) d
+
 pub none_within : (front rest : Tokens) (t : Meaning × Place) → module_at (front ++ t ∷ rest) ≡ Err (TooDeep (t ∷ rest)) → NoneWithin front t rest
-none_within front [] t h = λ items d. not_shallower 0 (front ++ t ∷ []) (t ∷ []) items h (omega arith) d
-none_within front (u ∷ rest) t h = λ tail items d. not_shallower (suc (length tail)) (front ++ t ∷ u ∷ tail) (t ∷ u ∷ tail) items (keeps_too_deep front rest tail t u h) (omega arith) d
+none_within front rest t h =
+    let o = opening t rest in
+    (o.seen, o.behind, o.all, o.leaves, none_keeps front o.seen o.behind t o.tells (subst (λ (l : Tokens). module_at (front ++ t ∷ l) ≡ Err (TooDeep (t ∷ l))) o.all h))
 
 -- a module that has only `t` and what is behind it free has `t` too deep
 pub goes_too_deep : (front rest tail : Tokens) (t : Meaning × Place) (items : List Item) → is_vars (t ∷ tail) ≡ false → module_at (front ++ t ∷ rest) ≡ Err (TooDeep (t ∷ rest)) → Derives (suc (length tail)) (front ++ t ∷ tail) items → GoesTooDeep front t

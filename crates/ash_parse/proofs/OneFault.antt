@@ -1,15 +1,22 @@
 -- Tokens have one first fault at most: of two, the later one would have a module go on where the other says that none does.
-use Rattle.std.proofs.Common.{◌≡◌, ℕ, zero, suc, ◌+◌, ◌<◌, ◌≤◌, ◌⊎◌, inl, inr, List, [], ◌∷◌, ◌++◌, length, refl, sym, ap, subst, ◌∙◌, append_assoc, length-append, arith}
+use Rattle.std.proofs.Common.{◌≡◌, ℕ, zero, suc, ◌+◌, ◌<◌, ◌≤◌, ◌⊎◌, inl, inr, List, [], ◌∷◌, ◌++◌, length, Ok, Err, refl, sym, ap, subst, ◌∙◌, append_assoc, length-append, arith}
 use Rattle.std.proofs.lemmas.List.{append-nil}
-use Rattle.ash_lex.specs.Tokens.{Meaning}
+use Rattle.ash_lex.specs.Tokens.{Meaning, reserved}
+use Rattle.ash_lex.specs.declared.words.ReservedWord.TheVariants as words
 use Rattle.ash_tree.specs.declared.tree.places.Place.{Place}
-use Rattle.ash_tree.specs.Tree.{Item, Declaration}
+use Rattle.ash_tree.specs.Tree.{Element, Item, Declaration}
 use Rattle.ash_tree.specs.Tokens.{Tokens}
+use Rattle.ash_tree.specs.Types.{IsElement}
 use Rattle.ash_tree.specs.Grammar.{Derives, Declares}
 use Rattle.ash_parse.specs.Reading.{Halt, Unexpected, TooDeep}
+use Rattle.ash_parse.specs.ItemReader.{module_at}
 use Rattle.ash_parse.specs.Unique.{HasOneFault, HasNotBoth, HasOneDeclarationFault, HasNotBothDeclared}
-use Rattle.ash_parse.specs.FirstFault.{Begun, NoneGoesOn, GoesTooDeep, NoneWithin, FirstFault, NoDeclarationGoesOn, FirstDeclarationFault}
+use Rattle.ash_parse.specs.FirstFault.{Begun, NoneGoesOn, LeavesOpen, NoneKeeps, GoesTooDeep, NoneWithin, FirstFault, NoDeclarationGoesOn, FirstDeclarationFault}
 use Rattle.ash_parse.proofs.BeginLaws.{left_at}
+use Rattle.ash_parse.proofs.BeginItems.{begun_deep, some_token_deep}
+use Rattle.ash_parse.proofs.ItemComplete.{module_cut}
+use Rattle.ash_parse.proofs.WholeModules.{module_derived}
+use Rattle.ash_parse.proofs.KeepsItems.{none_deep_inside}
 use Rattle.ash_parse.proofs.ModuleFreer.{derives_freer}
 
 pub heads : (a b : Meaning × Place) (s r : Tokens) → ◌≡◌ {A = Tokens} (a ∷ s) (b ∷ r) → a ≡ b
@@ -58,17 +65,71 @@ by_place Q r s before same behind = by_order (three (length r) (length s))
     by_order (inr (inl h)) = same h
     by_order (inr (inr h)) = before h
 
--- a module that goes on behind `t` has `t` too deep, where each does that has the same token behind it
-pub within_later : (less : Tokens) (t : Meaning × Place) (mid tail rest : Tokens) (u : Meaning × Place) (free : ℕ) (items : List Item) → NoneWithin less t (mid ++ u ∷ rest) → Derives free (less ++ t ∷ (mid ++ u ∷ tail)) items → free ≤ suc (length tail) → ⊥
-within_later less t [] tail rest u free items none d h = none tail items (derives_freer d (suc (length tail)) h)
-within_later less t (b ∷ mid) tail rest u free items none d h =
-    let n : length (mid ++ u ∷ tail) ≡ length mid + length (u ∷ tail) = length-append mid (u ∷ tail) in
-    none (mid ++ u ∷ tail) items (derives_freer d (suc (length (mid ++ u ∷ tail))) (omega arith))
+no_first : (a b : Tokens) → a ++ b ≡ [] → a ≡ []
+no_first [] b e = refl
+no_first (x ∷ a) b e = let k : length (x ∷ (a ++ b)) ≡ 0 = ap length e in absurd (omega arith)
+
+not_none : (a b : Tokens) (x : Meaning × Place) → a ++ x ∷ b ≡ [] → ⊥
+not_none a b x e = let k : length (a ++ x ∷ b) ≡ 0 = ap length e in let n = length-append a (x ∷ b) in absurd (omega arith)
+
+-- what begins tokens that leave open what `t` begins leaves it open too
+leaves_less : (t : Meaning × Place) (a b : Tokens) → LeavesOpen t (a ++ b) → LeavesOpen t a
+leaves_less t a b (inl e) = inl (no_first a b e)
+leaves_less t a b (inr d) = inr (d.0, b ++ d.1, d.2, subst (λ (l : Tokens). IsElement l d.2 []) (append_assoc a b d.1) d.3)
+
+-- `t` is the word `array`, and `u` stands in its `"<" elem ">"`, behind `mid`
+abbrev StandsInside : Meaning × Place → Tokens → Meaning × Place → Type 0
+StandsInside t mid u = (t.0 ≡ reserved words.Array) × (tail : Tokens) × (of : Element) × IsElement (mid ++ u ∷ tail) of []
+
+inside_seen : (t : Meaning × Place) (mid more : Tokens) (u : Meaning × Place) → LeavesOpen t (mid ++ u ∷ more) → StandsInside t mid u
+inside_seen t mid more u (inl e) = absurd (not_none mid more u e)
+inside_seen t mid more u (inr d) = (d.0, more ++ d.1, d.2, subst (λ (l : Tokens). IsElement l d.2 []) (append_assoc mid (u ∷ more) d.1) d.3)
+
+-- a module that goes on behind `t` has `t` too deep, where each does that has the same tokens behind it as far as they count
+module _ (less : Tokens) (t : Meaning × Place) (mid tail rest : Tokens) (u : Meaning × Place) (free : ℕ) (items : List Item) (inside : StandsInside t mid u → ⊥) (d : Derives free (less ++ t ∷ (mid ++ u ∷ tail)) items) (few : free ≤ suc (length tail)) where
+  at_same : NoneKeeps less t mid (u ∷ rest) → ⊥
+  at_same none = none tail items (derives_freer d (length mid + suc (length tail)) (omega arith))
+
+  at_later : (seen after : Tokens) (x : Meaning × Place) → mid ≡ seen ++ x ∷ after → NoneKeeps less t seen (x ∷ (after ++ u ∷ rest)) → ⊥
+  at_later seen after x e none =
+      let is : mid ++ u ∷ tail ≡ seen ++ x ∷ (after ++ u ∷ tail) = ap (λ (l : Tokens). l ++ u ∷ tail) e ∙ append_assoc seen (x ∷ after) (u ∷ tail) in
+      let n : length (after ++ u ∷ tail) ≡ length after + length (u ∷ tail) = length-append after (u ∷ tail) in
+      none (after ++ u ∷ tail) items (derives_freer (subst (λ (l : Tokens). Derives free (less ++ t ∷ l) items) is d) (length seen + suc (length (after ++ u ∷ tail))) (omega arith))
+
+  pub within_later : NoneWithin less t (mid ++ u ∷ rest) → ⊥
+  within_later w =
+      by_place ⊥ (u ∷ rest) w.1
+      (λ k. let q = split mid (u ∷ rest) w.0 w.1 w.2 k in
+      let same : u ≡ q.0 = heads u q.0 rest (q.1 ++ w.1) q.3 in
+      inside (inside_seen t mid q.1 u (subst (λ (l : Tokens). LeavesOpen t l) (q.2 ∙ ap (λ (a : Meaning × Place). mid ++ a ∷ q.1) (sym same)) w.3)))
+      (λ k. let q = same_place mid (u ∷ rest) w.0 w.1 w.2 k in
+      at_same (subst (λ (l : Tokens). NoneKeeps less t l (u ∷ rest)) (sym q.0) (subst (λ (l : Tokens). NoneKeeps less t w.0 l) (sym q.1) w.4)))
+      (λ k. let q = split w.0 w.1 mid (u ∷ rest) (sym w.2) k in
+      at_later w.0 q.1 q.0 q.2 (subst (λ (l : Tokens). NoneKeeps less t w.0 l) q.3 w.4))
 
 -- no module has `t` within the depth
+none_whole : (less : Tokens) (t : Meaning × Place) (seen behind : Tokens) (items : List Item) → NoneKeeps less t seen behind → Derives 0 (less ++ t ∷ (seen ++ behind)) items → ⊥
+none_whole less t seen [] items none d = none items (derives_freer (subst (λ (l : Tokens). Derives 0 (less ++ t ∷ l) items) (append-nil seen) d) (length seen) (omega arith))
+none_whole less t seen (u ∷ behind) items none d = none behind items (derives_freer d (length seen + suc (length behind)) (omega arith))
+
 pub whole_within : (less : Tokens) (t : Meaning × Place) (rest : Tokens) (items : List Item) → NoneWithin less t rest → Derives 0 (less ++ t ∷ rest) items → ⊥
-whole_within less t [] items none d = none items d
-whole_within less t (u ∷ rest) items none d = none rest items (derives_freer d (suc (length rest)) (omega arith))
+whole_within less t rest items w d = none_whole less t w.0 w.1 items w.4 (subst (λ (l : Tokens). Derives 0 (less ++ t ∷ l) items) w.2 d)
+
+-- where only `t` and what is behind it are free, and `t` is too deep, reading is cut there
+pub cut_there : (less tail : Tokens) (t : Meaning × Place) (items : List Item) → Derives (suc (length tail)) (less ++ t ∷ tail) items → NoneWithin less t tail → (module_at (less ++ t ∷ tail) ≡ Ok (items, [])) ⊎ ((rest : Tokens) × (module_at (less ++ t ∷ tail) ≡ Err (TooDeep rest)) × (length rest ≤ suc (length tail))) → module_at (less ++ t ∷ tail) ≡ Err (TooDeep (t ∷ tail))
+cut_there less tail t items d none (inl e) = absurd (whole_within less t tail items none (module_derived (less ++ t ∷ tail) items [] e))
+cut_there less tail t items d none (inr ([], e, l)) = absurd (some_token_deep (less ++ t ∷ tail) e)
+cut_there less tail t items d none (inr (u ∷ rest, e, l)) =
+    let b = begun_deep (less ++ t ∷ tail) rest u e in
+    by_place (module_at (less ++ t ∷ tail) ≡ Err (TooDeep (t ∷ tail))) (t ∷ tail) (u ∷ rest)
+    (λ k. let q = split less (t ∷ tail) b.0 (u ∷ rest) b.3 k in
+    let same : t ≡ q.0 = heads t q.0 tail (q.1 ++ u ∷ rest) q.3 in
+    let behind : tail ≡ q.1 ++ u ∷ rest = tails t q.0 tail (q.1 ++ u ∷ rest) q.3 in
+    let f : b.0 ≡ less ++ t ∷ q.1 = q.2 ∙ ap (λ (a : Meaning × Place). less ++ a ∷ q.1) (sym same) in
+    let g : Derives (suc (length b.1)) ((less ++ t ∷ q.1) ++ u ∷ b.1) b.2 = subst (λ (l : Tokens). Derives (suc (length b.1)) (l ++ u ∷ b.1) b.2) f b.5 in
+    absurd (within_later less t q.1 b.1 rest u (suc (length b.1)) b.2 (λ s. none_deep_inside less q.1 rest s.1 t u s.2 s.0 s.3 (subst (λ (l : Tokens). module_at (less ++ t ∷ l) ≡ Err (TooDeep (u ∷ rest))) behind e)) (subst (λ (l : Tokens). Derives (suc (length b.1)) l b.2) (append_assoc less (t ∷ q.1) (u ∷ b.1)) g) (omega arith) (subst (NoneWithin less t) behind none)))
+    (λ k. e ∙ ap (λ (l : Tokens). Err (TooDeep l)) (sym (same_place less (t ∷ tail) b.0 (u ∷ rest) b.3 k).1))
+    (λ k. absurd (omega arith))
 
 -- tokens that have a fault are no module
 pub no_module : (ts : Tokens) (h : Halt) (items : List Item) → FirstFault ts h → Derives 0 ts items → ⊥
@@ -86,31 +147,53 @@ begun_on f g r mid more t e k none b =
     let d : Derives (length b.0) ((f ++ t ∷ mid) ++ b.0) b.1 = subst (λ (l : Tokens). Derives (length b.0) (l ++ b.0) b.1) e b.2 in
     subst (NoneGoesOn f) k none (length b.0) (mid ++ b.0) b.1 (subst (λ (l : Tokens). Derives (length b.0) l b.1) (append_assoc f (t ∷ mid) b.0) d)
 
--- and, where `t` is too deep, none beyond the token behind it
-begun_within : (f g mid s : Tokens) (t u : Meaning × Place) → g ≡ f ++ t ∷ u ∷ mid → NoneWithin f t (u ∷ (mid ++ s)) → Begun g → ⊥
-begun_within f g mid s t u e none b =
-    let d : Derives (length b.0) ((f ++ t ∷ u ∷ mid) ++ b.0) b.1 = subst (λ (l : Tokens). Derives (length b.0) (l ++ b.0) b.1) e b.2 in
-    let n : length (mid ++ b.0) ≡ length mid + length b.0 = length-append mid b.0 in
-    none (mid ++ b.0) b.1 (derives_freer (subst (λ (l : Tokens). Derives (length b.0) l b.1) (append_assoc f (t ∷ u ∷ mid) b.0) d) (suc (length (mid ++ b.0))) (omega arith))
-
 -- where a fault stands
 abbrev stands : (ts : Tokens) (h : Halt) → FirstFault ts h → (front : Tokens) × (ts ≡ front ++ left_at h) × Begun front
 stands ts (Unexpected rest) h = (h.0, h.1, h.2)
 stands ts (TooDeep []) h = absurd h
 stands ts (TooDeep (t ∷ rest)) h = (h.0, h.1, h.2)
 
--- no fault stands right behind a token that is too deep
-next_deep : (ts f : Tokens) (t : Meaning × Place) (k : Halt) → (fault : FirstFault ts k) → (stands ts k fault).0 ≡ f ++ t ∷ [] → GoesTooDeep f t → NoneWithin f t (left_at k) → ⊥
-next_deep ts f t (Unexpected rest) fault e deep none = fault.4 f t e deep
-next_deep ts f t (TooDeep []) fault e deep none = fault
-next_deep ts f t (TooDeep (u ∷ rest)) fault e deep none =
-    let more = fault.3 in
-    let d : Derives (suc (length more.0)) ((f ++ t ∷ []) ++ u ∷ more.0) more.1 = subst (λ (l : Tokens). Derives (suc (length more.0)) (l ++ u ∷ more.0) more.1) e more.2 in
-    none more.0 more.1 (subst (λ (l : Tokens). Derives (suc (length more.0)) l more.1) (append_assoc f (t ∷ []) (u ∷ more.0)) d)
+-- no token is too deep inside an array's `"<" elem ">"`
+none_inside : (f g mid : Tokens) (t u : Meaning × Place) → g ≡ f ++ t ∷ mid → StandsInside t mid u → GoesTooDeep g u → ⊥
+none_inside f g mid t u e s deep =
+    let tail = deep.0 in
+    let is : g ++ u ∷ tail ≡ f ++ t ∷ (mid ++ u ∷ tail) = ap (λ (l : Tokens). l ++ u ∷ tail) e ∙ append_assoc f (t ∷ mid) (u ∷ tail) in
+    none_deep_inside f mid tail s.1 t u s.2 s.0 s.3 (ap module_at (sym is) ∙ cut_there g tail u deep.1 deep.2 deep.3 (module_cut (suc (length tail)) (g ++ u ∷ tail) deep.1 deep.2))
 
-behind_deep : (ts f : Tokens) (t : Meaning × Place) (mid : Tokens) (k : Halt) → (fault : FirstFault ts k) → (stands ts k fault).0 ≡ f ++ t ∷ mid → GoesTooDeep f t → NoneWithin f t (mid ++ left_at k) → ⊥
-behind_deep ts f t [] k fault e deep none = next_deep ts f t k fault e deep none
-behind_deep ts f t (u ∷ mid) k fault e deep none = begun_within f (stands ts k fault).0 mid (left_at k) t u e none (stands ts k fault).2
+-- no fault stands where it is open what a token begins that is too deep
+module _ (f mid : Tokens) (t : Meaning × Place) (deep : GoesTooDeep f t) where
+  open_deep : (ts : Tokens) (k : Halt) → (fault : FirstFault ts k) → (stands ts k fault).0 ≡ f ++ t ∷ mid → LeavesOpen t mid → ((u : Meaning × Place) (rest : Tokens) → left_at k ≡ u ∷ rest → GoesTooDeep (stands ts k fault).0 u → ⊥) → ⊥
+  open_deep ts (Unexpected rest) fault e leaves cut = fault.4 f t mid e leaves deep
+  open_deep ts (TooDeep []) fault e leaves cut = fault
+  open_deep ts (TooDeep (u ∷ rest)) fault e leaves cut = cut u rest refl fault.3
+
+  -- where the token behind tells, it is not too deep
+  none_next : (g : Tokens) (u : Meaning × Place) (rest : Tokens) → g ≡ f ++ t ∷ mid → NoneKeeps f t mid (u ∷ rest) → GoesTooDeep g u → ⊥
+  none_next g u rest e none more =
+      let is : g ++ u ∷ more.0 ≡ f ++ t ∷ (mid ++ u ∷ more.0) = ap (λ (l : Tokens). l ++ u ∷ more.0) e ∙ append_assoc f (t ∷ mid) (u ∷ more.0) in
+      none more.0 more.1 (derives_freer (subst (λ (l : Tokens). Derives (suc (length more.0)) l more.1) is more.2) (length mid + suc (length more.0)) (omega arith))
+
+  none_begun : (g seen after rest : Tokens) (x : Meaning × Place) → g ≡ f ++ t ∷ mid → mid ≡ seen ++ x ∷ after → NoneKeeps f t seen (x ∷ (after ++ rest)) → Begun g → ⊥
+  none_begun g seen after rest x e m none b =
+      let is : g ++ b.0 ≡ f ++ t ∷ (seen ++ x ∷ (after ++ b.0)) =
+      ap (λ (l : Tokens). l ++ b.0) e ∙ append_assoc f (t ∷ mid) b.0 ∙ ap (λ (l : Tokens). f ++ t ∷ l) (ap (λ (l : Tokens). l ++ b.0) m ∙ append_assoc seen (x ∷ after) b.0) in
+      let n : length (after ++ b.0) ≡ length after + length b.0 = length-append after b.0 in
+      none (after ++ b.0) b.1 (derives_freer (subst (λ (l : Tokens). Derives (length b.0) l b.1) is b.2) (length seen + suc (length (after ++ b.0))) (omega arith))
+
+  behind_deep : (ts : Tokens) (k : Halt) → (fault : FirstFault ts k) → (stands ts k fault).0 ≡ f ++ t ∷ mid → NoneWithin f t (mid ++ left_at k) → ⊥
+  behind_deep ts k fault e w =
+      let g = (stands ts k fault).0 in
+      by_place ⊥ (left_at k) w.1
+      (λ l. let q = split mid (left_at k) w.0 w.1 w.2 l in
+      let leaves : LeavesOpen t (mid ++ q.0 ∷ q.1) = subst (λ (l : Tokens). LeavesOpen t l) q.2 w.3 in
+      open_deep ts k fault e (leaves_less t mid (q.0 ∷ q.1) leaves) (λ u rest is cut.
+      let same : q.0 ≡ u = heads q.0 u (q.1 ++ w.1) rest (sym q.3 ∙ is) in
+      none_inside f g mid t u e (inside_seen t mid q.1 u (subst (λ (a : Meaning × Place). LeavesOpen t (mid ++ a ∷ q.1)) same leaves)) cut))
+      (λ l. let q = same_place mid (left_at k) w.0 w.1 w.2 l in
+      open_deep ts k fault e (subst (λ (l : Tokens). LeavesOpen t l) (sym q.0) w.3) (λ u rest is cut.
+      none_next g u rest e (subst (λ (l : Tokens). NoneKeeps f t l (u ∷ rest)) (sym q.0) (subst (λ (l : Tokens). NoneKeeps f t w.0 l) (sym q.1 ∙ is) w.4)) cut))
+      (λ l. let q = split w.0 w.1 mid (left_at k) (sym w.2) l in
+      none_begun g w.0 q.1 (left_at k) q.0 e q.2 (subst (λ (l : Tokens). NoneKeeps f t w.0 l) q.3 w.4) (stands ts k fault).2)
 
 -- of two faults none is the later
 later : (ts : Tokens) (h k : Halt) → FirstFault ts h → FirstFault ts k → length (left_at k) < length (left_at h) → ⊥
@@ -123,7 +206,7 @@ later ts (TooDeep (t ∷ rest)) k h fault l =
     let p = stands ts k fault in
     let q = split h.0 (t ∷ rest) p.0 (left_at k) (sym h.1 ∙ p.1) l in
     let e : t ≡ q.0 = heads t q.0 rest (q.1 ++ left_at k) q.3 in
-    behind_deep ts h.0 t q.1 k fault (q.2 ∙ ap (λ (a : Meaning × Place). h.0 ++ a ∷ q.1) (sym e)) h.3 (subst (NoneWithin h.0 t) (tails t q.0 rest (q.1 ++ left_at k) q.3) h.4)
+    behind_deep h.0 q.1 t h.3 ts k fault (q.2 ∙ ap (λ (a : Meaning × Place). h.0 ++ a ∷ q.1) (sym e)) (subst (NoneWithin h.0 t) (tails t q.0 rest (q.1 ++ left_at k) q.3) h.4)
 
 -- a token fits nowhere, or is too deep
 not_both : (f g r s : Tokens) (t : Meaning × Place) → f ≡ g → r ≡ t ∷ s → NoneGoesOn f r → GoesTooDeep g t → ⊥

@@ -15,6 +15,7 @@ use Rattle.ash_parse.specs.declared.statements.Leading.TheVariants as leads
 use Rattle.ash_parse.specs.Signs.{is_sign, same_sign}
 use Rattle.ash_parse.specs.Reading.{next_is, next_is_sign}
 use Rattle.ash_parse.specs.ExpressionReader.{Below, begins, exprs_with, assign_with, below_at}
+use Rattle.ash_parse.specs.TypeReader.{is_array}
 use Rattle.ash_parse.specs.StatementReader.{Nested, is_name, is_vars, declared_with, first_with, test_with, result_with, leading, begins_by, begins_stmt, stmt_limit_at, is_end, ends_case, goes_on, case_goes_on, evaluate_with, is_else, else_with, if_with, while_with, while_at, do_with, for_with, number_at, case_value_at, label_at, stmts_with, case_with, cases_with, switch_with, local_with, locals_with, block_with, stmt_with, nested_at}
 use Rattle.ash_parse.proofs.Readings.{expect_again, next_is_sign-again}
 use Rattle.ash_parse.proofs.StatementSound.{Closes}
@@ -78,6 +79,35 @@ unfolding goes_on case_goes_on begins_stmt
 goes_further [] h = absurd (no_true h)
 goes_further ((m, p) ∷ ts) h = let q = leads_on (leading m) (begins m) h in (ap not q.0, ap not q.1, q.2)
 
+starts_leads : (m : Meaning) → begins m ≡ true → (leading m ≡ leads.Other) × (is_sign signs.Semicolon m ≡ false)
+unfolding begins leading is_sign same_sign primitive unary_operator
+starts_leads (sign signs.OpenBrace) h = absurd (no_true h)
+starts_leads (sign signs.CloseBrace) h = absurd (no_true h)
+starts_leads (sign signs.Semicolon) h = absurd (no_true h)
+starts_leads (reserved words.If) h = absurd (no_true h)
+starts_leads (reserved words.Else) h = absurd (no_true h)
+starts_leads (reserved words.While) h = absurd (no_true h)
+starts_leads (reserved words.Do) h = absurd (no_true h)
+starts_leads (reserved words.For) h = absurd (no_true h)
+starts_leads (reserved words.Switch) h = absurd (no_true h)
+starts_leads (reserved words.Case) h = absurd (no_true h)
+starts_leads (reserved words.Default) h = absurd (no_true h)
+starts_leads (reserved words.Break) h = absurd (no_true h)
+starts_leads (reserved words.Continue) h = absurd (no_true h)
+starts_leads (reserved words.Return) h = absurd (no_true h)
+starts_leads m h = (refl, refl)
+
+pub starts_no_semicolon : (ts : Tokens) → next_is begins ts ≡ true → next_is_sign signs.Semicolon ts ≡ false
+unfolding next_is_sign
+starts_no_semicolon [] h = refl
+starts_no_semicolon ((m, p) ∷ ts) h = (starts_leads m h).1
+
+-- where a type or an expression begins, a block goes on
+pub starts_further : (ts : Tokens) → next_is begins ts ≡ true → (goes_on ts ≡ true) × (case_goes_on ts ≡ true) × NoElse ts
+unfolding goes_on case_goes_on
+starts_further [] h = absurd (no_true h)
+starts_further ((m, p) ∷ ts) h = rw (starts_leads m h).0 (refl, refl, refl)
+
 stmt_begins : {free depth : ℕ} {from left : Tokens} {s : Stmt} → IsStmt free depth from s left → next_is begins_stmt from ≡ true
 unfolding begins_stmt leading
 stmt_begins (inner_block b) = refl
@@ -97,7 +127,7 @@ pub nested_begins : {free depth : ℕ} {from left : Tokens} {s : Stmt} → IsNes
 nested_begins (nested w a) = stmt_begins a
 
 stmt_no_vars : {free depth : ℕ} {from left : Tokens} {s : Stmt} → IsStmt free depth from s left → is_vars from ≡ false
-unfolding is_vars is_name primitive ends_expr
+unfolding is_vars is_name is_array primitive ends_expr
 stmt_no_vars (inner_block b) = refl
 stmt_no_vars empty = refl
 stmt_no_vars (evaluate {p = p} {left = left} a) = assign_no_vars a (ends_follow ((sign signs.Semicolon, p) ∷ left) refl)
@@ -122,7 +152,7 @@ closes_where s ts h e = absurd (never (next_is (λ m. is_else (leading m)) ts) h
 
 locals_no_else : {free depth : ℕ} {from left : Tokens} {ss : List Stmt} → AreLocals free depth from ss left → NoElse left → NoElse from
 locals_no_else no_locals s = s
-locals_no_else (local_vars {from = from} a b) s = (goes_further from (begins_both from (vars_begin a))).2
+locals_no_else (local_vars {from = from} a b) s = (starts_further from (vars_begin a)).2
 locals_no_else (local_stmt {from = from} a b) s = (goes_further from (nested_begins a)).2
 
 stmts_no_else : {free depth : ℕ} {from left : Tokens} {ss : List Stmt} → AreStmts free depth from ss left → NoElse left → NoElse from
@@ -169,7 +199,7 @@ module _ (below : Below) where
 
   first_vars_again : {free : ℕ} (from left : Tokens) (v : Vars) → next_is begins from ≡ true → is_vars from ≡ true → Reads Vars free (declared_with below from) (v, left) → Reads Stmt free (first_with below from) (Declare (place_of_type v.of) v, left)
   unfolding first_with
-  first_vars_again from left v b i h = rw (begins_no_semicolon from b, i) (then_reads _ h whole)
+  first_vars_again from left v b i h = rw (starts_no_semicolon from b, i) (then_reads _ h whole)
 
   first_expr_again : {free : ℕ} (p : Place) (from left : Tokens) (e : Expr) → next_is begins from ≡ true → is_vars from ≡ false → Reads Expr free (below true from) (e, (sign signs.Semicolon, p) ∷ left) → Reads Stmt free (first_with below from) (Evaluate (place_of e) e, left)
   unfolding first_with
@@ -306,7 +336,7 @@ mutual
   locals_read (no_locals {left = left}) room d g n = none_again _ goes_on (local_with (below_at room) (nested_at room)) left g
   locals_read (local_vars {p = p} {from = from} {behind = behind} {left = left} {v = v} {ss = ss} a b) room d g n =
       let l = vars_shorter a in
-      one_again _ goes_on (local_with (below_at room) (nested_at room)) from behind left (Declare (place_of_type v.of) v) ss (goes_further from (begins_both from (vars_begin a))).0 (local_vars_again (below_at room) (nested_at room) from behind v (vars_vars a) (declared_read p behind a room d)) (omega arith) (locals_read b room d g n)
+      one_again _ goes_on (local_with (below_at room) (nested_at room)) from behind left (Declare (place_of_type v.of) v) ss (starts_further from (vars_begin a)).0 (local_vars_again (below_at room) (nested_at room) from behind v (vars_vars a) (declared_read p behind a room d)) (omega arith) (locals_read b room d g n)
   locals_read (local_stmt {from = from} {behind = behind} {left = left} {s = s} {ss = ss} a b) room d g n =
       one_again _ goes_on (local_with (below_at room) (nested_at room)) from behind left s ss (goes_further from (nested_begins a)).0 (local_stmt_again (below_at room) (nested_at room) from behind s (nested_no_vars a) (nested_read a room d (closes_where s behind (locals_no_else b n)))) (nested_shorter a) (locals_read b room d g n)
 

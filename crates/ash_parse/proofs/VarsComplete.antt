@@ -11,13 +11,16 @@ use Rattle.ash_tree.specs.declared.tree.operators.AssignOp.{AssignOp}
 use Rattle.ash_tree.specs.Tree.{Named, Prim, Expr, Suffix, Operation, Default, Value, Arguments, Decl, Vars}
 use Rattle.ash_tree.specs.Tokens.{Tokens}
 use Rattle.ash_tree.specs.Operators.{primitive, unary_operator, binary_operator, assign_operator}
-use Rattle.ash_tree.specs.Expressions.{DEPTH, IsInner, inner, args, IsAssign, no_assign, assign, IsCond, no_branch, branches, IsBinary, operand, joined, AreLinks, no_links, more_links, IsUnary, applied, postfix, AreSuffixes, no_suffixes, more_suffixes, field, method, increment, decrement, IsPrimary, numeral, yes, no, null, this, named, call, brackets, convert}
-use Rattle.ash_tree.specs.Statements.{IsType, prim, object, handle, IsDecl, bare, valued, made, AreMoreDecls, no_more_decls, more_decls, IsVars, vars}
+use Rattle.ash_tree.specs.Expressions.{DEPTH, IsInner, inner, args, IsAssign, no_assign, assign, IsCond, no_branch, branches, IsBinary, operand, joined, AreLinks, no_links, more_links, IsUnary, applied, postfix, AreSuffixes, no_suffixes, more_suffixes, field, method, index, increment, decrement, IsPrimary, numeral, yes, no, null, this, named, call, brackets, convert, new_array, cast}
+use Rattle.ash_tree.specs.Types.{IsType, prim, object, handle, array, array_handle}
+use Rattle.ash_tree.specs.Statements.{IsDecl, bare, valued, made, AreMoreDecls, no_more_decls, more_decls, IsVars, vars}
 use Rattle.ash_parse.specs.Signs.{is_sign, same_sign}
 use Rattle.ash_parse.specs.Reading.{next_is, next_is_sign}
 use Rattle.ash_parse.specs.ExpressionReader.{Below, begins, arguments_with, assign_with, below_at}
+use Rattle.ash_parse.specs.TypeReader.{is_array}
 use Rattle.ash_parse.specs.StatementReader.{is_name, next_is_name, type_at, is_vars, initializer_with, decl_with, next_decl_with, more_decls_with, decls_with, vars_with, declared_with}
 use Rattle.ash_parse.proofs.Readings.{expect_again, next_is_sign-again, name_again}
+use Rattle.ash_parse.proofs.Elements.{element_read, element_passed}
 use Rattle.ash_parse.proofs.StatementShorter.{decl_shorter}
 use Rattle.ash_parse.proofs.Rereading.{no_some, no_true, Reads, whole, as_read, then_reads, put_reads, ReadsAll, none_again, one_again}
 use Rattle.ash_parse.proofs.ExpressionComplete.{ends_expr, Ends, primitive_begins, args_read, assign_read}
@@ -54,6 +57,7 @@ unfolding next_is_name next_is_sign is_name is_sign same_sign
 suffixes_follow no_suffixes s = s
 suffixes_follow (more_suffixes field b) s = (refl, refl)
 suffixes_follow (more_suffixes (method a) b) s = (refl, refl)
+suffixes_follow (more_suffixes (index a) b) s = (refl, refl)
 suffixes_follow (more_suffixes increment b) s = (refl, refl)
 suffixes_follow (more_suffixes decrement b) s = (refl, refl)
 
@@ -63,7 +67,7 @@ links_follow no_links s = s
 links_follow (more_links {m = m} {operator = operator} o l a b) s = operator_follows m operator o
 
 primary_no_vars : {free depth : ℕ} {from left : Tokens} {e : Expr} → IsPrimary free depth from e left → Follows left → is_vars from ≡ false
-unfolding is_vars is_name primitive next_is_name next_is_sign is_sign same_sign
+unfolding is_vars is_name is_array primitive next_is_name next_is_sign is_sign same_sign
 primary_no_vars numeral s = refl
 primary_no_vars yes s = refl
 primary_no_vars no s = refl
@@ -73,22 +77,24 @@ primary_no_vars named s = rw (s.0, s.1) refl
 primary_no_vars (call (args a)) s = refl
 primary_no_vars (brackets a) s = refl
 primary_no_vars (convert k a) s = rw k refl
+primary_no_vars (new_array a (args b)) s = rw (element_passed a) refl
+primary_no_vars (cast a) s = refl
 
-unary_token : (m : Meaning) (o : UnaryOp) → unary_operator m ≡ Some o → (primitive m ≡ None) × (is_name m ≡ false)
-unfolding primitive is_name unary_operator
-unary_token (sign signs.Plus) o h = (refl, refl)
-unary_token (sign signs.Minus) o h = (refl, refl)
-unary_token (sign signs.LogicalNot) o h = (refl, refl)
-unary_token (reserved words.Not) o h = (refl, refl)
-unary_token (sign signs.BitNot) o h = (refl, refl)
-unary_token (sign signs.Increment) o h = (refl, refl)
-unary_token (sign signs.Decrement) o h = (refl, refl)
-unary_token (sign signs.Handle) o h = (refl, refl)
+unary_token : (m : Meaning) (o : UnaryOp) → unary_operator m ≡ Some o → (primitive m ≡ None) × (is_name m ≡ false) × (is_array m ≡ false)
+unfolding primitive is_name is_array unary_operator
+unary_token (sign signs.Plus) o h = (refl, refl, refl)
+unary_token (sign signs.Minus) o h = (refl, refl, refl)
+unary_token (sign signs.LogicalNot) o h = (refl, refl, refl)
+unary_token (reserved words.Not) o h = (refl, refl, refl)
+unary_token (sign signs.BitNot) o h = (refl, refl, refl)
+unary_token (sign signs.Increment) o h = (refl, refl, refl)
+unary_token (sign signs.Decrement) o h = (refl, refl, refl)
+unary_token (sign signs.Handle) o h = (refl, refl, refl)
 unary_token m o h = absurd (no_some o h)
 
 unary_no_vars : {free depth : ℕ} {from left : Tokens} {e : Expr} → IsUnary free depth from e left → Follows left → is_vars from ≡ false
 unfolding is_vars
-unary_no_vars (applied {m = m} {operator = operator} o w a) s = let q = unary_token m operator o in rw (q.0, q.1) refl
+unary_no_vars (applied {m = m} {operator = operator} o w a) s = let q = unary_token m operator o in rw (q.0, q.1, q.2) refl
 unary_no_vars (postfix a b) s = primary_no_vars a (suffixes_follow b s)
 
 binary_no_vars : {free depth n : ℕ} {from left : Tokens} {e : Expr} → IsBinary free depth n from e left → Follows left → is_vars from ≡ false
@@ -114,16 +120,22 @@ unfolding type_at primitive
 type_read (prim g) s = rw g refl
 type_read object s = rw s refl
 type_read (handle {q = q} {left = left}) s = rw (next_is_sign-again signs.Handle q left, expect_again signs.Handle q left) refl
+type_read (array a) s = rw (element_read a, s) refl
+type_read (array_handle {q = q} {left = left} a) s = rw (element_read a, next_is_sign-again signs.Handle q left, expect_again signs.Handle q left) refl
 
 pub type_begins : {from left : Tokens} {t : Named} → IsType from t left → next_is begins from ≡ true
 unfolding begins
 type_begins (prim {m = m} {k = k} g) = (primitive_begins m k g).0
 type_begins object = refl
 type_begins handle = refl
+type_begins (array a) = refl
+type_begins (array_handle a) = refl
 
 -- a type and a name behind it begin a declaration
 pub type_vars : {from left : Tokens} {t : Named} → IsType from t left → next_is_name left ≡ true → is_vars from ≡ true
-unfolding is_vars is_name primitive next_is_name next_is_sign is_sign same_sign
+unfolding is_vars is_name is_array primitive next_is_name next_is_sign is_sign same_sign
+type_vars (array a) s = rw (element_passed a, s) refl
+type_vars (array_handle a) s = rw (element_passed a) refl
 type_vars (prim g) s = rw g s
 type_vars object s = rw s refl
 type_vars handle s = refl

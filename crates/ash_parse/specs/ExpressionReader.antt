@@ -9,11 +9,12 @@ use Rattle.ash_tree.specs.declared.tree.types.Primitive.{Primitive}
 use Rattle.ash_tree.specs.declared.tree.operators.UnaryOp.{UnaryOp}
 use Rattle.ash_tree.specs.declared.tree.operators.BinaryOp.{BinaryOp}
 use Rattle.ash_tree.specs.declared.tree.operators.AssignOp.{AssignOp}
-use Rattle.ash_tree.specs.Tree.{Expr, Number, Truth, Null, This, Name, Call, Brackets, Convert, Unary, Conditional, Assign, Suffix, Field, Method, Increment, Decrement, Operation, place_of, exprs, chained, suffixed}
+use Rattle.ash_tree.specs.Tree.{Expr, Number, Truth, Null, This, Name, Call, Brackets, Convert, NewArray, Cast, Unary, Conditional, Assign, Suffix, Field, Method, Index, Increment, Decrement, Operation, place_of, exprs, chained, suffixed}
 use Rattle.ash_tree.specs.Tokens.{Tokens}
 use Rattle.ash_tree.specs.Operators.{primitive, unary_operator, binary_operator, level, LEVELS, assign_operator}
 use Rattle.ash_parse.specs.Signs.{is_sign}
 use Rattle.ash_parse.specs.Reading.{Reading, Unexpected, TooDeep, ◌>>=◌, put, loop, next_is, next_is_sign, expect_at, name_at}
+use Rattle.ash_parse.specs.TypeReader.{element_at, target_at}
 
 abbrev pub Below : Type 0
 Below = Bool → Tokens → Reading Expr
@@ -27,6 +28,8 @@ begins (reserved words.True) = true
 begins (reserved words.False) = true
 begins (reserved words.Null) = true
 begins (reserved words.This) = true
+begins (reserved words.Array) = true
+begins (reserved words.Cast) = true
 begins m = if is_some (primitive m) then true else is_some (unary_operator m)
 
 -- where no deeper phrase may begin
@@ -67,6 +70,20 @@ unfoldable pub named_with : Below → Place → List ℕ → Tokens → Reading 
 named_with below p text ts =
     if next_is_sign signs.OpenParenthesis ts then (arguments_with below ts >>= λ es. Ok (Call p text (exprs es.0), es.1)) else Ok (Name p text, ts)
 
+-- "<" elem ">" args, behind the word `array`
+unfoldable pub new_array_with : Below → Place → Tokens → Reading Expr
+new_array_with below p ts = do
+  of ← element_at ts
+  es ← arguments_with below of.1
+  Ok (NewArray p of.0 (exprs es.0), es.1)
+
+-- "<" NAME ">" "(" assign ")", behind the word `cast`
+unfoldable pub cast_with : Below → Place → Tokens → Reading Expr
+cast_with below p ts = do
+  t ← target_at ts
+  e ← bracketed_with below t.1
+  Ok (Cast p t.0 e.0, e.1)
+
 abbrev pub primary_by : Below → Option Primitive → Meaning → Place → Tokens → Reading Expr
 primary_by below (Some k) m p ts = bracketed_with below ts >>= λ e. Ok (Convert p k e.0, e.1)
 primary_by below None (name text) p ts = named_with below p text ts
@@ -76,6 +93,8 @@ primary_by below None (reserved words.True) p ts = Ok (Truth p true, ts)
 primary_by below None (reserved words.False) p ts = Ok (Truth p false, ts)
 primary_by below None (reserved words.Null) p ts = Ok (Null p, ts)
 primary_by below None (reserved words.This) p ts = Ok (This p, ts)
+primary_by below None (reserved words.Array) p ts = new_array_with below p ts
+primary_by below None (reserved words.Cast) p ts = cast_with below p ts
 primary_by below None m p ts = Err (Unexpected ((m, p) ∷ ts))
 
 unfoldable pub primary_with : Below → Tokens → Reading Expr
@@ -84,6 +103,7 @@ primary_with below ((m, p) ∷ ts) = primary_by below (primitive m) m p ts
 
 unfoldable pub begins_suffix : Meaning → Bool
 begins_suffix (sign signs.Dot) = true
+begins_suffix (sign signs.OpenBracket) = true
 begins_suffix (sign signs.Increment) = true
 begins_suffix (sign signs.Decrement) = true
 begins_suffix _ = false
@@ -96,9 +116,17 @@ unfoldable pub member_with : Below → Tokens → Reading Suffix
 member_with below ts =
     name_at ts >>= λ n. if next_is_sign signs.OpenParenthesis n.1 then (arguments_with below n.1 >>= λ es. Ok (Method (n.0).1 (n.0).0 (exprs es.0), es.1)) else Ok (Field (n.0).1 (n.0).0, n.1)
 
+-- assign "]", behind the "["
+unfoldable pub index_with : Below → Tokens → Reading Suffix
+index_with below ts = do
+  e ← below true ts
+  closed ← expect_at signs.CloseBracket e.1
+  Ok (Index e.0, closed.1)
+
 unfoldable pub suffix_with : Below → Tokens → Reading Suffix
 suffix_with below [] = Err (Unexpected [])
 suffix_with below ((sign signs.Dot, p) ∷ ts) = member_with below ts
+suffix_with below ((sign signs.OpenBracket, p) ∷ ts) = index_with below ts
 suffix_with below ((sign signs.Increment, p) ∷ ts) = Ok (Increment, ts)
 suffix_with below ((sign signs.Decrement, p) ∷ ts) = Ok (Decrement, ts)
 suffix_with below ((m, p) ∷ ts) = Err (Unexpected ((m, p) ∷ ts))

@@ -1,12 +1,10 @@
 -- What is told where reading stops.
-use Rattle.std.specs.Prelude.{◌≡◌, ℕ, suc, Bool, true, false, List, [], ◌∷◌, Option, Some, None, Ok, Err, ◌-◌, length, take, codes, if◌then◌else◌}
+use Rattle.std.specs.Prelude.{◌≡◌, ℕ, List, [], ◌∷◌, Option, Some, None, Ok, Err, ◌-◌, length, codes, if◌then◌else◌}
 use Rattle.std.specs.List.{slice_get}
-use Rattle.ash_lex.specs.Tokens.{Meaning, name, sign, reserved, unsupported}
+use Rattle.ash_lex.specs.Tokens.{Meaning, sign, unsupported}
 use Rattle.ash_lex.specs.Words.{unsupported_text}
 use Rattle.ash_lex.specs.declared.signs.Sign.TheVariants as signs
-use Rattle.ash_lex.specs.declared.words.ReservedWord.TheVariants as words
 use Rattle.ash_lex.specs.declared.tokens.Token.{Token}
-use Rattle.ash_tree.specs.declared.tree.places.Place.{Place}
 use Rattle.ash_tree.specs.Tree.{Declaration}
 use Rattle.ash_tree.specs.Tokens.{Tokens, tokens_of}
 use Rattle.ash_parse.specs.declared.stop.Stop.{Stop}
@@ -23,30 +21,13 @@ abbrev pub part_text : UnsupportedPart → List ℕ
 part_text (parts.Word w) = unsupported_text w
 part_text parts.Power = codes "**"
 part_text parts.Scope = codes "::"
-part_text parts.Interface = codes "interface"
-part_text parts.Cast = codes "cast"
-part_text parts.Array = codes "array"
 
--- these two tokens are `class NAME`
-abbrev pub is_class_head : Option (Meaning × Place) → Option (Meaning × Place) → Bool
-is_class_head (Some (reserved words.Class, p)) (Some (name text, q)) = true
-is_class_head _ _ = false
-
--- the tokens end in the head of a class
-unfoldable pub ends_in_class_head : Tokens → Bool
-ends_in_class_head front = is_class_head (slice_get front (length front - 2)) (slice_get front (length front - 1))
-
--- the part that a token belongs to which the profile doesn't have: `:` begins the interfaces of a class behind its name
-unfoldable pub part_behind : Tokens → Meaning → Option UnsupportedPart
-part_behind front (unsupported w) = Some (parts.Word w)
-part_behind front (sign signs.Power) = Some parts.Power
-part_behind front (sign signs.Scope) = Some parts.Scope
-part_behind front (sign signs.OpenBracket) = Some parts.Array
-part_behind front (sign signs.Colon) = if ends_in_class_head front then Some parts.Interface else None
-part_behind front (reserved words.Array) = Some parts.Array
-part_behind front (reserved words.Cast) = Some parts.Cast
-part_behind front (reserved words.Interface) = Some parts.Interface
-part_behind front _ = None
+-- the part that a token belongs to which the profile doesn't have
+unfoldable pub part_of : Meaning → Option UnsupportedPart
+part_of (unsupported w) = Some (parts.Word w)
+part_of (sign signs.Power) = Some parts.Power
+part_of (sign signs.Scope) = Some parts.Scope
+part_of _ = None
 
 abbrev pub end_by : Option Token → ℕ
 end_by None = 0
@@ -67,18 +48,18 @@ fault_at at None = faults.Unexpected at
 fault_at at (Some part) = faults.Unsupported part at
 
 -- the fault that stands at the first of these tokens, where all tokens end at a place
-abbrev pub fault_before : Tokens → ℕ → Tokens → ParseFault
-fault_before all end [] = faults.Unexpected end
-fault_before all end ((m, p) ∷ rest) = fault_at p.at (part_behind (take (length all - suc (length rest)) all) m)
+abbrev pub fault_before : ℕ → Tokens → ParseFault
+fault_before end [] = faults.Unexpected end
+fault_before end ((m, p) ∷ rest) = fault_at p.at (part_of m)
 
 -- the fault of tokens that reading stops in, where they end at a place
-abbrev pub fault_of : Tokens → ℕ → Halt → ParseFault
-fault_of all end (Unexpected rest) = fault_before all end rest
-fault_of all end (TooDeep rest) = faults.TooDeep (start end rest)
+abbrev pub fault_of : ℕ → Halt → ParseFault
+fault_of end (Unexpected rest) = fault_before end rest
+fault_of end (TooDeep rest) = faults.TooDeep (start end rest)
 
 -- what is told, of why reading stops
 abbrev pub Tells : List Token → ParseFault → Halt → Type 0
-Tells all fault halt = fault ≡ fault_of (tokens_of all) (end_of all) halt
+Tells all fault halt = fault ≡ fault_of (end_of all) halt
 
 abbrev pub IsTold : List Token → ParseFault → Stop → Type 0
 IsTold all fault (stops.Unexpected rest) = Tells all fault (Unexpected (tokens_of rest.now))

@@ -1,11 +1,13 @@
 -- Where tokens first go wrong, by the grammar alone: what stands before the fault begins a module, and what stands up to
 -- it and with it does not, or has it too deep. In what follows `front` is what stands before the fault.
-use Rattle.std.specs.Prelude.{◌≡◌, ℕ, suc, List, [], ◌∷◌, ◌++◌, length}
-use Rattle.ash_lex.specs.Tokens.{Meaning}
+use Rattle.std.specs.Prelude.{◌≡◌, ℕ, suc, ◌+◌, ◌⊎◌, List, [], ◌∷◌, ◌++◌, length}
+use Rattle.ash_lex.specs.Tokens.{Meaning, reserved}
+use Rattle.ash_lex.specs.declared.words.ReservedWord.TheVariants as words
 use Rattle.ash_lex.specs.declared.tokens.Token.{Token}
 use Rattle.ash_tree.specs.declared.tree.places.Place.{Place}
-use Rattle.ash_tree.specs.Tree.{Item, Declaration}
+use Rattle.ash_tree.specs.Tree.{Element, Item, Declaration}
 use Rattle.ash_tree.specs.Tokens.{Tokens, tokens_of}
+use Rattle.ash_tree.specs.Types.{IsElement}
 use Rattle.ash_tree.specs.Grammar.{Derives, Declares}
 use Rattle.ash_parse.specs.declared.faults.ParseFault.{ParseFault}
 use Rattle.ash_parse.specs.declared.faults.ParseFault.TheVariants as faults
@@ -21,22 +23,32 @@ abbrev pub NoneGoesOn : Tokens → Tokens → Type 0
 NoneGoesOn front [] = (free : ℕ) (items : List Item) → Derives free front items → ⊥
 NoneGoesOn front (t ∷ rest) = (free : ℕ) (tail : Tokens) (items : List Item) → Derives free (front ++ t ∷ tail) items → ⊥
 
--- no module that begins with these tokens, `t` and the token behind it keeps `t` within the depth; or that is these tokens
--- and `t`, where nothing is left. The token behind `t` counts, since a name or a primitive type alone leaves open whether
--- a declaration begins, or an expression, which stands one deeper.
+-- `t` and these tokens behind it may leave open whether a declaration begins, or an expression, which stands one deeper: `t`
+-- alone, or the word `array` with what begins an `"<" elem ">"`
+abbrev pub LeavesOpen : Meaning × Place → Tokens → Type 0
+LeavesOpen t seen = (seen ≡ []) ⊎ ((t.0 ≡ reserved words.Array) × (tail : Tokens) × (of : Element) × IsElement (seen ++ tail) of [])
+
+-- no module that begins with `front`, `t`, the tokens `seen` and the first of `behind` keeps `t` within the depth; or that is
+-- the former, where nothing is behind
+abbrev pub NoneKeeps : Tokens → Meaning × Place → Tokens → Tokens → Type 0
+NoneKeeps front t seen [] = (items : List Item) → Derives (length seen) (front ++ t ∷ seen) items → ⊥
+NoneKeeps front t seen (u ∷ behind) = (tail : Tokens) (items : List Item) → Derives (length seen + suc (length tail)) (front ++ t ∷ (seen ++ u ∷ tail)) items → ⊥
+
+-- No module that begins with these tokens, `t` and the token behind it keeps `t` within the depth; or that is these tokens
+-- and `t`, where nothing is left. The token behind `t` counts, since a name or a primitive type alone leaves open what
+-- begins; where `t` is the word `array`, the tokens up to the one behind `"<" elem ">"` do.
 abbrev pub NoneWithin : Tokens → Meaning × Place → Tokens → Type 0
-NoneWithin front t [] = (items : List Item) → Derives 0 (front ++ t ∷ []) items → ⊥
-NoneWithin front t (u ∷ rest) = (tail : Tokens) (items : List Item) → Derives (suc (length tail)) (front ++ t ∷ u ∷ tail) items → ⊥
+NoneWithin front t rest = (seen : Tokens) × (behind : Tokens) × (rest ≡ seen ++ behind) × LeavesOpen t seen × NoneKeeps front t seen behind
 
 -- some module begins with these tokens and `t`, and has no token before `t` too deep; and `t` is too deep in each that has
--- the same token behind it
+-- the same tokens behind it, as far as they count
 abbrev pub GoesTooDeep : Tokens → Meaning × Place → Type 0
 GoesTooDeep front t = (tail : Tokens) × (items : List Item) × Derives (suc (length tail)) (front ++ t ∷ tail) items × NoneWithin front t tail
 
--- The last of these tokens is too deep in no module. Where it could be, being a name or a primitive type that leaves open
--- what begins, and what is behind it fits nowhere, the fault is this token's, which then counts as an expression's.
+-- The last of these tokens is too deep in no module, nor the word `array` where what is behind it leaves open what begins.
+-- Where it could be, and what is behind it fits nowhere, the fault is this token's, which then counts as an expression's.
 abbrev pub NoneLeftDeep : Tokens → Type 0
-NoneLeftDeep front = (less : Tokens) (t : Meaning × Place) → front ≡ less ++ t ∷ [] → GoesTooDeep less t → ⊥
+NoneLeftDeep front = (less : Tokens) (t : Meaning × Place) (seen : Tokens) → front ≡ less ++ t ∷ seen → LeavesOpen t seen → GoesTooDeep less t → ⊥
 
 -- The first fault of tokens that are no module within the depth. Tokens have one such fault at most.
 abbrev pub FirstFault : Tokens → Halt → Type 0

@@ -4,11 +4,12 @@ use Rattle.ash_lex.specs.Tokens.{Meaning, reserved}
 use Rattle.ash_lex.specs.declared.signs.Sign.TheVariants as signs
 use Rattle.ash_lex.specs.declared.words.ReservedWord.TheVariants as words
 use Rattle.ash_tree.specs.declared.tree.places.Place.{Place}
-use Rattle.ash_tree.specs.Tree.{Named, Vars, Stmt, Parameter, Function, Constructor, Member, AMethod, AField, AConstructor, Class, Item, AClass, AFunction, AGlobal, Declaration, ASignature, AProperty}
+use Rattle.ash_tree.specs.Tree.{Named, TypeName, Vars, Stmt, Parameter, Function, Constructor, Member, AMethod, AField, AConstructor, Class, InterfaceMethod, Interface, Item, AClass, AnInterface, AFunction, AGlobal, Declaration, ASignature, AProperty}
 use Rattle.ash_tree.specs.Tokens.{Tokens}
 use Rattle.ash_tree.specs.Expressions.{DEPTH}
 use Rattle.ash_parse.specs.Signs.{is_sign}
 use Rattle.ash_parse.specs.Reading.{Reading, Unexpected, ◌>>=◌, put, loop, next_is_sign, expect_at, name_at}
+use Rattle.ash_parse.specs.TypeReader.{is_array, behind_element}
 use Rattle.ash_parse.specs.ExpressionReader.{below_at}
 use Rattle.ash_parse.specs.StatementReader.{next_is_name, type_at, is_vars, declared_with, goes_on, block_with, nested_at}
 
@@ -19,6 +20,10 @@ is_void _ = false
 unfoldable pub is_class : Meaning → Bool
 is_class (reserved words.Class) = true
 is_class _ = false
+
+unfoldable pub is_interface : Meaning → Bool
+is_interface (reserved words.Interface) = true
+is_interface _ = false
 
 -- rtype
 unfoldable pub result_type_at : Tokens → Reading (Option Named)
@@ -82,10 +87,18 @@ unfoldable pub names_function : Tokens → Bool
 names_function ts =
     if next_is_name ts then (if next_is_sign signs.OpenParenthesis (behind ts) then (if is_vars (behind (behind ts)) then true else opens_body (behind (behind ts))) else false) else false
 
+-- ["@"], and behind it NAME "(" and what begins parameters
+unfoldable pub handle_names_function : Tokens → Bool
+handle_names_function ts = if next_is_sign signs.Handle ts then names_function (behind ts) else names_function ts
+
+abbrev pub array_names_function : Option Tokens → Bool
+array_names_function None = false
+array_names_function (Some ts) = handle_names_function ts
+
 -- the tokens begin a function, and no declaration of variables
 unfoldable pub is_function : Tokens → Bool
 is_function [] = false
-is_function ((m, p) ∷ ts) = if is_void m then true else (if next_is_sign signs.Handle ts then names_function (behind ts) else names_function ts)
+is_function ((m, p) ∷ ts) = if is_void m then true else (if is_array m then array_names_function (behind_element ts) else handle_names_function ts)
 
 unfoldable pub is_constructor : Tokens → Bool
 is_constructor ts = if next_is_name ts then next_is_sign signs.OpenParenthesis (behind ts) else false
@@ -105,20 +118,64 @@ member_at ts =
 unfoldable pub members_at : Tokens → Reading (List Member)
 members_at ts = loop goes_on member_at ts
 
+-- "," NAME
+unfoldable pub next_interface_at : Tokens → Reading TypeName
+next_interface_at ts = do
+  comma ← expect_at signs.Comma ts
+  n ← name_at comma.1
+  Ok (record { place = (n.0).1; name = (n.0).0 }, n.1)
+
+unfoldable pub more_interfaces_at : Tokens → Reading (List TypeName)
+more_interfaces_at ts = loop (next_is_sign signs.Comma) next_interface_at ts
+
+-- NAME { "," NAME }
+unfoldable pub listed_interfaces_at : Tokens → Reading (List TypeName)
+listed_interfaces_at ts = name_at ts >>= λ n. put (record { place = (n.0).1; name = (n.0).0 }) (more_interfaces_at n.1)
+
+-- [ ":" NAME { "," NAME } ]
+unfoldable pub interfaces_at : Tokens → Reading (List TypeName)
+interfaces_at ts = if next_is_sign signs.Colon ts then (expect_at signs.Colon ts >>= λ c. listed_interfaces_at c.1) else Ok ([], ts)
+
 -- a class behind the word `class`
 unfoldable pub class_at : Tokens → Reading Class
 class_at ts = do
   n ← name_at ts
-  o ← expect_at signs.OpenBrace n.1
+  is ← interfaces_at n.1
+  o ← expect_at signs.OpenBrace is.1
   xs ← members_at o.1
   z ← expect_at signs.CloseBrace xs.1
-  Ok (record { place = (n.0).1; name = (n.0).0; members = xs.0 }, z.1)
+  Ok (record { place = (n.0).1; name = (n.0).0; interfaces = is.0; members = xs.0 }, z.1)
+
+-- rtype NAME params ";"
+unfoldable pub interface_method_at : Tokens → Reading InterfaceMethod
+interface_method_at ts = do
+  r ← result_type_at ts
+  n ← name_at r.1
+  xs ← parameters_at n.1
+  z ← expect_at signs.Semicolon xs.1
+  Ok (record { place = (n.0).1; result = r.0; name = (n.0).0; parameters = xs.0 }, z.1)
+
+unfoldable pub interface_methods_at : Tokens → Reading (List InterfaceMethod)
+interface_methods_at ts = loop goes_on interface_method_at ts
+
+-- an interface behind the word `interface`
+unfoldable pub interface_at : Tokens → Reading Interface
+interface_at ts = do
+  n ← name_at ts
+  o ← expect_at signs.OpenBrace n.1
+  xs ← interface_methods_at o.1
+  z ← expect_at signs.CloseBrace xs.1
+  Ok (record { place = (n.0).1; name = (n.0).0; methods = xs.0 }, z.1)
+
+-- a function or variables, whichever the tokens begin
+abbrev pub other_item_at : Tokens → Reading Item
+other_item_at ts = if is_function ts then (function_at ts >>= λ f. Ok (AFunction f.0, f.1)) else (globals_at ts >>= λ v. Ok (AGlobal v.0, v.1))
 
 unfoldable pub item_at : Tokens → Reading Item
 item_at [] = Err (Unexpected [])
 item_at ((m, p) ∷ ts) =
     if is_class m then (class_at ts >>= λ c. Ok (AClass c.0, c.1))
-    else (if is_function ((m, p) ∷ ts) then (function_at ((m, p) ∷ ts) >>= λ f. Ok (AFunction f.0, f.1)) else (globals_at ((m, p) ∷ ts) >>= λ v. Ok (AGlobal v.0, v.1)))
+    else (if is_interface m then (interface_at ts >>= λ i. Ok (AnInterface i.0, i.1)) else other_item_at ((m, p) ∷ ts))
 
 -- behind each ";" in front
 unfoldable pub strip : Tokens → Tokens

@@ -1,5 +1,6 @@
 pub mod Signs
 pub mod Reading
+pub mod TypeReader
 pub mod ExpressionReader
 pub mod StatementReader
 pub mod ItemReader

@@ -8,12 +8,13 @@ use Rattle.ash_tree.specs.declared.tree.places.Place.{Place}
 use Rattle.ash_tree.specs.declared.tree.types.Primitive.{Primitive}
 use Rattle.ash_tree.specs.declared.tree.statements.Label.{Label}
 use Rattle.ash_tree.specs.declared.tree.statements.Label.TheVariants as labels
-use Rattle.ash_tree.specs.Tree.{Named, Prim, Object, Handle, Expr, Initializer, Default, Value, Arguments, Decl, Vars, Stmt, Empty, Declare, Evaluate, Block, If, IfElse, While, DoWhile, For, Switch, Break, Continue, Return, Case, labelled, place_of, place_of_type, stmts, cases}
+use Rattle.ash_tree.specs.Tree.{Named, Prim, Object, Handle, Array, ArrayHandle, Expr, Initializer, Default, Value, Arguments, Decl, Vars, Stmt, Empty, Declare, Evaluate, Block, If, IfElse, While, DoWhile, For, Switch, Break, Continue, Return, Case, labelled, place_of, place_of_type, stmts, cases}
 use Rattle.ash_tree.specs.Tokens.{Tokens}
 use Rattle.ash_tree.specs.Operators.{primitive}
 use Rattle.ash_parse.specs.declared.statements.Leading.{Leading}
 use Rattle.ash_parse.specs.declared.statements.Leading.TheVariants as leads
 use Rattle.ash_parse.specs.Reading.{Reading, Unexpected, TooDeep, ◌>>=◌, put, loop, next_is, next_is_sign, expect_at, name_at}
+use Rattle.ash_parse.specs.TypeReader.{is_array, element_at, behind_element}
 use Rattle.ash_parse.specs.ExpressionReader.{Below, begins, exprs_with, arguments_with, bracketed_with, assign_with, below_at}
 
 unfoldable pub is_name : Meaning → Bool
@@ -23,20 +24,34 @@ is_name _ = false
 unfoldable pub next_is_name : Tokens → Bool
 next_is_name ts = next_is is_name ts
 
+-- ["@"] behind what is then a handle
+abbrev pub handle_by : Named → Named → Tokens → Reading Named
+handle_by plain handle ts = if next_is_sign signs.Handle ts then (expect_at signs.Handle ts >>= λ h. Ok (handle, h.1)) else Ok (plain, ts)
+
 abbrev pub type_by : Option Primitive → Meaning → Place → Tokens → Reading Named
 type_by (Some k) m p ts = Ok (Prim p k, ts)
-type_by None (name t) p ts = if next_is_sign signs.Handle ts then (expect_at signs.Handle ts >>= λ h. Ok (Handle p t, h.1)) else Ok (Object p t, ts)
+type_by None (name t) p ts = handle_by (Object p t) (Handle p t) ts
+type_by None (reserved words.Array) p ts = element_at ts >>= λ e. handle_by (Array p e.0) (ArrayHandle p e.0) e.1
 type_by None m p ts = Err (Unexpected ((m, p) ∷ ts))
 
 unfoldable pub type_at : Tokens → Reading Named
 type_at [] = Err (Unexpected [])
 type_at ((m, p) ∷ ts) = type_by (primitive m) m p ts
 
--- the tokens begin a declaration of variables or a parameter, by the first two of them
+-- behind the name of an object type: what a declaration goes on with, and no expression
+abbrev pub names_vars : Tokens → Bool
+names_vars ts = if next_is_name ts then true else next_is_sign signs.Handle ts
+
+abbrev pub array_names_vars : Option Tokens → Bool
+array_names_vars None = false
+array_names_vars (Some ts) = names_vars ts
+
+-- the tokens begin a declaration of variables or a parameter, by the first two of them, or by what is behind the word
+-- `array` with its `"<" elem ">"`
 unfoldable pub is_vars : Tokens → Bool
 is_vars [] = false
 is_vars ((m, p) ∷ ts) =
-    if is_some (primitive m) then next_is_name ts else (if is_name m then (if next_is_name ts then true else next_is_sign signs.Handle ts) else false)
+    if is_some (primitive m) then next_is_name ts else (if is_name m then names_vars ts else (if is_array m then array_names_vars (behind_element ts) else false))
 
 unfoldable pub initializer_with : Below → Tokens → Reading Initializer
 initializer_with below ts =

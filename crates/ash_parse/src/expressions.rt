@@ -11,6 +11,7 @@ ghost use Rattle.ash_parse.specs.Reading.{Gives, Fails, put};
 ghost use Rattle.ash_parse.specs.ExpressionReader as reader;
 
 use crate::cursor::{expect, is_sign, name, next_is_sign, place};
+use crate::data_types::{element, target};
 use crate::operators::{
     assign_operator, begins_expression, binary_operator, level, primitive, unary_operator,
 };
@@ -261,7 +262,7 @@ fn begins_suffix(tokens: &[Token]) -> bool
     };
     matches!(
         &next.kind,
-        TokenKind::Sign(Sign::Dot | Sign::Increment | Sign::Decrement)
+        TokenKind::Sign(Sign::Dot | Sign::OpenBracket | Sign::Increment | Sign::Decrement)
     )
 }
 
@@ -281,7 +282,7 @@ fn suffixes(alloc: Global, room: u32, tokens: &[Token]) -> Reading<'_, Vec<Suffi
     Ok((suffixes, rest))
 }
 
-/// `"." NAME [args] | "++" | "--"`
+/// `"." NAME [args] | "[" assign "]" | "++" | "--"`
 #[cycle(expressions)]
 #[tactic(auto, unfolding(crate::specs::ExpressionReader::suffix_with))]
 fn suffix(alloc: Global, room: u32, tokens: &[Token]) -> Reading<'_, Suffix>
@@ -293,6 +294,7 @@ fn suffix(alloc: Global, room: u32, tokens: &[Token]) -> Reading<'_, Suffix>
     };
     match &next.kind {
         TokenKind::Sign(Sign::Dot) => member(alloc, room, rest),
+        TokenKind::Sign(Sign::OpenBracket) => index(alloc, room, rest),
         TokenKind::Sign(Sign::Increment) => Ok((Suffix::Increment, rest)),
         TokenKind::Sign(Sign::Decrement) => Ok((Suffix::Decrement, rest)),
         _ => Err(Stop::Unexpected(tokens)),
@@ -314,7 +316,20 @@ fn member(alloc: Global, room: u32, tokens: &[Token]) -> Reading<'_, Suffix>
     Ok((nodes::method(place, name, arguments), rest))
 }
 
-/// `NUMBER | "true" | "false" | "null" | "this" | NAME [args] | "(" assign ")" | prim "(" assign ")"`
+/// `assign "]"`, behind the `[`
+#[cycle(expressions)]
+#[tactic(auto, unfolding(crate::specs::ExpressionReader::index_with))]
+fn index(alloc: Global, room: u32, tokens: &[Token]) -> Reading<'_, Suffix>
+    requires { room ≤ DEPTH }
+    ensures { Gives (λ x. (suffix_of x.0, tokens_of x.1.now)) result (reader.index_with (reader.below_at room) (tokens_of tokens.now)) }
+{
+    let (value, rest) = below(alloc, true, room, tokens)?;
+    let (_, rest) = expect(Sign::CloseBracket, rest)?;
+    Ok((nodes::index(alloc, value)?, rest))
+}
+
+/// `NUMBER | "true" | "false" | "null" | "this" | NAME [args] | "(" assign ")" | prim "(" assign ")"`, or
+/// `"array" "<" elem ">" args | "cast" "<" NAME ">" "(" assign ")"`
 #[cycle(expressions)]
 #[tactic(auto, unfolding(crate::specs::ExpressionReader::primary_with))]
 fn primary(alloc: Global, room: u32, tokens: &[Token]) -> Reading<'_, Expr>
@@ -335,6 +350,8 @@ fn primary(alloc: Global, room: u32, tokens: &[Token]) -> Reading<'_, Expr>
             let (inner, rest) = bracketed(alloc, room, tokens)?;
             return Ok((nodes::brackets(alloc, place, inner)?, rest));
         }
+        TokenKind::Reserved(ReservedWord::Array) => return new_array(alloc, room, place, rest),
+        TokenKind::Reserved(ReservedWord::Cast) => return cast(alloc, room, place, rest),
         TokenKind::Number(value) => ExprKind::Number(*value),
         TokenKind::Reserved(ReservedWord::True) => ExprKind::Bool(true),
         TokenKind::Reserved(ReservedWord::False) => ExprKind::Bool(false),
@@ -343,6 +360,30 @@ fn primary(alloc: Global, room: u32, tokens: &[Token]) -> Reading<'_, Expr>
         _ => return Err(Stop::Unexpected(tokens)),
     };
     Ok((Expr { place, kind }, rest))
+}
+
+/// `"<" elem ">" args`, behind the word `array`
+#[cycle(expressions)]
+#[tactic(auto, unfolding(crate::specs::ExpressionReader::new_array_with))]
+fn new_array(alloc: Global, room: u32, place: Place, tokens: &[Token]) -> Reading<'_, Expr>
+    requires { room ≤ DEPTH }
+    ensures { Gives (λ x. (expr_of x.0, tokens_of x.1.now)) result (reader.new_array_with (reader.below_at room) place (tokens_of tokens.now)) }
+{
+    let (of, rest) = element(alloc, tokens)?;
+    let (arguments, rest) = arguments(alloc, room, rest)?;
+    Ok((nodes::new_array(place, of, arguments), rest))
+}
+
+/// `"<" NAME ">" "(" assign ")"`, behind the word `cast`
+#[cycle(expressions)]
+#[tactic(auto, unfolding(crate::specs::ExpressionReader::cast_with))]
+fn cast(alloc: Global, room: u32, place: Place, tokens: &[Token]) -> Reading<'_, Expr>
+    requires { room ≤ DEPTH }
+    ensures { Gives (λ x. (expr_of x.0, tokens_of x.1.now)) result (reader.cast_with (reader.below_at room) place (tokens_of tokens.now)) }
+{
+    let (to, rest) = target(alloc, tokens)?;
+    let (value, rest) = bracketed(alloc, room, rest)?;
+    Ok((nodes::cast(alloc, place, to, value)?, rest))
 }
 
 /// `NAME [args]`, behind the name

@@ -16,12 +16,6 @@ pub enum UnsupportedPart {
     Power,
     /// The scope sign `::`.
     Scope,
-    /// Interfaces, and the `:` behind the name of a class.
-    Interface,
-    /// Casts.
-    Cast,
-    /// Arrays, and the bracket `[`.
-    Array,
 }
 
 impl UnsupportedPart {
@@ -33,9 +27,6 @@ impl UnsupportedPart {
             UnsupportedPart::Word(word) => word.as_str(),
             UnsupportedPart::Power => "**",
             UnsupportedPart::Scope => "::",
-            UnsupportedPart::Interface => "interface",
-            UnsupportedPart::Cast => "cast",
-            UnsupportedPart::Array => "array",
         }
     }
 }

@@ -5,18 +5,19 @@
 ghost use Rattle.std.specs.Prelude.{◌≡◌, [], map, string_bytes, option_map, IfOk};
 ghost use Rattle.ash_lex.specs.Tokens.{meaning_of};
 ghost use Rattle.ash_tree.specs.Tokens.{tokens_of};
-ghost use Rattle.ash_tree.specs.Views.{type_of, vars_of, stmt_of, parameter_of, function_of, constructor_of, member_of, class_of, item_of, declaration_of};
+ghost use Rattle.ash_tree.specs.Views.{type_of, vars_of, stmt_of, parameter_of, function_of, constructor_of, member_of, type_name_of, class_of, interface_method_of, interface_of, item_of, declaration_of};
 ghost use Rattle.ash_parse.specs.Reading.{Gives, put};
 ghost use Rattle.ash_parse.specs.ItemReader as reader;
 
 use crate::cursor::{expect, is_sign, name, next_is_sign};
+use crate::data_types::{behind_element, is_array, is_vars, next_is_name, type_name};
 use crate::expressions::DEPTH;
-use crate::statements::{block, declared, goes_on, is_vars, next_is_name, type_name};
+use crate::statements::{block, declared, goes_on};
 use crate::stop::{Reading, Stop};
 use ash_lex::{ReservedWord, Sign, Token, TokenKind};
 use ash_tree::{
-    Class, Constructor, Declaration, Function, Item, Member, Parameter, Place, Property, Signature,
-    Stmt, Type, Vars,
+    Class, Constructor, Declaration, Function, Interface, InterfaceMethod, Item, Member, Parameter,
+    Place, Property, Signature, Stmt, Type, TypeName, Vars,
 };
 use std::alloc::Global;
 
@@ -32,6 +33,13 @@ fn is_class(kind: &TokenKind) -> bool
     ensures { result ≡ reader.is_class (meaning_of kind.now) }
 {
     matches!(kind, TokenKind::Reserved(ReservedWord::Class))
+}
+
+#[tactic(auto, unfolding(crate::specs::ItemReader::is_interface))]
+fn is_interface(kind: &TokenKind) -> bool
+    ensures { result ≡ reader.is_interface (meaning_of kind.now) }
+{
+    matches!(kind, TokenKind::Reserved(ReservedWord::Interface))
 }
 
 /// `"void" | type`
@@ -183,7 +191,18 @@ fn names_function(tokens: &[Token]) -> bool
     is_vars(inner) || opens_body(inner)
 }
 
-/// Whether the tokens begin a function, and no declaration of variables. The first six of them decide.
+/// Whether `NAME "("` stands here or behind an `@`, and parameters behind it and no arguments.
+#[tactic(auto, unfolding(crate::specs::ItemReader::handle_names_function))]
+fn handle_names_function(tokens: &[Token]) -> bool
+    ensures { result ≡ reader.handle_names_function (tokens_of tokens.now) }
+{
+    if next_is_sign(Sign::Handle, tokens) {
+        return names_function(behind(tokens));
+    }
+    names_function(tokens)
+}
+
+/// Whether the tokens begin a function, and no declaration of variables. The first ten of them decide.
 #[tactic(auto, unfolding(crate::specs::ItemReader::is_function))]
 fn is_function(tokens: &[Token]) -> bool
     ensures { result ≡ reader.is_function (tokens_of tokens.now) }
@@ -194,10 +213,13 @@ fn is_function(tokens: &[Token]) -> bool
     if is_void(&next.kind) {
         return true;
     }
-    if next_is_sign(Sign::Handle, rest) {
-        return names_function(behind(rest));
+    if !is_array(&next.kind) {
+        return handle_names_function(rest);
     }
-    names_function(rest)
+    let Some(rest) = behind_element(rest) else {
+        return false;
+    };
+    handle_names_function(rest)
 }
 
 #[tactic(auto, unfolding(crate::specs::ItemReader::is_constructor))]
@@ -255,24 +277,125 @@ fn members(alloc: Global, tokens: &[Token]) -> Reading<'_, Vec<Member>>
     Ok((all, rest))
 }
 
-/// `NAME "{" { member } "}"`, behind the word `class`
+/// `"," NAME`
+#[tactic(auto, unfolding(crate::specs::ItemReader::next_interface_at))]
+fn next_interface(alloc: Global, tokens: &[Token]) -> Reading<'_, TypeName>
+    ensures { Gives (λ x. (type_name_of x.0, tokens_of x.1.now)) result (reader.next_interface_at (tokens_of tokens.now)) }
+{
+    let (_, rest) = expect(Sign::Comma, tokens)?;
+    let ((name, place), rest) = name(alloc, rest)?;
+    Ok((TypeName { place, name }, rest))
+}
+
+/// `{ "," NAME }`, behind the first
+fn more_interfaces<'a>(
+    alloc: Global,
+    first: TypeName,
+    tokens: &'a [Token],
+) -> Reading<'a, Vec<TypeName>>
+    ensures { Gives (λ x. (map type_name_of x.0.items, tokens_of x.1.now)) result (put (type_name_of first) (reader.more_interfaces_at (tokens_of tokens.now))) }
+{
+    let mut all = Vec::new(alloc);
+    all.push(first)?;
+    let mut rest = tokens;
+    'more: while next_is_sign(Sign::Comma, rest) {
+        let (next, behind) = next_interface(alloc, rest)?;
+        all.push(next)?;
+        rest = behind;
+    }
+    Ok((all, rest))
+}
+
+/// `NAME { "," NAME }`
+#[tactic(auto, unfolding(crate::specs::ItemReader::listed_interfaces_at))]
+fn listed_interfaces(alloc: Global, tokens: &[Token]) -> Reading<'_, Vec<TypeName>>
+    ensures { Gives (λ x. (map type_name_of x.0.items, tokens_of x.1.now)) result (reader.listed_interfaces_at (tokens_of tokens.now)) }
+{
+    let ((name, place), rest) = name(alloc, tokens)?;
+    more_interfaces(alloc, TypeName { place, name }, rest)
+}
+
+/// `[ ":" NAME { "," NAME } ]`
+#[tactic(auto, unfolding(crate::specs::ItemReader::interfaces_at))]
+fn interfaces(alloc: Global, tokens: &[Token]) -> Reading<'_, Vec<TypeName>>
+    ensures { Gives (λ x. (map type_name_of x.0.items, tokens_of x.1.now)) result (reader.interfaces_at (tokens_of tokens.now)) }
+{
+    if !next_is_sign(Sign::Colon, tokens) {
+        return Ok((Vec::new(alloc), tokens));
+    }
+    let (_, rest) = expect(Sign::Colon, tokens)?;
+    listed_interfaces(alloc, rest)
+}
+
+/// `NAME [ ":" NAME { "," NAME } ] "{" { member } "}"`, behind the word `class`
 #[tactic(auto, unfolding(crate::specs::ItemReader::class_at))]
 fn class(alloc: Global, tokens: &[Token]) -> Reading<'_, Class>
     ensures { Gives (λ x. (class_of x.0, tokens_of x.1.now)) result (reader.class_at (tokens_of tokens.now)) }
 {
     let ((name, place), rest) = name(alloc, tokens)?;
+    let (interfaces, rest) = interfaces(alloc, rest)?;
     let (_, rest) = expect(Sign::OpenBrace, rest)?;
     let (members, rest) = members(alloc, rest)?;
     let (_, rest) = expect(Sign::CloseBrace, rest)?;
     let class = Class {
         place,
         name,
+        interfaces,
         members,
     };
     Ok((class, rest))
 }
 
-/// `class | function | vars ";"`
+/// `rtype NAME params ";"`
+#[tactic(auto, unfolding(crate::specs::ItemReader::interface_method_at))]
+fn interface_method(alloc: Global, tokens: &[Token]) -> Reading<'_, InterfaceMethod>
+    ensures { Gives (λ x. (interface_method_of x.0, tokens_of x.1.now)) result (reader.interface_method_at (tokens_of tokens.now)) }
+{
+    let (of, rest) = result_type(alloc, tokens)?;
+    let ((name, place), rest) = name(alloc, rest)?;
+    let (parameters, rest) = parameters(alloc, rest)?;
+    let (_, rest) = expect(Sign::Semicolon, rest)?;
+    let method = InterfaceMethod {
+        place,
+        result: of,
+        name,
+        parameters,
+    };
+    Ok((method, rest))
+}
+
+/// `{ rtype NAME params ";" }`
+fn interface_methods(alloc: Global, tokens: &[Token]) -> Reading<'_, Vec<InterfaceMethod>>
+    ensures { Gives (λ x. (map interface_method_of x.0.items, tokens_of x.1.now)) result (reader.interface_methods_at (tokens_of tokens.now)) }
+{
+    let mut all = Vec::new(alloc);
+    let mut rest = tokens;
+    'more: while goes_on(rest) {
+        let (next, behind) = interface_method(alloc, rest)?;
+        all.push(next)?;
+        rest = behind;
+    }
+    Ok((all, rest))
+}
+
+/// `NAME "{" { rtype NAME params ";" } "}"`, behind the word `interface`
+#[tactic(auto, unfolding(crate::specs::ItemReader::interface_at))]
+fn interface(alloc: Global, tokens: &[Token]) -> Reading<'_, Interface>
+    ensures { Gives (λ x. (interface_of x.0, tokens_of x.1.now)) result (reader.interface_at (tokens_of tokens.now)) }
+{
+    let ((name, place), rest) = name(alloc, tokens)?;
+    let (_, rest) = expect(Sign::OpenBrace, rest)?;
+    let (methods, rest) = interface_methods(alloc, rest)?;
+    let (_, rest) = expect(Sign::CloseBrace, rest)?;
+    let interface = Interface {
+        place,
+        name,
+        methods,
+    };
+    Ok((interface, rest))
+}
+
+/// `class | interface | function | vars ";"`
 #[tactic(auto, unfolding(crate::specs::ItemReader::item_at))]
 fn item(alloc: Global, tokens: &[Token]) -> Reading<'_, Item>
     ensures { Gives (λ x. (item_of x.0, tokens_of x.1.now)) result (reader.item_at (tokens_of tokens.now)) }
@@ -283,6 +406,10 @@ fn item(alloc: Global, tokens: &[Token]) -> Reading<'_, Item>
     if is_class(&next.kind) {
         let (class, rest) = class(alloc, rest)?;
         return Ok((Item::Class(class), rest));
+    }
+    if is_interface(&next.kind) {
+        let (interface, rest) = interface(alloc, rest)?;
+        return Ok((Item::Interface(interface), rest));
     }
     if is_function(tokens) {
         let (function, rest) = function(alloc, tokens)?;
@@ -333,7 +460,7 @@ fn entries(alloc: Global, tokens: &[Token]) -> Reading<'_, Vec<Item>>
     Ok((all, rest))
 }
 
-/// `{ ";" | class | function | vars ";" }`
+/// `{ ";" | class | interface | function | vars ";" }`
 #[tactic(auto, unfolding(crate::specs::ItemReader::module_at))]
 pub fn items(alloc: Global, tokens: &[Token]) -> Reading<'_, Vec<Item>>
     ensures read { Gives (λ x. (map item_of x.0.items, tokens_of x.1.now)) result (reader.module_at (tokens_of tokens.now)) }

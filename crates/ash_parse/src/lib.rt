@@ -4,13 +4,14 @@
 //! tells a fault where there is none. It stands on `ash_lex`, whose tokens it reads, and on `ash_tree`, whose trees it
 //! makes and whose grammar it keeps to: what is answered is derived, and whatever the tokens derive is what is answered, so
 //! that they have one tree at most; and a fault is the first by the grammar, of which they have one where they have no tree.
-//! The tokens are read once, from left to right, and at most six of them ahead.
+//! The tokens are read once, from left to right, and at most ten of them ahead.
 //!
-//! In reading order: `faults`; `parse`, the two calls; `items`, `statements` and `expressions`, one function for each
-//! phrase, with its production above it; `operators`; `cursor` and `stop`, the next token and why reading stops.
+//! In reading order: `faults`; `parse`, the two calls; `items`, `statements`, `expressions` and `data_types`, one function
+//! for each phrase, with its production above it; `operators`; `cursor` and `stop`, the next token and why reading stops.
 #![tactic(auto)]
 
 mod cursor;
+mod data_types;
 mod expressions;
 mod faults;
 mod items;

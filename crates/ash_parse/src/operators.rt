@@ -129,7 +129,12 @@ pub fn begins_expression(kind: &TokenKind) -> bool
         | TokenKind::Number(_)
         | TokenKind::Sign(Sign::OpenParenthesis)
         | TokenKind::Reserved(
-            ReservedWord::True | ReservedWord::False | ReservedWord::Null | ReservedWord::This,
+            ReservedWord::True
+            | ReservedWord::False
+            | ReservedWord::Null
+            | ReservedWord::This
+            | ReservedWord::Array
+            | ReservedWord::Cast,
         ) => true,
         kind => primitive(kind).is_some() || unary_operator(kind).is_some(),
     }

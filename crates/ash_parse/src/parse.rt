@@ -10,51 +10,24 @@ ghost use Rattle.ash_parse.specs.Reading.{Unexpected, Gives};
 ghost use Rattle.ash_parse.specs.declared.faults.ParseFault.TheVariants.{NoMemory};
 ghost use Rattle.ash_parse.specs.FirstFault.{FirstFault, FirstDeclarationFault, TellsFirst};
 ghost use Rattle.ash_parse.specs.Unique.{HasOneModule, HasOneDeclaration, HasOneFault, HasTreeOrFault, HasNotBoth, HasOneDeclarationFault, HasDeclarationOrFault, HasNotBothDeclared};
-ghost use Rattle.ash_parse.specs.Faults.{Tells, ends_in_class_head, part_behind, end_of, start, IsTold, whole_declaration_at};
+ghost use Rattle.ash_parse.specs.Faults.{Tells, part_of, end_of, start, IsTold, whole_declaration_at};
 
 use crate::faults::{ParseFault, UnsupportedPart};
 use crate::items::{declaration, is_left, items};
 use crate::stop::{Reading, Stop};
-use ash_lex::{ReservedWord, Sign, Token, TokenKind};
+use ash_lex::{Sign, Token, TokenKind};
 use ash_tree::{Declaration, Module};
 use std::alloc::Global;
 
-/// Whether the tokens end in the head of a class, `class NAME`.
-#[tactic(auto, using(crate::proofs::Told::ends_in), unfolding(crate::specs::Faults::ends_in_class_head))]
-fn ends_in_class_head(tokens: &[Token]) -> bool
-    ensures { result ≡ ends_in_class_head (tokens_of tokens.now) }
-{
-    let count = tokens.len();
-    let Some(first) = tokens.get(count.saturating_sub(2)) else {
-        return false;
-    };
-    let Some(last) = tokens.get(count.saturating_sub(1)) else {
-        return false;
-    };
-    matches!(&first.kind, TokenKind::Reserved(ReservedWord::Class))
-        && matches!(&last.kind, TokenKind::Name(_))
-}
-
-/// The part that a token behind these belongs to which the profile does not have.
-#[tactic(auto, unfolding(crate::specs::Faults::part_behind))]
-fn part_behind(front: &[Token], kind: &TokenKind) -> Option<UnsupportedPart>
-    ensures { result ≡ part_behind (tokens_of front.now) (meaning_of kind.now) }
+/// The part that a token belongs to which the profile does not have.
+#[tactic(auto, unfolding(crate::specs::Faults::part_of))]
+fn part_of(kind: &TokenKind) -> Option<UnsupportedPart>
+    ensures { result ≡ part_of (meaning_of kind.now) }
 {
     match kind {
         TokenKind::Unsupported(word) => Some(UnsupportedPart::Word(*word)),
         TokenKind::Sign(Sign::Power) => Some(UnsupportedPart::Power),
         TokenKind::Sign(Sign::Scope) => Some(UnsupportedPart::Scope),
-        TokenKind::Sign(Sign::OpenBracket) => Some(UnsupportedPart::Array),
-        TokenKind::Sign(Sign::Colon) => {
-            if ends_in_class_head(front) {
-                Some(UnsupportedPart::Interface)
-            } else {
-                None
-            }
-        }
-        TokenKind::Reserved(ReservedWord::Array) => Some(UnsupportedPart::Array),
-        TokenKind::Reserved(ReservedWord::Cast) => Some(UnsupportedPart::Cast),
-        TokenKind::Reserved(ReservedWord::Interface) => Some(UnsupportedPart::Interface),
         _ => None,
     }
 }
@@ -99,8 +72,7 @@ fn unexpected(tokens: &[Token], rest: &[Token]) -> ParseFault
     let Some(next) = rest.first() else {
         return ParseFault::Unexpected { at: end(tokens) };
     };
-    let front = tokens.len().saturating_sub(rest.len());
-    match part_behind(&tokens[..front], &next.kind) {
+    match part_of(&next.kind) {
         Some(word) => ParseFault::Unsupported {
             word,
             at: next.from,

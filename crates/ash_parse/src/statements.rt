@@ -1,4 +1,4 @@
-//! Reading types, declarations of variables, and statements.
+//! Reading declarations of variables, and statements.
 //!
 //! Each function reads the phrase that stands above it. `room` is how many phrases that count for the depth may still
 //! begin, one in the other.
@@ -7,19 +7,18 @@ ghost use Rattle.std.specs.Prelude.{◌≡◌, ◌<◌, ◌≤◌, map, string_b
 ghost use Rattle.ash_lex.specs.Tokens.{meaning_of};
 ghost use Rattle.ash_tree.specs.Tokens.{tokens_of, place_of_token};
 ghost use Rattle.ash_tree.specs.Tree.{If, IfElse};
-ghost use Rattle.ash_tree.specs.Views.{expr_of, type_of, decl_of, initializer_of, vars_of, stmt_at, stmt_of, case_of};
+ghost use Rattle.ash_tree.specs.Views.{expr_of, decl_of, initializer_of, vars_of, stmt_at, stmt_of, case_of};
 ghost use Rattle.ash_parse.specs.Reading.{Gives, Fails, put};
 ghost use Rattle.ash_parse.specs.ExpressionReader as exprs;
 ghost use Rattle.ash_parse.specs.StatementReader as reader;
 
 use crate::cursor::{expect, name, next_is_sign, place};
+use crate::data_types::{is_vars, type_name};
 use crate::expressions::{DEPTH, arguments, assign, below, bracketed, expressions};
-use crate::operators::{begins_expression, primitive};
+use crate::operators::begins_expression;
 use crate::stop::{Reading, Stop};
 use ash_lex::{ReservedWord, Sign, Token, TokenKind};
-use ash_tree::{
-    Case, Decl, Expr, Initializer, Label, Place, Stmt, StmtKind, Type, TypeKind, Vars, nodes,
-};
+use ash_tree::{Case, Decl, Expr, Initializer, Label, Place, Stmt, StmtKind, Vars, nodes};
 use std::alloc::{AllocError, Global};
 
 /// What a token is to a statement.
@@ -102,66 +101,6 @@ fn case_goes_on(tokens: &[Token]) -> bool
         leads_to(&next.kind),
         Leading::End | Leading::Case | Leading::Default
     )
-}
-
-#[tactic(auto, unfolding(crate::specs::StatementReader::is_name))]
-fn is_name(kind: &TokenKind) -> bool
-    ensures { result ≡ reader.is_name (meaning_of kind.now) }
-{
-    matches!(kind, TokenKind::Name(_))
-}
-
-#[tactic(auto, unfolding(crate::specs::StatementReader::next_is_name))]
-pub fn next_is_name(tokens: &[Token]) -> bool
-    ensures { result ≡ reader.next_is_name (tokens_of tokens.now) }
-{
-    let Some((next, _)) = tokens.split_first() else {
-        return false;
-    };
-    is_name(&next.kind)
-}
-
-/// Whether the tokens begin a declaration of variables, or a parameter. The first two of them decide.
-#[tactic(auto, unfolding(crate::specs::StatementReader::is_vars))]
-pub fn is_vars(tokens: &[Token]) -> bool
-    ensures { result ≡ reader.is_vars (tokens_of tokens.now) }
-{
-    let Some((next, rest)) = tokens.split_first() else {
-        return false;
-    };
-    if primitive(&next.kind).is_some() {
-        return next_is_name(rest);
-    }
-    if !is_name(&next.kind) {
-        return false;
-    }
-    next_is_name(rest) || next_is_sign(Sign::Handle, rest)
-}
-
-/// `prim | NAME ["@"]`
-#[tactic(auto, unfolding(crate::specs::StatementReader::type_at))]
-pub fn type_name(alloc: Global, tokens: &[Token]) -> Reading<'_, Type>
-    ensures { Gives (λ x. (type_of x.0, tokens_of x.1.now)) result (reader.type_at (tokens_of tokens.now)) }
-{
-    let Some((next, rest)) = tokens.split_first() else {
-        return Err(Stop::Unexpected(tokens));
-    };
-    let place = place(next);
-    if let Some(primitive) = primitive(&next.kind) {
-        let kind = TypeKind::Primitive(primitive);
-        return Ok((Type { place, kind }, rest));
-    }
-    let TokenKind::Name(text) = &next.kind else {
-        return Err(Stop::Unexpected(tokens));
-    };
-    let text = String::from_str(alloc, text.as_str())?;
-    if !next_is_sign(Sign::Handle, rest) {
-        let kind = TypeKind::Object(text);
-        return Ok((Type { place, kind }, rest));
-    }
-    let (_, rest) = expect(Sign::Handle, rest)?;
-    let kind = TypeKind::Handle(text);
-    Ok((Type { place, kind }, rest))
 }
 
 /// `[ "=" assign | args ]`

@@ -105,6 +105,22 @@ fn sound_scripts(rt: HostRuntime) -> Result<(), Fail> {
     check_both(&rt, rt.alloc(), rows)
 }
 
+#[test]
+fn what_is_not_typed_so_far(rt: HostRuntime) -> Result<(), Fail> {
+    // The last rows have a fault of the grammar or of the tokens too, which comes first.
+    let rows = "
+        NotYet | int n = a[0];
+        NotYet | X y; int n = cast<A>(m);
+        NotYet | interface I { }
+        NotYet | X y; class A : I { }
+        NotYet | array<int> a;
+        NotYet | int n = m; array<X@>@ f() { }
+        Unexpected { at: 26 } | X y; int n = a[0]; int f( {
+        BadCharacter { at: 19 } | X y; int n = a[0]; \"
+        ";
+    check_rows(&rt, rt.alloc(), rows)
+}
+
 /// How checking a source ends where a type `Counter` is registered.
 fn outcome_beside(alloc: Global, source: &[u8]) -> Result<String, Fail> {
     let mut registry = Registry::new(alloc);

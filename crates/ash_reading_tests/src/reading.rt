@@ -91,8 +91,8 @@ fn refused_for_what_the_profile_does_not_have(rt: HostRuntime) -> Result<(), Fai
         rt.alloc(),
         "
         Unsupported { word: Word(Float), at: 0 } | float x;
-        Unsupported { word: Interface, at: 8 } | class A : I { }
-        Unsupported { word: Array, at: 10 } | int n; int[] a;
+        Unexpected { at: 10 } | int n; int[] a;
+        NotYet | class A : I { }
         Unsupported { word: Power, at: 10 } | int n = a ** b;
         Unsupported { word: Word(Auto), at: 4 } | int auto;
         ",

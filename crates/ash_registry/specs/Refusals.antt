@@ -7,7 +7,7 @@ use Rattle.std.specs.Str.{bytes_eq}
 use Rattle.ash_tree.specs.declared.tree.types.Primitive.{Primitive}
 use Rattle.ash_registry.specs.declared.fault.RegistryFault.{RegistryFault}
 use Rattle.ash_registry.specs.declared.fault.RegistryFault.TheVariants.{UnknownType, NoService, BadDeclaration, ReservedName, NotPrimitive, NameTaken, FactoryTaken, TooMany, NoMemory}
-use Rattle.ash_tree.specs.Tree.{Named, Prim, Object, Handle, Signature, Property, Declaration, ASignature}
+use Rattle.ash_tree.specs.Tree.{Element, PrimElement, HandleElement, Named, Prim, Object, Handle, Array, ArrayHandle, Signature, Property, Declaration, ASignature}
 use Rattle.ash_tree.specs.Tree as tree
 use Rattle.ash_registry.specs.Texts.{Spelling, AName, AReserved, ANoName}
 use Rattle.ash_registry.specs.Calls.{Operation, Call, AType, AFactory, AMethod, AProperty, AService, AFunction, is_type, names_type, takes_kind, takes_name, is_factory_of, is_member_of, takes_member, takes_method, takes_property, takes_function, is_service, is_function}
@@ -22,11 +22,18 @@ cause false fault later = later
 abbrev pub is_known : List Call → List ℕ → Bool
 is_known calls name = list_any (names_type name) calls
 
--- whether a declared type is an object type that isn't registered
+-- whether the elements of an array are handles of a type that isn't registered
+abbrev pub is_unknown_element : List Call → Element → Bool
+is_unknown_element calls (PrimElement _ _) = false
+is_unknown_element calls (HandleElement _ name) = not (is_known calls name)
+
+-- whether a declared type is an object type that isn't registered, or an array of handles of one
 abbrev pub is_unknown : List Call → Named → Bool
 is_unknown calls (Prim _ _) = false
 is_unknown calls (Object _ name) = not (is_known calls name)
 is_unknown calls (Handle _ name) = not (is_known calls name)
+is_unknown calls (Array _ element) = is_unknown_element calls element
+is_unknown calls (ArrayHandle _ element) = is_unknown_element calls element
 
 -- a declared type, where it is a primitive
 abbrev pub primitive_of : Named → Option Primitive
@@ -106,8 +113,7 @@ refusal_of_primitive calls of id value name =
 
 abbrev pub refusal_of_value : List Call → List ℕ → ℕ → Named → List ℕ → Option RegistryFault
 refusal_of_value calls of id (Prim _ value) name = refusal_of_primitive calls of id value name
-refusal_of_value calls of id (Object _ other) name = cause (not (is_known calls other)) UnknownType (Some NotPrimitive)
-refusal_of_value calls of id (Handle _ other) name = cause (not (is_known calls other)) UnknownType (Some NotPrimitive)
+refusal_of_value calls of id other name = cause (is_unknown calls other) UnknownType (Some NotPrimitive)
 
 abbrev pub refusal_of_declared_property : List Call → List ℕ → ℕ → Option Declaration → Option RegistryFault
 refusal_of_declared_property calls of id (Some (tree.AProperty p)) = refusal_of_value calls of id p.of p.name

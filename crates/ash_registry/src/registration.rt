@@ -8,7 +8,7 @@ ghost use Rattle.ash_registry.specs.Calls.{call_of, AType, AFactory, AMethod, AP
 ghost use Rattle.std.specs.Str.{bytes_eq};
 ghost use Rattle.ash_registry.specs.declared.fault.RegistryFault.TheVariants.{BadDeclaration, NameTaken, NoService, UnknownType, NotPrimitive};
 ghost use Rattle.ash_registry.specs.Registered.{registered};
-ghost use Rattle.ash_registry.specs.Refusals.{RegisteredIf, TellsAtOnce, cause, cause_of_many, refusal_of_type, refusal_of_service, refusal_of_method, refusal_of_declared_method, refusal_of_signature, refusal_of_property, refusal_of_declared_property, refusal_of_primitive, refusal_of_value, is_known, primitive_of, value_call, refusal_of_factory, refusal_of_declared_factory, refusal_of_constructor, refusal_of_function, refusal_of_declared_function, refusal_of_operation, gives_handle_of, primitive_operation, method_call, property_call, factory_call, function_call};
+ghost use Rattle.ash_registry.specs.Refusals.{RegisteredIf, TellsAtOnce, cause, cause_of_many, refusal_of_type, refusal_of_service, refusal_of_method, refusal_of_declared_method, refusal_of_signature, refusal_of_property, refusal_of_declared_property, refusal_of_primitive, refusal_of_value, is_known, primitive_of, value_call, is_unknown, refusal_of_factory, refusal_of_declared_factory, refusal_of_constructor, refusal_of_function, refusal_of_declared_function, refusal_of_operation, gives_handle_of, primitive_operation, method_call, property_call, factory_call, function_call};
 ghost use Rattle.ash_registry.specs.Spelled.{spelling_of};
 ghost use Rattle.ash_registry.specs.Texts.{Spelling, AName, IsSpelled, IsDeclared};
 
@@ -194,24 +194,23 @@ impl Registry {
     {
         let Property {
             place: _,
-            of: Type { place: _, kind },
+            of: value,
             name,
         } = property;
-        match kind {
+        match value.kind {
             TypeKind::Primitive(value) => self.primitive_property(of, value, name, id),
-            TypeKind::Object(other) => Err(self.fault_of_object(other.as_str())),
-            TypeKind::Handle(other) => Err(self.fault_of_object(other.as_str())),
+            _ => Err(self.fault_of_object(&value)),
         }
     }
 
     // The fault of a property of an object type.
-    fn fault_of_object(&self, name: &str) -> RegistryFault
-        ensures { Some result ≡ cause (not (is_known (registered self.now) name.now)) UnknownType (Some NotPrimitive) }
+    fn fault_of_object(&self, of: &Type) -> RegistryFault
+        ensures { Some result ≡ cause (is_unknown (registered self.now) (type_of of.now)) UnknownType (Some NotPrimitive) }
     {
-        if self.knows(name) {
-            RegistryFault::NotPrimitive
-        } else {
+        if self.misses(of) {
             RegistryFault::UnknownType
+        } else {
+            RegistryFault::NotPrimitive
         }
     }
 

@@ -2,13 +2,13 @@
 ghost use Rattle.std.specs.Prelude.{◌≡◌, IfOk, Some, map};
 ghost use Rattle.std.specs.List.{list_any, filter_map};
 ghost use Rattle.ash_registry.specs.Calls.{operation_of};
-ghost use Rattle.ash_registry.specs.Refusals.{is_unknown, is_object, primitive_of, primitive_operation, types_of, gives_handle_of};
+ghost use Rattle.ash_registry.specs.Refusals.{is_unknown, is_unknown_element, is_object, primitive_of, primitive_operation, types_of, gives_handle_of};
 ghost use Rattle.std.specs.Option.{option_map};
 ghost use Rattle.ash_registry.specs.Registered.{registered};
-ghost use Rattle.ash_tree.specs.Views.{type_of, signature_of};
+ghost use Rattle.ash_tree.specs.Views.{element_of, type_of, signature_of};
 
 use crate::{Operation, Registry};
-use ash_tree::{Primitive, Signature, Type, TypeKind};
+use ash_tree::{Element, ElementKind, Primitive, Signature, Type, TypeKind};
 use std::alloc::{AllocError, Global};
 
 // The type, where it is a primitive.
@@ -52,17 +52,30 @@ pub(crate) fn operation(alloc: Global, signature: Signature) -> Result<Operation
 }
 
 impl Registry {
-    // Whether a type is an object type that isn't registered.
+    // Whether the elements of an array are handles of a type that isn't registered.
+    fn misses_element(&self, of: &Element) -> bool
+        ensures { result ≡ is_unknown_element (registered self.now) (element_of of.now) }
+    {
+        match &of.kind {
+            ElementKind::Primitive(_) => false,
+            ElementKind::Handle(name) => !self.knows(name.as_str()),
+        }
+    }
+
+    // Whether a type names an object type that isn't registered.
     pub(crate) fn misses(&self, of: &Type) -> bool
         ensures { result ≡ is_unknown (registered self.now) (type_of of.now) }
     {
         match &of.kind {
             TypeKind::Primitive(_) => false,
             TypeKind::Object(name) | TypeKind::Handle(name) => !self.knows(name.as_str()),
+            TypeKind::Array(element) | TypeKind::ArrayHandle(element) => {
+                self.misses_element(element)
+            }
         }
     }
 
-    // Whether one of these types is an object type that isn't registered.
+    // Whether one of these types names an object type that isn't registered.
     pub(crate) fn misses_one(&self, types: &[Type]) -> bool
         ensures { result ≡ list_any (λ t. is_unknown (registered self.now) (type_of t)) types.now }
     {

@@ -32,7 +32,7 @@ fn check_loaded(
 static FAULTS: [(&str, &str); 8] = [
     ("int f( {", "refused 104 Unexpected 7\n"),
     ("float x;", "refused 105 Unsupported float 0\n"),
-    ("class A : I { }", "refused 105 Unsupported interface 8\n"),
+    ("class A : I { }", "refused 199 NotYet\n"),
     ("int \"", "refused 101 BadCharacter 4\n"),
     ("/* x", "refused 102 UnclosedComment 0\n"),
     ("class A { }", "refused 199 NotYet\n"),

@@ -6,6 +6,7 @@ use Rattle.std.specs.declared.string.String.{String}
 use Rattle.std.specs.declared.alloc.Global.{Global}
 use Rattle.ash_tree.specs.declared.tree.places.Place.{Place}
 use Rattle.ash_tree.specs.declared.tree.expressions.ExprKind.{Row_of-Expr, end_of-Expr, more_of-Expr, items-the_row-Expr, Row_of-Suffix, end_of-Suffix, more_of-Suffix, items-the_row-Suffix, Row_of-Link, end_of-Link, more_of-Link, items-the_row-Link}
+use Rattle.ash_tree.specs.declared.tree.types.Element as code_element
 use Rattle.ash_tree.specs.declared.tree.types.TypeKind as type_kind
 use Rattle.ash_tree.specs.declared.tree.types.TypeKind.TheVariants as type_cases
 use Rattle.ash_tree.specs.declared.tree.expressions.ExprKind as code_kind
@@ -18,9 +19,8 @@ use Rattle.ash_tree.specs.declared.tree.statements.StmtKind.{Row_of-Stmt, end_of
 use Rattle.ash_tree.specs.declared.tree.statements.StmtKind.TheViews as stmt_views
 use Rattle.ash_tree.specs.declared.tree.statements.Stmt as code_stmt
 use Rattle.ash_tree.specs.declared.tree.statements.Case as code_case
-use Rattle.ash_tree.specs.declared.tree.statements.Label.{Label}
-use Rattle.ash_tree.specs.Tree.{Stmt, Stmts, Block, Switch, Case, labelled, stmt, stmts, next_case, cases, Expr, Call, Method, Binary, Postfix, Suffix, Operation, expr, exprs, suffix, suffixes, link, links, chained, suffixed, place_of, place_of_type}
-use Rattle.ash_tree.specs.Views.{type_at, expr_at, expr_of, exprs_of, suffix_of, suffixes_of, links_of, operation_of, stmt_at, stmt_of, stmts_of, case_of, cases_of}
+use Rattle.ash_tree.specs.Tree.{Block, Switch, stmt, stmts, next_case, cases, Expr, Call, NewArray, Method, Binary, Postfix, Suffix, Operation, expr, exprs, suffix, suffixes, link, links, chained, suffixed, place_of, place_of_type}
+use Rattle.ash_tree.specs.Views.{element_of, type_at, expr_at, expr_of, exprs_of, suffix_of, suffixes_of, links_of, operation_of, stmt_at, stmt_of, stmts_of, case_of, cases_of}
 
 pub exprs_of-row : {n : _} (row : Row_of-Expr n) → exprs_of row ≡ exprs (map expr_of (items-the_row-Expr n row))
 exprs_of-row end_of-Expr = refl
@@ -36,6 +36,9 @@ links_of-row (more_of-Link o p k rest) = ap (link o (expr_at p k)) (links_of-row
 
 pub call_is : (p : Place) (name : String Global) (es : Vec code_expr.Expr Global) → expr_at p (kinds.Call name es) ≡ Call p (string_bytes name) (exprs (map expr_of es.items))
 call_is p name es = search (rules, kinds.the_lemmas, exprs_of-row)
+
+pub new_array_is : (p : Place) (of : code_element.Element) (es : Vec code_expr.Expr Global) → expr_at p (kinds.NewArray of es) ≡ NewArray p (element_of of) (exprs (map expr_of es.items))
+new_array_is p of es = search (rules, kinds.the_lemmas, exprs_of-row)
 
 pub method_is : (p : Place) (name : String Global) (es : Vec code_expr.Expr Global) → suffix_of (kinds.Method p name es) ≡ Method p (string_bytes name) (exprs (map expr_of es.items))
 method_is p name es = search (rules, kinds.the_lemmas, exprs_of-row)
@@ -79,6 +82,8 @@ place_is p (kind_cases.Name t) = refl
 place_is p (kind_cases.Call' t shape es) = refl
 place_is p (kind_cases.Brackets' a q k) = refl
 place_is p (kind_cases.Convert' t a q k) = refl
+place_is p (kind_cases.NewArray' t shape es) = refl
+place_is p (kind_cases.Cast' t a q k) = refl
 place_is p (kind_cases.Postfix' a q k shape ss) = refl
 place_is p (kind_cases.Unary' o a q k) = refl
 place_is p (kind_cases.Binary' a q k shape ls) = refl
@@ -89,3 +94,5 @@ pub type_place_is : (p : Place) (k : type_kind.TypeKind) → place_of_type (type
 type_place_is p (type_cases.Primitive k) = refl
 type_place_is p (type_cases.Object t) = refl
 type_place_is p (type_cases.Handle t) = refl
+type_place_is p (type_cases.Array e) = refl
+type_place_is p (type_cases.ArrayHandle e) = refl

@@ -4,15 +4,16 @@
 --   assign  = cond [ aop assign ]
 --   cond    = binary [ "?" assign ":" assign ]
 --   unary   = ( + - ! ~ ++ -- @ ) unary | postfix
---   postfix = primary { "." NAME [args] | "++" | "--" }
+--   postfix = primary { "." NAME [args] | "[" assign "]" | "++" | "--" }
 --   primary = NUMBER | "true" | "false" | "null" | "this" | NAME [args] | "(" assign ")" | prim "(" assign ")"
+--           | "array" "<" elem ">" args | "cast" "<" NAME ">" "(" assign ")"
 --
 -- `binary` joins `unary` by operators of ten levels, from the tightest to the loosest, each grouping to the left.
 -- The last `assign` of `? :` reaches as far as it can, so that what `aop` writes to is no `cond` with a `?`.
 --
 -- `IsAssign free depth from tree left`: the tokens `from` begin with an `assign` that has this tree, and `left` is left
 -- behind it. `depth` is how many phrases its tokens stand in of those that count: statements, bracketed expressions (the
--- expression between the brackets of a condition or of arguments among them), operands of unary operators, right sides
+-- expression between the brackets of a condition, of arguments or of an index among them), operands of unary operators, right sides
 -- of assignments, and branches of `? :`. No token stands deeper than 64, but for the last `free` of all tokens.
 use Rattle.std.specs.Prelude.{◌≡◌, ℕ, zero, suc, ◌<◌, ◌≤◌, true, false, length, List, [], ◌∷◌, Some}
 use Rattle.ash_lex.specs.Tokens.{Meaning, name, number, sign, reserved}
@@ -23,8 +24,9 @@ use Rattle.ash_tree.specs.declared.tree.types.Primitive.{Primitive}
 use Rattle.ash_tree.specs.declared.tree.operators.UnaryOp.{UnaryOp}
 use Rattle.ash_tree.specs.declared.tree.operators.BinaryOp.{BinaryOp}
 use Rattle.ash_tree.specs.declared.tree.operators.AssignOp.{AssignOp}
-use Rattle.ash_tree.specs.Tree.{Expr, Number, Truth, Null, This, Name, Call, Brackets, Convert, Unary, Conditional, Assign, Suffix, Field, Method, Increment, Decrement, Operation, place_of, exprs, chained, suffixed}
+use Rattle.ash_tree.specs.Tree.{Element, Expr, Number, Truth, Null, This, Name, Call, Brackets, Convert, NewArray, Cast, Unary, Conditional, Assign, Suffix, Field, Method, Index, Increment, Decrement, Operation, place_of, exprs, chained, suffixed}
 use Rattle.ash_tree.specs.Tokens.{Tokens}
+use Rattle.ash_tree.specs.Types.{IsElement}
 use Rattle.ash_tree.specs.Operators.{primitive, unary_operator, binary_operator, level, LEVELS, assign_operator}
 
 -- how deep a token stands at most
@@ -79,7 +81,7 @@ mutual
     applied : {free depth : ℕ} {m : Meaning} {p : Place} {from left : Tokens} {operator : UnaryOp} {e : Expr} → unary_operator m ≡ Some operator → Within free (suc depth) from → IsUnary free (suc depth) from e left → IsUnary free depth ((m, p) ∷ from) (Unary p operator e) left
     postfix : {free depth : ℕ} {from behind left : Tokens} {e : Expr} {more : List Suffix} → IsPrimary free depth from e behind → AreSuffixes free depth behind more left → IsUnary free depth from (suffixed e more) left
 
-  -- { "." NAME [args] | "++" | "--" }
+  -- { "." NAME [args] | "[" assign "]" | "++" | "--" }
   pub data AreSuffixes : ℕ → ℕ → Tokens → List Suffix → Tokens → Type 0 where
     no_suffixes : {free depth : ℕ} {left : Tokens} → AreSuffixes free depth left [] left
     more_suffixes : {free depth : ℕ} {from behind left : Tokens} {s : Suffix} {more : List Suffix} → IsSuffix free depth from s behind → AreSuffixes free depth behind more left → AreSuffixes free depth from (s ∷ more) left
@@ -87,10 +89,12 @@ mutual
   pub data IsSuffix : ℕ → ℕ → Tokens → Suffix → Tokens → Type 0 where
     field : {free depth : ℕ} {p q : Place} {text : List ℕ} {left : Tokens} → IsSuffix free depth ((sign signs.Dot, p) ∷ (name text, q) ∷ left) (Field q text) left
     method : {free depth : ℕ} {p q : Place} {text : List ℕ} {from left : Tokens} {es : List Expr} → IsArgs free depth from es left → IsSuffix free depth ((sign signs.Dot, p) ∷ (name text, q) ∷ from) (Method q text (exprs es)) left
+    index : {free depth : ℕ} {p q : Place} {from left : Tokens} {e : Expr} → IsInner free depth from e ((sign signs.CloseBracket, q) ∷ left) → IsSuffix free depth ((sign signs.OpenBracket, p) ∷ from) (Index e) left
     increment : {free depth : ℕ} {p : Place} {left : Tokens} → IsSuffix free depth ((sign signs.Increment, p) ∷ left) Increment left
     decrement : {free depth : ℕ} {p : Place} {left : Tokens} → IsSuffix free depth ((sign signs.Decrement, p) ∷ left) Decrement left
 
   -- primary = NUMBER | "true" | "false" | "null" | "this" | NAME [args] | "(" assign ")" | prim "(" assign ")"
+  --         | "array" "<" elem ">" args | "cast" "<" NAME ">" "(" assign ")"
   pub data IsPrimary : ℕ → ℕ → Tokens → Expr → Tokens → Type 0 where
     numeral : {free depth n : ℕ} {p : Place} {left : Tokens} → IsPrimary free depth ((number n, p) ∷ left) (Number p n) left
     yes : {free depth : ℕ} {p : Place} {left : Tokens} → IsPrimary free depth ((reserved words.True, p) ∷ left) (Truth p true) left
@@ -101,3 +105,5 @@ mutual
     call : {free depth : ℕ} {p : Place} {text : List ℕ} {from left : Tokens} {es : List Expr} → IsArgs free depth from es left → IsPrimary free depth ((name text, p) ∷ from) (Call p text (exprs es)) left
     brackets : {free depth : ℕ} {p q : Place} {from left : Tokens} {e : Expr} → IsInner free depth from e ((sign signs.CloseParenthesis, q) ∷ left) → IsPrimary free depth ((sign signs.OpenParenthesis, p) ∷ from) (Brackets p e) left
     convert : {free depth : ℕ} {m : Meaning} {p q r : Place} {to : Primitive} {from left : Tokens} {e : Expr} → primitive m ≡ Some to → IsInner free depth from e ((sign signs.CloseParenthesis, r) ∷ left) → IsPrimary free depth ((m, p) ∷ (sign signs.OpenParenthesis, q) ∷ from) (Convert p to e) left
+    new_array : {free depth : ℕ} {p : Place} {of : Element} {from behind left : Tokens} {es : List Expr} → IsElement from of behind → IsArgs free depth behind es left → IsPrimary free depth ((reserved words.Array, p) ∷ from) (NewArray p of (exprs es)) left
+    cast : {free depth : ℕ} {p o q r s z : Place} {text : List ℕ} {from left : Tokens} {e : Expr} → IsInner free depth from e ((sign signs.CloseParenthesis, z) ∷ left) → IsPrimary free depth ((reserved words.Cast, p) ∷ (sign signs.Less, o) ∷ (name text, q) ∷ (sign signs.Greater, r) ∷ (sign signs.OpenParenthesis, s) ∷ from) (Cast p (record { place = q; name = text }) e) left

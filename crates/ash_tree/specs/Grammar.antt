@@ -1,8 +1,9 @@
 -- The grammar of modules and of registered declarations, one case for each production:
 --
---   module   = { ";" | class | function | vars ";" }
---   class    = "class" NAME "{" { member } "}"
+--   module   = { ";" | class | interface | function | vars ";" }
+--   class    = "class" NAME [ ":" NAME { "," NAME } ] "{" { member } "}"
 --   member   = function | vars ";" | NAME params block
+--   interface = "interface" NAME "{" { rtype NAME params ";" } "}"
 --   function = rtype NAME params block
 --   params   = "(" [ type NAME { "," type NAME } ] ")"
 --   rtype    = "void" | type
@@ -12,9 +13,10 @@ use Rattle.ash_lex.specs.Tokens.{name, sign, reserved}
 use Rattle.ash_lex.specs.declared.signs.Sign.TheVariants as signs
 use Rattle.ash_lex.specs.declared.words.ReservedWord.TheVariants as words
 use Rattle.ash_tree.specs.declared.tree.places.Place.{Place}
-use Rattle.ash_tree.specs.Tree.{Named, Vars, Stmt, Parameter, Function, Member, AMethod, AField, AConstructor, Class, Item, AClass, AFunction, AGlobal, Declaration, ASignature, AProperty}
+use Rattle.ash_tree.specs.Tree.{Named, TypeName, Vars, Stmt, Parameter, Function, Member, AMethod, AField, AConstructor, Class, InterfaceMethod, Interface, Item, AClass, AnInterface, AFunction, AGlobal, Declaration, ASignature, AProperty}
 use Rattle.ash_tree.specs.Tokens.{Tokens}
-use Rattle.ash_tree.specs.Statements.{IsType, IsVars, IsBlock}
+use Rattle.ash_tree.specs.Types.{IsType}
+use Rattle.ash_tree.specs.Statements.{IsVars, IsBlock}
 
 -- rtype = "void" | type
 pub data IsResultType : Tokens → Option Named → Tokens → Type 0 where
@@ -50,17 +52,41 @@ pub data AreMembers : ℕ → Tokens → List Member → Tokens → Type 0 where
   no_members : {free : ℕ} {left : Tokens} → AreMembers free left [] left
   more_members : {free : ℕ} {from behind left : Tokens} {x : Member} {xs : List Member} → IsMember free from x behind → AreMembers free behind xs left → AreMembers free from (x ∷ xs) left
 
--- class = "class" NAME "{" { member } "}"
-pub data IsClass : ℕ → Tokens → Class → Tokens → Type 0 where
-  class : {free : ℕ} {p q o z : Place} {text : List ℕ} {from left : Tokens} {xs : List Member} → AreMembers free from xs ((sign signs.CloseBrace, z) ∷ left) → IsClass free ((reserved words.Class, p) ∷ (name text, q) ∷ (sign signs.OpenBrace, o) ∷ from) (record { place = q; name = text; members = xs }) left
+-- { "," NAME }
+pub data AreMoreInterfaces : Tokens → List TypeName → Tokens → Type 0 where
+  no_more_interfaces : {left : Tokens} → AreMoreInterfaces left [] left
+  more_interfaces : {p q : Place} {text : List ℕ} {behind left : Tokens} {xs : List TypeName} → AreMoreInterfaces behind xs left → AreMoreInterfaces ((sign signs.Comma, p) ∷ (name text, q) ∷ behind) (record { place = q; name = text } ∷ xs) left
 
--- class | function | vars ";"
+-- [ ":" NAME { "," NAME } ]
+pub data AreInterfaces : Tokens → List TypeName → Tokens → Type 0 where
+  no_interfaces : {left : Tokens} → AreInterfaces left [] left
+  interfaces : {p q : Place} {text : List ℕ} {behind left : Tokens} {xs : List TypeName} → AreMoreInterfaces behind xs left → AreInterfaces ((sign signs.Colon, p) ∷ (name text, q) ∷ behind) (record { place = q; name = text } ∷ xs) left
+
+-- class = "class" NAME [ ":" NAME { "," NAME } ] "{" { member } "}"
+pub data IsClass : ℕ → Tokens → Class → Tokens → Type 0 where
+  class : {free : ℕ} {p q o z : Place} {text : List ℕ} {behind from left : Tokens} {is : List TypeName} {xs : List Member} → AreInterfaces behind is ((sign signs.OpenBrace, o) ∷ from) → AreMembers free from xs ((sign signs.CloseBrace, z) ∷ left) → IsClass free ((reserved words.Class, p) ∷ (name text, q) ∷ behind) (record { place = q; name = text; interfaces = is; members = xs }) left
+
+-- rtype NAME params ";"
+pub data IsInterfaceMethod : Tokens → InterfaceMethod → Tokens → Type 0 where
+  interface_method : {p q : Place} {text : List ℕ} {from behind left : Tokens} {r : Option Named} {xs : List Parameter} → IsResultType from r ((name text, p) ∷ behind) → AreParameters behind xs ((sign signs.Semicolon, q) ∷ left) → IsInterfaceMethod from (record { place = p; result = r; name = text; parameters = xs }) left
+
+-- { rtype NAME params ";" }
+pub data AreInterfaceMethods : Tokens → List InterfaceMethod → Tokens → Type 0 where
+  no_interface_methods : {left : Tokens} → AreInterfaceMethods left [] left
+  more_interface_methods : {from behind left : Tokens} {x : InterfaceMethod} {xs : List InterfaceMethod} → IsInterfaceMethod from x behind → AreInterfaceMethods behind xs left → AreInterfaceMethods from (x ∷ xs) left
+
+-- interface = "interface" NAME "{" { rtype NAME params ";" } "}"
+pub data IsInterface : Tokens → Interface → Tokens → Type 0 where
+  interface : {p q o z : Place} {text : List ℕ} {from left : Tokens} {xs : List InterfaceMethod} → AreInterfaceMethods from xs ((sign signs.CloseBrace, z) ∷ left) → IsInterface ((reserved words.Interface, p) ∷ (name text, q) ∷ (sign signs.OpenBrace, o) ∷ from) (record { place = q; name = text; methods = xs }) left
+
+-- class | interface | function | vars ";"
 pub data IsItem : ℕ → Tokens → Item → Tokens → Type 0 where
   a_class : {free : ℕ} {from left : Tokens} {c : Class} → IsClass free from c left → IsItem free from (AClass c) left
+  an_interface : {free : ℕ} {from left : Tokens} {i : Interface} → IsInterface from i left → IsItem free from (AnInterface i) left
   a_function : {free : ℕ} {from left : Tokens} {f : Function} → IsFunction free from f left → IsItem free from (AFunction f) left
   globals : {free : ℕ} {p : Place} {from left : Tokens} {v : Vars} → IsVars free 0 from v ((sign signs.Semicolon, p) ∷ left) → IsItem free from (AGlobal v) left
 
--- module = { ";" | class | function | vars ";" }: the tokens are those of a module with these items, all of them
+-- module = { ";" | class | interface | function | vars ";" }: the tokens are those of a module with these items, all of them
 pub data Derives : ℕ → Tokens → List Item → Type 0 where
   no_items : {free : ℕ} → Derives free [] []
   semicolon : {free : ℕ} {p : Place} {from : Tokens} {xs : List Item} → Derives free from xs → Derives free ((sign signs.Semicolon, p) ∷ from) xs

@@ -1,7 +1,6 @@
--- The grammar of types, of declarations of variables and of statements (AngelScript manual, "Statements"), one case for
--- each production:
+-- The grammar of declarations of variables and of statements (AngelScript manual, "Statements"), one case for each
+-- production:
 --
---   type  = prim | NAME ["@"]
 --   vars  = type decl { "," decl }
 --   decl  = NAME [ "=" assign | args ]
 --   block = "{" { vars ";" | stmt } "}"
@@ -14,23 +13,16 @@
 -- An `else` belongs to the nearest `if`. A statement counts for the depth of its tokens, and so does each expression
 -- between brackets; the declaration of variables counts for none, nor does what stands behind its `=`.
 use Rattle.std.specs.Prelude.{◌≡◌, ℕ, suc, Bool, true, false, List, [], ◌∷◌, Option, Some, None}
-use Rattle.ash_lex.specs.Tokens.{Meaning, name, number, sign, reserved}
+use Rattle.ash_lex.specs.Tokens.{name, number, sign, reserved}
 use Rattle.ash_lex.specs.declared.signs.Sign.TheVariants as signs
 use Rattle.ash_lex.specs.declared.words.ReservedWord.TheVariants as words
 use Rattle.ash_tree.specs.declared.tree.places.Place.{Place}
-use Rattle.ash_tree.specs.declared.tree.types.Primitive.{Primitive}
 use Rattle.ash_tree.specs.declared.tree.statements.Label.{Label}
 use Rattle.ash_tree.specs.declared.tree.statements.Label.TheVariants as labels
-use Rattle.ash_tree.specs.Tree.{Named, Prim, Object, Handle, Expr, Default, Value, Arguments, Decl, Vars, Stmt, Empty, Declare, Evaluate, Block, If, IfElse, While, DoWhile, For, Switch, Break, Continue, Return, Case, labelled, place_of, place_of_type, stmts, cases}
+use Rattle.ash_tree.specs.Tree.{Named, Expr, Default, Value, Arguments, Decl, Vars, Stmt, Empty, Declare, Evaluate, Block, If, IfElse, While, DoWhile, For, Switch, Break, Continue, Return, Case, labelled, place_of, place_of_type, stmts, cases}
 use Rattle.ash_tree.specs.Tokens.{Tokens}
-use Rattle.ash_tree.specs.Operators.{primitive}
+use Rattle.ash_tree.specs.Types.{IsType}
 use Rattle.ash_tree.specs.Expressions.{Within, IsInner, AreExprs, IsArgs, IsAssign}
-
--- type = prim | NAME ["@"]
-pub data IsType : Tokens → Named → Tokens → Type 0 where
-  prim : {m : Meaning} {p : Place} {k : Primitive} {left : Tokens} → primitive m ≡ Some k → IsType ((m, p) ∷ left) (Prim p k) left
-  object : {p : Place} {text : List ℕ} {left : Tokens} → IsType ((name text, p) ∷ left) (Object p text) left
-  handle : {p q : Place} {text : List ℕ} {left : Tokens} → IsType ((name text, p) ∷ (sign signs.Handle, q) ∷ left) (Handle p text) left
 
 -- decl = NAME [ "=" assign | args ]
 pub data IsDecl : ℕ → ℕ → Tokens → Decl → Tokens → Type 0 where

@@ -7,11 +7,23 @@ use Rattle.ash_tree.specs.declared.tree.operators.BinaryOp.{BinaryOp}
 use Rattle.ash_tree.specs.declared.tree.operators.AssignOp.{AssignOp}
 use Rattle.ash_tree.specs.declared.tree.statements.Label.{Label}
 
--- a type as it is written: a primitive, an object type, or a handle of one
+-- the type of an array's elements: a primitive, or a handle of an object type
+pub data Element : Type 0 where
+  PrimElement : Place → Primitive → Element
+  HandleElement : Place → List ℕ → Element
+
+-- a type as it is written: a primitive, an object type, a handle of one, an array, or a handle of one
 pub data Named : Type 0 where
   Prim : Place → Primitive → Named
   Object : Place → List ℕ → Named
   Handle : Place → List ℕ → Named
+  Array : Place → Element → Named
+  ArrayHandle : Place → Element → Named
+
+-- the name of a class or an interface where it is referred to
+pub record TypeName : Type 0 where
+  pub place : Place
+  pub name : List ℕ
 
 -- an expression; the arguments of a call, the suffixes of an operand and the operators of one level stand as lists
 mutual
@@ -24,6 +36,8 @@ mutual
     Call : Place → List ℕ → Exprs → Expr
     Brackets : Place → Expr → Expr
     Convert : Place → Primitive → Expr → Expr
+    NewArray : Place → Element → Exprs → Expr
+    Cast : Place → TypeName → Expr → Expr
     Postfix : Place → Expr → Suffixes → Expr
     Unary : Place → UnaryOp → Expr → Expr
     Binary : Place → Expr → Links → Expr
@@ -38,6 +52,7 @@ mutual
   pub data Suffix : Type 0 where
     Field : Place → List ℕ → Suffix
     Method : Place → List ℕ → Exprs → Suffix
+    Index : Expr → Suffix
     Increment : Suffix
     Decrement : Suffix
 
@@ -120,14 +135,29 @@ pub data Member : Type 0 where
   AField : Vars → Member
   AConstructor : Constructor → Member
 
+-- a class with the interfaces that it lists
 pub record Class : Type 0 where
   pub place : Place
   pub name : List ℕ
+  pub interfaces : List TypeName
   pub members : List Member
+
+-- a method that an interface declares, which is void without a result
+pub record InterfaceMethod : Type 0 where
+  pub place : Place
+  pub result : Option Named
+  pub name : List ℕ
+  pub parameters : List Parameter
+
+pub record Interface : Type 0 where
+  pub place : Place
+  pub name : List ℕ
+  pub methods : List InterfaceMethod
 
 -- an item of a module
 pub data Item : Type 0 where
   AClass : Class → Item
+  AnInterface : Interface → Item
   AFunction : Function → Item
   AGlobal : Vars → Item
 
@@ -158,6 +188,8 @@ place_of (Name p t) = p
 place_of (Call p t es) = p
 place_of (Brackets p e) = p
 place_of (Convert p k e) = p
+place_of (NewArray p t es) = p
+place_of (Cast p t e) = p
 place_of (Postfix p e ss) = p
 place_of (Unary p o e) = p
 place_of (Binary p e ls) = p
@@ -168,6 +200,8 @@ abbrev pub place_of_type : Named → Place
 place_of_type (Prim p k) = p
 place_of_type (Object p t) = p
 place_of_type (Handle p t) = p
+place_of_type (Array p t) = p
+place_of_type (ArrayHandle p t) = p
 
 -- the lists in a tree, from lists
 abbrev pub exprs : List Expr → Exprs

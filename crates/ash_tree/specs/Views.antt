@@ -4,6 +4,10 @@ use Rattle.ash_tree.specs.declared.tree.places.Place.{Place}
 use Rattle.ash_tree.specs.declared.tree.types.TypeKind as type_kind
 use Rattle.ash_tree.specs.declared.tree.types.TypeKind.TheVariants as type_kinds
 use Rattle.ash_tree.specs.declared.tree.types.Type as type
+use Rattle.ash_tree.specs.declared.tree.types.ElementKind as element_kind
+use Rattle.ash_tree.specs.declared.tree.types.ElementKind.TheVariants as element_kinds
+use Rattle.ash_tree.specs.declared.tree.types.Element as element
+use Rattle.ash_tree.specs.declared.tree.types.TypeName as type_name
 use Rattle.ash_tree.specs.declared.tree.expressions.ExprKind as expr_kind
 use Rattle.ash_tree.specs.declared.tree.expressions.ExprKind.TheVariants as exprs_code
 use Rattle.ash_tree.specs.declared.tree.expressions.Expr as expr_code
@@ -24,21 +28,35 @@ use Rattle.ash_tree.specs.declared.tree.items.Constructor as constructor
 use Rattle.ash_tree.specs.declared.tree.items.Member as member
 use Rattle.ash_tree.specs.declared.tree.items.Member.TheVariants as members
 use Rattle.ash_tree.specs.declared.tree.items.Class as class
+use Rattle.ash_tree.specs.declared.tree.items.InterfaceMethod as interface_method
+use Rattle.ash_tree.specs.declared.tree.items.Interface as interface
 use Rattle.ash_tree.specs.declared.tree.items.Item as item
 use Rattle.ash_tree.specs.declared.tree.items.Item.TheVariants as items
 use Rattle.ash_tree.specs.declared.tree.items.Module as script
 use Rattle.ash_tree.specs.declared.tree.items.Signature as signature
 use Rattle.ash_tree.specs.declared.tree.items.Declaration as declaration
 use Rattle.ash_tree.specs.declared.tree.items.Declaration.TheVariants as declarations
-use Rattle.ash_tree.specs.Tree.{Named, Prim, Object, Handle, Expr, Number, Truth, Null, This, Name, Call, Brackets, Convert, Postfix, Unary, Binary, Conditional, Assign, Exprs, no_expr, expr, Suffix, Field, Method, Increment, Decrement, Suffixes, no_suffix, suffix, Links, no_link, link, Operation, Initializer, Default, Value, Arguments, Decl, Vars, Stmt, Empty, Declare, Evaluate, Block, If, IfElse, While, DoWhile, For, Switch, Break, Continue, Return, Stmts, no_stmt, stmt, Case, labelled, Cases, no_case, next_case, Parameter, Function, Constructor, Member, AMethod, AField, AConstructor, Class, Item, AClass, AFunction, AGlobal, Signature, Declaration, ASignature, AProperty}
+use Rattle.ash_tree.specs.Tree.{Element, PrimElement, HandleElement, Named, Prim, Object, Handle, Array, ArrayHandle, TypeName, Expr, Number, Truth, Null, This, Name, Call, Brackets, Convert, NewArray, Cast, Postfix, Unary, Binary, Conditional, Assign, Exprs, no_expr, expr, Suffix, Field, Method, Index, Increment, Decrement, Suffixes, no_suffix, suffix, Links, no_link, link, Operation, Initializer, Default, Value, Arguments, Decl, Vars, Stmt, Empty, Declare, Evaluate, Block, If, IfElse, While, DoWhile, For, Switch, Break, Continue, Return, Stmts, no_stmt, stmt, Case, labelled, Cases, no_case, next_case, Parameter, Function, Constructor, Member, AMethod, AField, AConstructor, Class, InterfaceMethod, Interface, Item, AClass, AnInterface, AFunction, AGlobal, Signature, Declaration, ASignature, AProperty}
+
+abbrev pub element_at : Place → element_kind.ElementKind → Element
+element_at place (element_kinds.Primitive k) = PrimElement place k
+element_at place (element_kinds.Handle name) = HandleElement place (string_bytes name)
+
+abbrev pub element_of : element.Element → Element
+element_of e = element_at e.place e.kind
 
 abbrev pub type_at : Place → type_kind.TypeKind → Named
 type_at place (type_kinds.Primitive k) = Prim place k
 type_at place (type_kinds.Object name) = Object place (string_bytes name)
 type_at place (type_kinds.Handle name) = Handle place (string_bytes name)
+type_at place (type_kinds.Array e) = Array place (element_of e)
+type_at place (type_kinds.ArrayHandle e) = ArrayHandle place (element_of e)
 
 abbrev pub type_of : type.Type → Named
 type_of t = type_at t.place t.kind
+
+abbrev pub type_name_of : type_name.TypeName → TypeName
+type_name_of t = record { place = t.place; name = string_bytes t.name }
 
 abbrev mutual
   pub expr_at : Place → expr_kind.ExprKind → Expr
@@ -50,6 +68,8 @@ abbrev mutual
   expr_at p (exprs_code.Call' t shape es) = Call p (string_bytes t) (exprs_of es)
   expr_at p (exprs_code.Brackets' a q k) = Brackets p (expr_at q k)
   expr_at p (exprs_code.Convert' t a q k) = Convert p t (expr_at q k)
+  expr_at p (exprs_code.NewArray' t shape es) = NewArray p (element_of t) (exprs_of es)
+  expr_at p (exprs_code.Cast' t a q k) = Cast p (type_name_of t) (expr_at q k)
   expr_at p (exprs_code.Postfix' a q k shape ss) = Postfix p (expr_at q k) (suffixes_of ss)
   expr_at p (exprs_code.Unary' o a q k) = Unary p o (expr_at q k)
   expr_at p (exprs_code.Binary' a q k shape ls) = Binary p (expr_at q k) (links_of ls)
@@ -63,6 +83,7 @@ abbrev mutual
   pub suffix_of : suffix_code.Suffix → Suffix
   suffix_of (suffixes_code.Field p t) = Field p (string_bytes t)
   suffix_of (suffixes_code.Method' p t shape es) = Method p (string_bytes t) (exprs_of es)
+  suffix_of (suffixes_code.Index' a q k) = Index (expr_at q k)
   suffix_of suffixes_code.Increment = Increment
   suffix_of suffixes_code.Decrement = Decrement
 
@@ -137,10 +158,17 @@ member_of (members.Vars v) = AField (vars_of v)
 member_of (members.Constructor f) = AConstructor (constructor_of f)
 
 abbrev pub class_of : class.Class → Class
-class_of c = record { place = c.place; name = string_bytes c.name; members = map member_of c.members.items }
+class_of c = record { place = c.place; name = string_bytes c.name; interfaces = map type_name_of c.interfaces.items; members = map member_of c.members.items }
+
+abbrev pub interface_method_of : interface_method.InterfaceMethod → InterfaceMethod
+interface_method_of m = record { place = m.place; result = option_map type_of m.result; name = string_bytes m.name; parameters = map parameter_of m.parameters.items }
+
+abbrev pub interface_of : interface.Interface → Interface
+interface_of i = record { place = i.place; name = string_bytes i.name; methods = map interface_method_of i.methods.items }
 
 abbrev pub item_of : item.Item → Item
 item_of (items.Class c) = AClass (class_of c)
+item_of (items.Interface i) = AnInterface (interface_of i)
 item_of (items.Function f) = AFunction (function_of f)
 item_of (items.Vars v) = AGlobal (vars_of v)
 

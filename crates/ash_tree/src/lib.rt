@@ -15,9 +15,10 @@ mod tree;
 
 pub use tree::expressions::{Expr, ExprKind, Link, Suffix};
 pub use tree::items::{
-    Class, Constructor, Declaration, Function, Item, Member, Module, Parameter, Property, Signature,
+    Class, Constructor, Declaration, Function, Interface, InterfaceMethod, Item, Member, Module,
+    Parameter, Property, Signature,
 };
 pub use tree::operators::{AssignOp, BinaryOp, UnaryOp};
 pub use tree::places::Place;
 pub use tree::statements::{Case, Decl, Initializer, Label, Stmt, StmtKind, Vars};
-pub use tree::types::{Primitive, Type, TypeKind};
+pub use tree::types::{Element, ElementKind, Primitive, Type, TypeKind, TypeName};

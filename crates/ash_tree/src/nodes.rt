@@ -1,14 +1,14 @@
 //! Nodes that hold lists.
 
 ghost use Rattle.std.specs.Prelude.{◌≡◌, map, option_map, string_bytes, IfOk};
-ghost use Rattle.ash_tree.specs.Tree.{For, Brackets, Convert, Unary, Assign, Evaluate, Declare, place_of, place_of_type, Block, Switch, labelled, stmts, cases, Call, Method, exprs, chained, suffixed};
-ghost use Rattle.ash_tree.specs.Views.{expr_of, suffix_of, operation_of, stmt_of, case_of, type_of, vars_of};
+ghost use Rattle.ash_tree.specs.Tree.{For, Brackets, Convert, NewArray, Cast, Unary, Assign, Evaluate, Declare, place_of, place_of_type, Block, Switch, labelled, stmts, cases, Call, Method, Index, exprs, chained, suffixed};
+ghost use Rattle.ash_tree.specs.Views.{expr_of, suffix_of, operation_of, stmt_of, case_of, type_of, element_of, type_name_of, vars_of};
 
 use crate::tree::expressions::{Expr, ExprKind, Link, Suffix};
 use crate::tree::operators::{AssignOp, UnaryOp};
 use crate::tree::places::Place;
 use crate::tree::statements::{Case, Label, Stmt, StmtKind, Vars};
-use crate::tree::types::Primitive;
+use crate::tree::types::{Element, Primitive, TypeName};
 use std::alloc::{AllocError, Global};
 
 pub fn call(place: Place, name: String, arguments: Vec<Expr>) -> Expr
@@ -27,6 +27,16 @@ pub fn method(place: Place, name: String, arguments: Vec<Expr>) -> Suffix
         place,
         name,
         arguments,
+    }
+}
+
+/// `array<of>(arguments)`
+pub fn new_array(place: Place, of: Element, arguments: Vec<Expr>) -> Expr
+    ensures { expr_of result ≡ NewArray place (element_of of) (exprs (map expr_of arguments.items)) }
+{
+    Expr {
+        place,
+        kind: ExprKind::NewArray { of, arguments },
     }
 }
 
@@ -106,6 +116,24 @@ pub fn convert(alloc: Global, place: Place, to: Primitive, value: Expr) -> Resul
         place,
         kind: ExprKind::Convert { to, value },
     })
+}
+
+/// `cast<to>(value)`
+pub fn cast(alloc: Global, place: Place, to: TypeName, value: Expr) -> Result<Expr, AllocError>
+    ensures { IfOk result (λ e. expr_of e ≡ Cast place (type_name_of to) (expr_of value)) }
+{
+    let value = Box::new(alloc, value)?;
+    Ok(Expr {
+        place,
+        kind: ExprKind::Cast { to, value },
+    })
+}
+
+/// `[value]`
+pub fn index(alloc: Global, value: Expr) -> Result<Suffix, AllocError>
+    ensures { IfOk result (λ s. suffix_of s ≡ Index (expr_of value)) }
+{
+    Ok(Suffix::Index(Box::new(alloc, value)?))
 }
 
 pub fn unary(

@@ -115,6 +115,9 @@ items_known env (written.AClass c ∷ is) w after h =
     let t = bind_ok (class_typed env o.0 c) _ m.0 o.2 in
     let go = items_known env is m.0 after m.2 in
     ((class_known env o.0 c t.0 t.1, go.0), go.1, go.2)
+items_known env (written.AnInterface i ∷ is) w after h =
+    let m = bind_ok (item_typed env w (written.AnInterface i)) _ after h in
+    items_known env is m.0 after m.2
 items_known env (written.AFunction f ∷ is) w after h =
     let m = bind_ok (item_typed env w (written.AFunction f)) _ after h in
     let o = bind_ok (result_typed env f.result) _ m.0 m.1 in
@@ -195,6 +198,7 @@ construction_known calls cs (written.AField v ∷ ms) h = construction_known cal
 classes_known : (calls : List host.Call) (cs : List Class) (is : List written.Item) → AllByRecursion (KnownClass (ty_named calls cs)) (classes_of is) → AllByRecursion IsKnownClass (classes_in calls cs is)
 classes_known calls cs [] h = tt
 classes_known calls cs (written.AClass c ∷ is) h = (record { fields = fields_known calls cs c.members h.0.0; methods = methods_known calls cs c.members h.0.1; parameters = construction_known calls cs c.members h.0.2 }, classes_known calls cs is h.1)
+classes_known calls cs (written.AnInterface i ∷ is) h = classes_known calls cs is h
 classes_known calls cs (written.AFunction f ∷ is) h = classes_known calls cs is h
 classes_known calls cs (written.AGlobal v ∷ is) h = classes_known calls cs is h
 
@@ -202,12 +206,14 @@ functions_known : (calls : List host.Call) (cs : List Class) (is : List written.
 functions_known calls cs [] h = tt
 functions_known calls cs (written.AFunction f ∷ is) h = (head_known calls cs f h.0, functions_known calls cs is h.1)
 functions_known calls cs (written.AClass c ∷ is) h = functions_known calls cs is h
+functions_known calls cs (written.AnInterface i ∷ is) h = functions_known calls cs is h
 functions_known calls cs (written.AGlobal v ∷ is) h = functions_known calls cs is h
 
 globals_known : (calls : List host.Call) (cs : List Class) (is : List written.Item) → AllByRecursion (KnownVars (ty_named calls cs)) (globals_of is) → AllByRecursion IsKnownVariable (globals_in calls cs is)
 globals_known calls cs [] h = tt
 globals_known calls cs (written.AGlobal v ∷ is) h = all_append IsKnownVariable (variables calls cs v) (globals_in calls cs is) (decls_known (ty_named calls cs v.of) v.decls h.0) (globals_known calls cs is h.1)
 globals_known calls cs (written.AClass c ∷ is) h = globals_known calls cs is h
+globals_known calls cs (written.AnInterface i ∷ is) h = globals_known calls cs is h
 globals_known calls cs (written.AFunction f ∷ is) h = globals_known calls cs is h
 
 -- types are looked up by the names of classes alone
@@ -222,6 +228,7 @@ same_first i false c d x y h = h
 same_place : (calls : List host.Call) (cs : List Class) (name : List ℕ) (i : ℕ) (is : List written.Item) → type_from name i (classes_in calls cs is) ≡ type_from name i (named_classes is)
 same_place calls cs name i [] = refl
 same_place calls cs name i (written.AClass c ∷ is) = same_first i (bytes_eq name c.name) _ _ (first_from (is_class name) (i + 1) (classes_in calls cs is)) (first_from (is_class name) (i + 1) (named_classes is)) (same_place calls cs name (i + 1) is)
+same_place calls cs name i (written.AnInterface x ∷ is) = same_place calls cs name i is
 same_place calls cs name i (written.AFunction f ∷ is) = same_place calls cs name i is
 same_place calls cs name i (written.AGlobal v ∷ is) = same_place calls cs name i is
 
@@ -234,6 +241,8 @@ unfolding ty_named heads
 same_type calls is (written.Prim p k) = refl
 same_type calls is (written.Object p name) = ap object_ty (same_object calls (named_classes is) is name)
 same_type calls is (written.Handle p name) = ap handle_ty (same_object calls (named_classes is) is name)
+same_type calls is (written.Array p of) = refl
+same_type calls is (written.ArrayHandle p of) = refl
 
 pub module_known : (calls : List host.Call) (is : List written.Item) → KnownItems (ty_in (environment calls is)) is → IsKnown (environment calls is)
 unfolding heads

@@ -102,6 +102,27 @@ items_sound env known (written.AClass c ∷ is) w after d few h =
       are_globals = go.are_globals;
       made = go.made ∙ walked_with-then w (c.name ∷ []) (item_names is) 0 k k (t.0 ∷ []) go.classes [] go.functions [] go.globals (omega arith);
     }
+items_sound env known (written.AnInterface i ∷ is) w after d few h =
+    let m = bind_ok (item_typed env w (written.AnInterface i)) _ after h in
+    let u = bind_ok (untaken w.names i.place.at i.name) _ m.0 m.1 in
+    let s = untaken_sound w.names i.place.at i.name u.0 d u.1 in
+    let next : Walked = walked_with w (i.name ∷ []) 0 [] [] [] in
+    let step : m.0 ≡ next = sym (ok_is _ m.0 u.2) ∙ same_walked u.0 next.names _ _ _ _ _ _ s.1 (sym (append-nil w.typed.classes)) (sym (append-nil w.typed.functions)) (sym (append-nil w.typed.globals)) in
+    let same : length (w.typed.classes ++ []) ≡ length w.typed.classes = ap (λ (cs : List Class). length cs) (append-nil w.typed.classes) in
+    let go = items_sound env known is next after s.0.distinct (omega arith) (subst (λ (x : Walked). items_typed env x is ≡ Ok after) step m.2) in
+    let room = go.few in
+    let k = length (variable_names (globals_of is)) in
+    record {
+      can = takes_then w.names (i.name ∷ []) (item_names is) 0 k k (omega arith) s.0 go.can;
+      few = omega arith;
+      classes = go.classes;
+      are_classes = subst (λ place. AreClasses env place (classes_of is) go.classes) same go.are_classes;
+      functions = go.functions;
+      are_functions = go.are_functions;
+      globals = go.globals;
+      are_globals = go.are_globals;
+      made = go.made ∙ walked_with-then w (i.name ∷ []) (item_names is) 0 k k [] go.classes [] go.functions [] go.globals (omega arith);
+    }
 items_sound env known (written.AFunction f ∷ is) w after d few h =
     let m = bind_ok (item_typed env w (written.AFunction f)) _ after h in
     let o = bind_ok (result_typed env f.result) _ m.0 m.1 in
@@ -169,6 +190,16 @@ items_complete env known (written.AClass c ∷ is) w (t ∷ cs) fs vs can few ar
     (bind_is (class_typed env n c) _ t next (class_complete env known n c t are_cs.0)
     (ap (λ (x : Walked). Ok x) (same_walked next.names next.names _ _ _ _ _ _ refl refl (sym (append-nil w.typed.functions)) (sym (append-nil w.typed.globals)))))))
     (items_complete env known is next cs fs vs rest (omega arith) (subst (λ place. AreClasses env place (classes_of is) cs) (sym longer) are_cs.1) are_fs are_vs ∙ ap (λ (x : Walked). Ok x) (walked_with-then w (c.name ∷ []) (item_names is) 0 k k (t ∷ []) cs [] fs [] vs (omega arith)))
+items_complete env known (written.AnInterface i ∷ is) w cs fs vs can few are_cs are_fs are_vs =
+    let k = length (variable_names (globals_of is)) in
+    let first = takes_first w.names (i.name ∷ []) (item_names is) 0 k k (omega arith) can in
+    let rest = takes_rest w.names (i.name ∷ []) (item_names is) 0 k k (omega arith) can in
+    let next : Walked = walked_with w (i.name ∷ []) 0 [] [] [] in
+    let same : length (w.typed.classes ++ []) ≡ length w.typed.classes = ap (λ (cs : List Class). length cs) (append-nil w.typed.classes) in
+    bind_is (item_typed env w (written.AnInterface i)) _ next _
+    (bind_is (untaken w.names i.place.at i.name) _ next.names next (untaken_complete w.names i.place.at i.name first)
+    (ap (λ (x : Walked). Ok x) (same_walked next.names next.names _ _ _ _ _ _ refl (sym (append-nil w.typed.classes)) (sym (append-nil w.typed.functions)) (sym (append-nil w.typed.globals)))))
+    (items_complete env known is next cs fs vs rest (omega arith) (subst (λ place. AreClasses env place (classes_of is) cs) (sym same) are_cs) are_fs are_vs ∙ ap (λ (x : Walked). Ok x) (walked_with-then w (i.name ∷ []) (item_names is) 0 k k [] cs [] fs [] vs (omega arith)))
 items_complete env known (written.AFunction f ∷ is) w cs [] vs can few are_cs are_fs are_vs = absurd are_fs
 items_complete env known (written.AFunction f ∷ is) w cs (t ∷ fs) vs can few are_cs are_fs are_vs =
     let k = length (variable_names (globals_of is)) in

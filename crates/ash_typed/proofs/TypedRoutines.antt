@@ -66,6 +66,8 @@ unfolding ty_named
 passed_sound env at (written.Prim p k) t h = primitive_passed at k t h
 passed_sound env at (written.Object p name) t h = object_passed at (object_named env.registered env.heads.classes name) t h
 passed_sound env at (written.Handle p name) t h = handle_passed at (object_named env.registered env.heads.classes name) t h
+passed_sound env at (written.Array p of) t h = handle_passed at None t h
+passed_sound env at (written.ArrayHandle p of) t h = handle_passed at None t h
 
 -- parameters
 

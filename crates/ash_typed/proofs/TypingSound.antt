@@ -313,6 +313,8 @@ mutual
   sound env known left (written.Call p text es) r h = call_sound env left p text es r (all_sound env known es) h
   sound env known left (written.Brackets p e) r h = brackets_sound env left p e r (sound env known false e) h
   sound env known left (written.Convert p to e) r h = walked env false e (λ t. convert_at p.at to t) r (HasType env left (written.Convert p to e) (term_of r)) known (sound env known false e) h (λ u d k g. convert_sound env left p to e u r d k g)
+  sound env known left (written.NewArray p of es) r h = absurd (no_fault _ r h)
+  sound env known left (written.Cast p to e) r h = absurd (no_fault _ r h)
   sound env known left (written.Postfix p e ss) r h = walked env false e (λ t. suffixes_typed env t ss) r (HasType env left (written.Postfix p e ss) (term_of r)) known (sound env known false e) h (λ u d k g. postfix d (suffixes_sound env known ss u r k g))
   sound env known left (written.Unary p op e) r h = walked env false e (λ t. unary_at left p.at op t) r (HasType env left (written.Unary p op e) (term_of r)) known (sound env known false e) h (λ u d k g. unary_sound env left p op e u r d k g)
   sound env known left (written.Binary p e ls) r h = walked env false e (λ t. links_typed env t ls) r (HasType env left (written.Binary p e ls) (term_of r)) known (sound env known false e) h (λ u d k g. binary d (links_sound env known ls u r k g))
@@ -349,6 +351,7 @@ mutual
       let f = field_ok env t t.ty p.at text r kept h in
       subst (λ r. SuffixHasType env (term_of t) (written.Field p text) (term_of r)) (((f.2).2)) (field f.1 ((f.2).1))
   suffix_sound env known (written.Method p text es) t r kept h = method_sound env t p text es r kept (all_sound env known es) h
+  suffix_sound env known (written.Index e) t r kept h = absurd (no_fault _ r h)
   suffix_sound env known written.Increment t r kept h =
       let c = counted_ok t.at steps.IncrementAfter t (place_in t.tree) r kept h in
       subst (λ r. SuffixHasType env (term_of t) written.Increment (term_of r)) ((c.2).2) (increment_after c.1 ((c.2).1))

@@ -280,7 +280,7 @@ call_typed env at name arguments = callee_at at (callee_in env name) >>= λ call
 abbrev pub invocation_typed : Environment → Typed → ℕ → List ℕ → Checking (List Typed) → Checking Typed
 invocation_typed env t at name arguments = method_of env t t.ty at name >>= λ m. arguments >>= λ ts. invoked t at ts m
 
--- The walk. `left` is whether the expression stands left of `=`.
+-- The walk. `left` is whether the expression stands left of `=`. Arrays, casts and indexes have no rule of typing so far.
 abbrev mutual
   pub typed : Environment → Bool → written.Expr → Checking Typed
   typed env left (written.Number p n) = Ok (numeral p.at n)
@@ -291,6 +291,8 @@ abbrev mutual
   typed env left (written.Call p name es) = call_typed env p.at name (all_typed env es)
   typed env left (written.Brackets p e) = typed env false e >>= λ t. Ok (in_brackets p.at t)
   typed env left (written.Convert p to e) = typed env false e >>= λ t. convert_at p.at to t
+  typed env left (written.NewArray p of es) = broken TypeMismatch p.at
+  typed env left (written.Cast p to e) = broken TypeMismatch p.at
   typed env left (written.Postfix p e ss) = typed env false e >>= λ t. suffixes_typed env t ss
   typed env left (written.Unary p op e) = typed env false e >>= λ t. unary_at left p.at op t
   typed env left (written.Binary p e ls) = typed env false e >>= λ t. links_typed env t ls
@@ -314,5 +316,6 @@ abbrev mutual
   pub suffix_typed : Environment → Typed → written.Suffix → Checking Typed
   suffix_typed env t (written.Field p name) = field_of env t t.ty p.at name
   suffix_typed env t (written.Method p name es) = invocation_typed env t p.at name (all_typed env es)
+  suffix_typed env t (written.Index e) = broken TypeMismatch t.at
   suffix_typed env t written.Increment = counted t.at steps.IncrementAfter t (place_in t.tree)
   suffix_typed env t written.Decrement = counted t.at steps.DecrementAfter t (place_in t.tree)

@@ -32,11 +32,13 @@ abbrev pub handle_ty : Option ObjectType → Ty
 handle_ty None = ty.Unknown
 handle_ty (Some o) = ty.Handle o
 
--- the type that is written
+-- the type that is written; arrays have none so far
 unfoldable pub ty_named : List host.Call → List Class → written.Named → Ty
 ty_named calls classes (written.Prim p primitive) = ty_of primitive
 ty_named calls classes (written.Object p name) = object_ty (object_named calls classes name)
 ty_named calls classes (written.Handle p name) = handle_ty (object_named calls classes name)
+ty_named calls classes (written.Array p of) = ty.Unknown
+ty_named calls classes (written.ArrayHandle p of) = ty.Unknown
 
 -- what a function gives
 abbrev pub result_named : List host.Call → List Class → Option written.Named → Ty
@@ -86,12 +88,14 @@ named_class c = record { name = c.name; fields = []; methods = []; parameters = 
 abbrev pub named_classes : List written.Item → List Class
 named_classes [] = []
 named_classes (written.AClass c ∷ is) = named_class c ∷ named_classes is
+named_classes (written.AnInterface i ∷ is) = named_classes is
 named_classes (written.AFunction f ∷ is) = named_classes is
 named_classes (written.AGlobal v ∷ is) = named_classes is
 
 abbrev pub classes_in : List host.Call → List Class → List written.Item → List Class
 classes_in calls classes [] = []
 classes_in calls classes (written.AClass c ∷ is) = class_head calls classes c ∷ classes_in calls classes is
+classes_in calls classes (written.AnInterface i ∷ is) = classes_in calls classes is
 classes_in calls classes (written.AFunction f ∷ is) = classes_in calls classes is
 classes_in calls classes (written.AGlobal v ∷ is) = classes_in calls classes is
 
@@ -99,12 +103,14 @@ abbrev pub functions_in : List host.Call → List Class → List written.Item �
 functions_in calls classes [] = []
 functions_in calls classes (written.AFunction f ∷ is) = function_head calls classes f ∷ functions_in calls classes is
 functions_in calls classes (written.AClass c ∷ is) = functions_in calls classes is
+functions_in calls classes (written.AnInterface i ∷ is) = functions_in calls classes is
 functions_in calls classes (written.AGlobal v ∷ is) = functions_in calls classes is
 
 abbrev pub globals_in : List host.Call → List Class → List written.Item → List Declared
 globals_in calls classes [] = []
 globals_in calls classes (written.AGlobal v ∷ is) = variables calls classes v ++ globals_in calls classes is
 globals_in calls classes (written.AClass c ∷ is) = globals_in calls classes is
+globals_in calls classes (written.AnInterface i ∷ is) = globals_in calls classes is
 globals_in calls classes (written.AFunction f ∷ is) = globals_in calls classes is
 
 abbrev pub heads_by : List host.Call → List Class → List written.Item → Heads

@@ -167,8 +167,10 @@ with_function m f = record { classes = m.classes; functions = m.functions ++ f �
 abbrev pub with_globals : Module → Variables → Module
 with_globals m v = record { classes = m.classes; functions = m.functions; globals = m.globals ++ v ∷ [] }
 
+-- the next item; of an interface the name alone is looked at so far
 unfoldable pub item_typed : Environment → Walked → written.Item → Checking Walked
 item_typed env w (written.AClass c) = untaken w.names c.place.at c.name >>= λ names. one_more_class c.place.at (length w.typed.classes) >>= λ place. class_typed env place c >>= λ t. Ok (record { names = names; typed = with_class w.typed t })
+item_typed env w (written.AnInterface i) = untaken w.names i.place.at i.name >>= λ names. Ok (record { names = names; typed = w.typed })
 item_typed env w (written.AFunction f) = result_typed env f.result >>= λ of. untaken w.names f.place.at f.name >>= λ names. routine_typed env of (routine_of f) >>= λ t. Ok (record { names = names; typed = with_function w.typed t })
 item_typed env w (written.AGlobal v) = vars_typed env w.names v >>= λ row. Ok (record { names = row.names; typed = with_globals w.typed row.variables })
 

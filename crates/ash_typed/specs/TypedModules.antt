@@ -22,6 +22,7 @@ use Rattle.ash_typed.specs.Items.{Routine, routine_of, constructing, inside, see
 abbrev pub classes_of : List written.Item → List written.Class
 classes_of [] = []
 classes_of (written.AClass c ∷ is) = c ∷ classes_of is
+classes_of (written.AnInterface i ∷ is) = classes_of is
 classes_of (written.AFunction f ∷ is) = classes_of is
 classes_of (written.AGlobal v ∷ is) = classes_of is
 
@@ -29,12 +30,14 @@ abbrev pub functions_of : List written.Item → List written.Function
 functions_of [] = []
 functions_of (written.AFunction f ∷ is) = f ∷ functions_of is
 functions_of (written.AClass c ∷ is) = functions_of is
+functions_of (written.AnInterface i ∷ is) = functions_of is
 functions_of (written.AGlobal v ∷ is) = functions_of is
 
 abbrev pub globals_of : List written.Item → List written.Vars
 globals_of [] = []
 globals_of (written.AGlobal v ∷ is) = v ∷ globals_of is
 globals_of (written.AClass c ∷ is) = globals_of is
+globals_of (written.AnInterface i ∷ is) = globals_of is
 globals_of (written.AFunction f ∷ is) = globals_of is
 
 abbrev pub fields_of : List written.Member → List written.Vars
@@ -75,10 +78,11 @@ member_names (written.AField v ∷ ms) = names_of v ++ member_names ms
 member_names (written.AMethod f ∷ ms) = f.name ∷ member_names ms
 member_names (written.AConstructor c ∷ ms) = member_names ms
 
--- the names of a module's classes, functions and variables
+-- the names of a module's classes, interfaces, functions and variables
 abbrev pub item_names : List written.Item → List (List ℕ)
 item_names [] = []
 item_names (written.AClass c ∷ is) = c.name ∷ item_names is
+item_names (written.AnInterface i ∷ is) = i.name ∷ item_names is
 item_names (written.AFunction f ∷ is) = f.name ∷ item_names is
 item_names (written.AGlobal v ∷ is) = names_of v ++ item_names is
 

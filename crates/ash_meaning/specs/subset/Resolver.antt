@@ -31,6 +31,7 @@ abbrev pub is_of_ints : written.Item → Bool
 is_of_ints (written.AGlobal v) = is_int v.of && nat_eq (length v.decls) 1
 is_of_ints (written.AFunction f) = returns_int f.result && takes_ints f.parameters
 is_of_ints (written.AClass c) = false
+is_of_ints (written.AnInterface i) = false
 
 -- globals
 

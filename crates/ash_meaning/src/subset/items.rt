@@ -51,6 +51,7 @@ fn is_of_ints(item: &Item) -> bool
         Item::Vars(vars) => is_int(&vars.of) && vars.decls.len() == 1,
         Item::Function(function) => returns_int(function) && takes_ints(&function.parameters),
         Item::Class(_) => false,
+        Item::Interface(_) => false,
     }
 }
 

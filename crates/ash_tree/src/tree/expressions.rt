@@ -2,7 +2,7 @@
 
 use crate::tree::operators::{AssignOp, BinaryOp, UnaryOp};
 use crate::tree::places::Place;
-use crate::tree::types::Primitive;
+use crate::tree::types::{Element, Primitive, TypeName};
 
 /// An expression, at its first token.
 #[cycle(expressions)]
@@ -31,6 +31,16 @@ pub enum ExprKind {
     /// `to(value)`
     Convert {
         to: Primitive,
+        value: Box<Expr>,
+    },
+    /// `array<of>(arguments)`
+    NewArray {
+        of: Element,
+        arguments: Vec<Expr>,
+    },
+    /// `cast<to>(value)`
+    Cast {
+        to: TypeName,
         value: Box<Expr>,
     },
     /// An operand with suffixes, one at the least, in the order in which they stand.
@@ -76,6 +86,8 @@ pub enum Suffix {
         name: String,
         arguments: Vec<Expr>,
     },
+    /// `[index]`
+    Index(Box<Expr>),
     /// `++`
     Increment,
     /// `--`

@@ -2,7 +2,7 @@
 
 use crate::tree::places::Place;
 use crate::tree::statements::{Stmt, Vars};
-use crate::tree::types::Type;
+use crate::tree::types::{Type, TypeName};
 
 /// A script: what it declares, in order.
 #[derive(Debug, PartialEq, Eq, Drop)]
@@ -14,16 +14,35 @@ pub struct Module {
 #[derive(Debug, PartialEq, Eq, Drop)]
 pub enum Item {
     Class(Class),
+    Interface(Interface),
     Function(Function),
     Vars(Vars),
 }
 
-/// A class, at its name.
+/// A class, at its name, with the interfaces that it lists.
 #[derive(Debug, PartialEq, Eq, Drop)]
 pub struct Class {
     pub place: Place,
     pub name: String,
+    pub interfaces: Vec<TypeName>,
     pub members: Vec<Member>,
+}
+
+/// An interface, at its name.
+#[derive(Debug, PartialEq, Eq, Drop)]
+pub struct Interface {
+    pub place: Place,
+    pub name: String,
+    pub methods: Vec<InterfaceMethod>,
+}
+
+/// A method that an interface declares, at its name. Without a result type it is `void`.
+#[derive(Debug, PartialEq, Eq, Drop)]
+pub struct InterfaceMethod {
+    pub place: Place,
+    pub result: Option<Type>,
+    pub name: String,
+    pub parameters: Vec<Parameter>,
 }
 
 /// What a class declares.

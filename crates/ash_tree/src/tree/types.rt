@@ -28,8 +28,34 @@ pub struct Type {
 #[derive(Debug, PartialEq, Eq, Drop)]
 pub enum TypeKind {
     Primitive(Primitive),
-    /// A class or a registered type, by its name.
+    /// A class, an interface or a registered type, by its name.
     Object(String),
     /// A handle of one: `name@`.
     Handle(String),
+    /// An array: `array<element>`.
+    Array(Element),
+    /// A handle of one: `array<element>@`.
+    ArrayHandle(Element),
+}
+
+/// The type of an array's elements, at its first token.
+#[derive(Debug, PartialEq, Eq, Drop)]
+pub struct Element {
+    pub place: Place,
+    pub kind: ElementKind,
+}
+
+/// What the elements of an array are.
+#[derive(Debug, PartialEq, Eq, Drop)]
+pub enum ElementKind {
+    Primitive(Primitive),
+    /// Handles of a class, an interface or a registered type: `name@`.
+    Handle(String),
+}
+
+/// The name of a class or an interface where a script refers to it.
+#[derive(Debug, PartialEq, Eq, Drop)]
+pub struct TypeName {
+    pub place: Place,
+    pub name: String,
 }

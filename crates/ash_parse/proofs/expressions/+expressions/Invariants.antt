@@ -44,11 +44,20 @@ decreases-suffix l = l.room * 64 + 6
 abbrev pub decreases-member : goal.decreases-member
 decreases-member l = l.room * 64 + 5
 
+abbrev pub decreases-index : goal.decreases-index
+decreases-index l = l.room * 64 + 5
+
 abbrev pub decreases-primary : goal.decreases-primary
 decreases-primary l = l.room * 64 + 6
 
 abbrev pub decreases-named : goal.decreases-named
 decreases-named l = l.room * 64 + 5
+
+abbrev pub decreases-new_array : goal.decreases-new_array
+decreases-new_array l = l.room * 64 + 5
+
+abbrev pub decreases-cast : goal.decreases-cast
+decreases-cast l = l.room * 64 + 5
 
 abbrev pub decreases-bracketed : goal.decreases-bracketed
 decreases-bracketed l = l.room * 64 + 1

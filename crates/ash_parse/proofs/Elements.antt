@@ -1,0 +1,32 @@
+-- What is in the grammar of an array's elements is read and passed.
+use Rattle.std.proofs.Common.{◌≡◌, ◌∷◌, Some, Ok, refl}
+use Rattle.ash_lex.specs.Tokens.{name, sign}
+use Rattle.ash_lex.specs.declared.signs.Sign.{Sign}
+use Rattle.ash_lex.specs.declared.signs.Sign.TheVariants as signs
+use Rattle.ash_tree.specs.declared.tree.places.Place.{Place}
+use Rattle.ash_tree.specs.Tree.{Element}
+use Rattle.ash_tree.specs.Tokens.{Tokens}
+use Rattle.ash_tree.specs.Operators.{primitive}
+use Rattle.ash_tree.specs.Types.{IsElement, prim_element, handle_element}
+use Rattle.ash_parse.specs.TypeReader.{elem_at, element_at, behind_sign, behind_elem, behind_element}
+use Rattle.ash_parse.proofs.Readings.{is_sign-refl, expect_again}
+
+-- the sign behind what is passed
+behind_again : (s : Sign) (p : Place) (ts : Tokens) → behind_sign s ((sign s, p) ∷ ts) ≡ Some ts
+unfolding behind_sign
+behind_again s p ts = rw (is_sign-refl s) refl
+
+pub element_read : {from left : Tokens} {e : Element} → IsElement from e left → element_at from ≡ Ok (e, left)
+unfolding element_at elem_at primitive
+element_read (prim_element {m = m} {o = o} {p = p} {z = z} {k = k} {left = left} g) =
+    rw (expect_again signs.Less o ((m, p) ∷ (sign signs.Greater, z) ∷ left), g, expect_again signs.Greater z left) refl
+element_read (handle_element {o = o} {p = p} {q = q} {z = z} {text = text} {left = left}) =
+    rw (expect_again signs.Less o ((name text, p) ∷ (sign signs.Handle, q) ∷ (sign signs.Greater, z) ∷ left), expect_again signs.Handle q ((sign signs.Greater, z) ∷ left), expect_again signs.Greater z left) refl
+
+-- and it is passed so
+pub element_passed : {from left : Tokens} {e : Element} → IsElement from e left → behind_element from ≡ Some left
+unfolding behind_element behind_elem primitive
+element_passed (prim_element {m = m} {o = o} {p = p} {z = z} {k = k} {left = left} g) =
+    rw (behind_again signs.Less o ((m, p) ∷ (sign signs.Greater, z) ∷ left), g, behind_again signs.Greater z left) refl
+element_passed (handle_element {o = o} {p = p} {q = q} {z = z} {text = text} {left = left}) =
+    rw (behind_again signs.Less o ((name text, p) ∷ (sign signs.Handle, q) ∷ (sign signs.Greater, z) ∷ left), behind_again signs.Handle q ((sign signs.Greater, z) ∷ left), behind_again signs.Greater z left) refl
