@@ -102,11 +102,11 @@ def in_lanes(tasks, processors, memory):
     return given
 
 
-def main():
+def main(words):
     identity = subprocess.run(["rt", "version"], capture_output=True, text=True, check=True).stdout.strip()
     if identity != TRIED_WITH:
         print(f"chain_first: not tried with {identity}, so plain rt ci runs", flush=True)
-        os.execvp("rt", ["rt", "ci"])
+        os.execvp("rt", ["rt", "ci", *words])
     rt = load_rt()
 
     def share_out(tasks):
@@ -114,8 +114,8 @@ def main():
             return in_lanes(tasks, rt.processors(), MEMORY_GIVEN_OUT * rt.free())
 
     rt.in_lanes = share_out
-    return rt.main(["ci"])
+    return rt.main(["ci", *words])
 
 
 if __name__ == "__main__":
-    sys.exit(main())
+    sys.exit(main(sys.argv[1:]))
