@@ -166,11 +166,20 @@ fn chooses_between_declaration_and_expression(rt: HostRuntime) -> Result<(), Fai
         ("array<Foo@>@ f(array<int>@ a, array<bool> b) {}", "ok"),
         ("array<int> f() {} array<int> g();", "ok"),
         ("array<int> f(b); Foo g(array<int>@ b) {}", "ok"),
-        ("class A { array<int> a; array<A@>@ m(array<A@>@ p) { } }", "ok"),
-        ("void f() { array<int> a, b(2); for (array<int>@ c = b;;) ; }", "ok"),
+        (
+            "class A { array<int> a; array<A@>@ m(array<A@>@ p) { } }",
+            "ok",
+        ),
+        (
+            "void f() { array<int> a, b(2); for (array<int>@ c = b;;) ; }",
+            "ok",
+        ),
         ("void f() { array<int>(3); array<Foo@>().a = b; }", "ok"),
         ("void f() { for (array<int>(3)[0];;) ; }", "ok"),
-        ("Foo f(array<int>(3), array<Foo@>()); int g(array<int> a) {}", "ok"),
+        (
+            "Foo f(array<int>(3), array<Foo@>()); int g(array<int> a) {}",
+            "ok",
+        ),
         ("array<int>@ a = array<int>(array<int>(3)[0]);", "ok"),
         (
             "void f() { foo * x; Foo x; Foo@ y; int(3); Foo z(1), w; }",

@@ -33,11 +33,13 @@ const SWITCHES: &str =
 Foo f(b), k();
 ";
 
-const INDEXES: &str = "int f(A@ a, int i) { a[0] = b[i + 1][j]; cast<B>(a).d(e[g(i)[1]], cast<C>(null)); int x = c[i];
+const INDEXES: &str =
+    "int f(A@ a, int i) { a[0] = b[i + 1][j]; cast<B>(a).d(e[g(i)[1]], cast<C>(null)); int x = c[i];
     if (cast<D>(x[y ? 1 : 2]) is null) return z[cast<E>(w).k]--; else for (int k = v[0]; u[k] < t[k]; s[k]++) ; return -r[0].q; }
 ";
 
-const ARRAYS: &str = "array<int> g; array<A@>@ h(2); class A { array<A@>@ n; array<bool> m(array<uint>@ p, A@ q)
+const ARRAYS: &str =
+    "array<int> g; array<A@>@ h(2); class A { array<A@>@ n; array<bool> m(array<uint>@ p, A@ q)
     { array<A@> l(p[0], 1), k; l[k[0]] = q.n[2]; array<bool>(q).r = array<A@>(); for (array<int>@ i = j; i[0] < 3; i[0]++) ; return cast<A>(l[1]).m(p, null); } }
 ";
 
