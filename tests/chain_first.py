@@ -3,10 +3,11 @@
 
 The crates build on each other in one long chain, and `rt ci` shares the processors evenly among the proofs that are ready,
 those of tests among them. So the crate that all others wait for would be proved at one job.
-Here the task at the head of the longest chain that is left begins at once with a job for each processor but one, even
-where others still have some of these, since all wait for it; any other task gets the jobs that are left, but one where
-another is ready. A check with several jobs leaves some of them idle for part of its time, so more jobs are given out than
-there are processors. Edits fill what the proofs leave free.
+Here the task at the head of the longest chain that is left begins at once with a job for each processor, even where others
+still have some of these, since all wait for it; any other task gets the jobs that are left, but one where another is ready.
+A check with several jobs leaves some of them idle for part of its time, so twice as many jobs are given out as there are
+processors, and the operating system gives the longest chain what it can use: all other tasks are nice to it, and edits to
+these. So they fill what the chain leaves free.
 Only the order of the work is another one: what is proved, tried and run, and the verdict, are those of `rt ci`. Under a
 toolchain that was not tried with this, plain `rt ci` runs.
 """
@@ -17,11 +18,12 @@ import os
 import shutil
 import subprocess
 import sys
-from concurrent.futures import FIRST_COMPLETED, ThreadPoolExecutor, wait
+import threading
+from concurrent.futures import FIRST_COMPLETED, Future, wait
 
 TRIED_WITH = "rattle-kit-13f logic dac8208d650f15bf"
 MAX_JOBS = 4
-JOBS_FOR_A_PROCESSOR = 1.5
+JOBS_FOR_A_PROCESSOR = 2
 # What each further job of a check adds to its memory, and how much of the free memory is given out.
 MEMORY_OF_A_JOB = 0.6
 MEMORY_GIVEN_OUT = 0.85
@@ -29,6 +31,8 @@ MEMORY_GIVEN_OUT = 0.85
 NEAR = 0.7
 # How many lines of code take as long to prove as a line of tests, as far as was seen.
 LINES_OF_A_TEST_LINE = 3
+# How nice a task is to those of a chain that is far longer, and an edit to all proofs.
+NICE, NICE_OF_EDITS = 10, 15
 
 
 def load_rt():
@@ -64,41 +68,60 @@ def jobs_for(spare, others, needs, room, least):
     return max(1, min(MAX_JOBS, by_processors, by_memory))
 
 
+def begin(call, given, jobs, niceness):
+    """Begins a task in a thread of its own, so much nicer than this one, and returns what will hold its result. The commands
+    that it starts inherit the niceness."""
+    result = Future()
+
+    def run():
+        try:
+            if niceness:
+                thread = threading.get_native_id()
+                os.setpriority(os.PRIO_PROCESS, thread, os.getpriority(os.PRIO_PROCESS, thread) + niceness)
+            result.set_result(call(given, jobs))
+        except BaseException as why:
+            result.set_exception(why)
+
+    threading.Thread(target=run).start()
+    return result
+
+
 def in_lanes(tasks, processors, memory):
     """Runs tasks side by side and returns what each gave. A task is what it waits for, its work in lines, its memory, and
     a call that takes what was given so far and how many jobs it may use."""
     order = behind(tasks)
     left, running, given = sorted(tasks, key=lambda it: (fills(it), -order[it])), {}, {}
-    with ThreadPoolExecutor(max(processors, len(tasks))) as pool:
-        while left or running:
-            ready = [it for it in left if all(below in given for below in tasks[it][0])]
-            empty = [it for it in ready if not tasks[it][1] and it[1] == "tests"]
-            for key in empty:
+    while left or running:
+        ready = [it for it in left if all(below in given for below in tasks[it][0])]
+        empty = [it for it in ready if not tasks[it][1] and it[1] == "tests"]
+        for key in empty:
+            left.remove(key)
+            given[key] = tasks[key][3](given, 1)
+        if empty:
+            continue
+        lacks_memory = False
+        for number, key in enumerate(ready, 1):
+            if lacks_memory and fills(key):
+                # a proof waits for memory, which edits would take again and again
+                break
+            _, _, needs, call = tasks[key]
+            spare = int(JOBS_FOR_A_PROCESSOR * processors) - sum(jobs for _, _, jobs in running.values())
+            room = memory - sum(taken for _, taken, _ in running.values())
+            rivals = [it for it in [*ready, *(it for it, _, _ in running.values())] if it != key and not fills(it)]
+            is_head = not fills(key) and all(order[it] < NEAR * order[key] for it in rivals)
+            if (spare > 0 or is_head) and (needs <= room or not running):
+                least = processors if is_head else 1
+                others = sum(not fills(it) for it in ready[number:])
+                jobs = 1 if fills(key) else jobs_for(spare, others, needs, room, least)
+                taken = needs * (1 + MEMORY_OF_A_JOB * (jobs - 1))
+                is_near = all(NEAR * order[it] <= order[key] for it in rivals)
+                niceness = NICE_OF_EDITS if fills(key) else 0 if is_near else NICE
                 left.remove(key)
-                given[key] = tasks[key][3](given, 1)
-            if empty:
-                continue
-            lacks_memory = False
-            for number, key in enumerate(ready, 1):
-                if lacks_memory and fills(key):
-                    # a proof waits for memory, which edits would take again and again
-                    break
-                _, _, needs, call = tasks[key]
-                spare = int(JOBS_FOR_A_PROCESSOR * processors) - sum(jobs for _, _, jobs in running.values())
-                room = memory - sum(taken for _, taken, _ in running.values())
-                rivals = [*ready, *(it for it, _, _ in running.values())]
-                is_head = not fills(key) and all(order[it] < NEAR * order[key] for it in rivals if it != key)
-                if (spare > 0 or is_head) and (needs <= room or not running):
-                    least = processors - 1 if is_head else 1
-                    others = sum(not fills(it) for it in ready[number:])
-                    jobs = 1 if fills(key) else jobs_for(spare, others, needs, room, least)
-                    taken = needs * (1 + MEMORY_OF_A_JOB * (jobs - 1))
-                    left.remove(key)
-                    running[pool.submit(call, given, jobs)] = key, taken, jobs
-                else:
-                    lacks_memory = lacks_memory or spare > 0 and not fills(key)
-            for it in wait(running, return_when=FIRST_COMPLETED).done:
-                given[running.pop(it)[0]] = it.result()
+                running[begin(call, given, jobs, niceness)] = key, taken, jobs
+            else:
+                lacks_memory = lacks_memory or spare > 0 and not fills(key)
+        for it in wait(running, return_when=FIRST_COMPLETED).done:
+            given[running.pop(it)[0]] = it.result()
     return given
 
 
