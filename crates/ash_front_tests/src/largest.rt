@@ -4,7 +4,7 @@ use crate::compare::{check_number, check_text, check_true};
 use crate::grammar::{parsed, printed};
 use crate::tokens::push_times;
 use ash_lex::{MAX_SOURCE, Token, lex};
-use std::alloc::Global;
+use std::alloc::{AllocError, Global};
 use std::process::Abort;
 use std::test::*;
 
@@ -103,4 +103,19 @@ fn largest_sources_of_types(rt: HostRuntime) -> Result<(), Fail> {
         ("void f(int a", ", int a", ") {}"),
     ];
     check_rows(&rt, rt.alloc(), rows)
+}
+
+/// An index with an array in it whose argument is indexed by the same again, and so on to depth 64.
+fn deep_index(alloc: Global) -> Result<String, AllocError> {
+    let mut phrase = String::new(alloc);
+    push_times(&mut phrase, "[array<int>(b", 32)?;
+    push_times(&mut phrase, ")]", 32)?;
+    Ok(phrase)
+}
+
+#[test]
+fn largest_source_of_arrays_in_indexes(rt: HostRuntime) -> Result<(), Fail> {
+    let phrase = deep_index(rt.alloc())?;
+    let source = largest(rt.alloc(), "int a = b", phrase.as_str(), ";")?;
+    check(&rt, rt.alloc(), source.as_str(), "arrays in indexes")
 }

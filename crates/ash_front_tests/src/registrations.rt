@@ -340,10 +340,17 @@ fn refused_arrays_change_nothing(rt: HostRuntime) -> Result<(), Fail> {
         ("Counter", "array<Foo@> g(int)", 3, unknown),
         ("Counter", "int g(array<Counter>)", 3, bad),
         ("Counter", "int g(array<array<int>>)", 3, bad),
+        ("Counter", "int g(array<int>>)", 3, bad),
+        ("Counter", "int g(int[])", 3, bad),
+        ("Counter", "int[] g()", 3, bad),
+        ("Nope", "int g(array<Nope@>)", 3, unknown),
     ];
     check_methods(&rt, rt.alloc(), methods)?;
     let properties = &[
+        ("Counter", "int other[2]", 3, bad),
+        ("Counter", "array<Counter> other", 3, bad),
         ("Counter", "array<int> other", 3, other),
+        ("Counter", "array<Counter@>@ other", 3, other),
         ("Counter", "array<int>@ value", 1, other),
         ("Counter", "array<Foo@> other", 3, unknown),
     ];
@@ -351,13 +358,59 @@ fn refused_arrays_change_nothing(rt: HostRuntime) -> Result<(), Fail> {
     let factories = &[
         ("Counter", "array<int>@ c(int)", bad),
         ("Counter", "array<Foo@>@ c(int)", bad),
+        ("Counter", "array<Counter@>@ c(int)", bad),
         ("Counter", "Counter@ c(array<int>)", other),
         ("Counter", "Counter@ c(array<Foo@>)", unknown),
     ];
     check_factories(&rt, rt.alloc(), factories)?;
     let functions = &[
         (0, "array<int> g()", 3, other),
+        (0, "int g(int, array<Counter@>@)", 3, other),
+        (0, "array<bool>@ tally(int)", 1, other),
         (0, "int g(array<Foo@>)", 3, unknown),
+        (0, "int g(array<Foo>)", 3, bad),
+        (1, "array<int> g()", 3, RegistryFault::NoService),
+    ];
+    check_functions(&rt, rt.alloc(), functions)
+}
+
+/// Interfaces belong to scripts: where a registration names one, no such type is registered, and it declares none.
+#[test]
+fn refused_interfaces_change_nothing(rt: HostRuntime) -> Result<(), Fail> {
+    let unknown = RegistryFault::UnknownType;
+    let bad = RegistryFault::BadDeclaration;
+    let types = &[
+        ("interface I", 3, bad),
+        ("interface I { }", 3, bad),
+        ("Counter : I", 3, bad),
+        ("class X : I { }", 3, bad),
+    ];
+    check_types(&rt, rt.alloc(), types)?;
+    let methods = &[
+        ("Counter", "int g(I@)", 3, unknown),
+        ("Counter", "I@ g(int)", 3, unknown),
+        ("Counter", "int g(array<I@>@)", 3, unknown),
+        ("Counter", "int g(int) : I", 3, bad),
+        ("Counter", "interface g(int)", 3, bad),
+        ("Counter", "interface I { int g(int); }", 3, bad),
+        ("Counter", "int g(cast<Counter>)", 3, bad),
+        ("I", "int g(int)", 3, unknown),
+    ];
+    check_methods(&rt, rt.alloc(), methods)?;
+    let properties = &[
+        ("Counter", "I@ other", 3, unknown),
+        ("Counter", "interface other", 3, bad),
+    ];
+    check_properties(&rt, rt.alloc(), properties)?;
+    let factories = &[
+        ("Counter", "I@ c(int)", bad),
+        ("Counter", "Counter@ c(I@)", unknown),
+    ];
+    check_factories(&rt, rt.alloc(), factories)?;
+    let functions = &[
+        (0, "I@ g()", 3, unknown),
+        (0, "int g(I@)", 3, unknown),
+        (0, "interface g()", 3, bad),
     ];
     check_functions(&rt, rt.alloc(), functions)
 }

@@ -123,6 +123,13 @@ fn operators(rt: HostRuntime) -> Result<(), Fail> {
             "int a = @b.c.d(1, e)++;",
             "Expr { @8, Unary { operator: Handle, operand: Expr { @9, Postfix { operand: Expr { @9, Name(\"b\") }, suffixes: [Field { @11, name: \"c\" }, Method { @13, name: \"d\", arguments: [Expr { @15, Number(1) }, Expr { @18, Name(\"e\") }] }, Increment] } } } }",
         ),
+    ];
+    check_values(&rt, rt.alloc(), rows)
+}
+
+#[test]
+fn indexes_casts_and_new_arrays(rt: HostRuntime) -> Result<(), Fail> {
+    let rows = &[
         // an index is a suffix, with an expression of its own
         (
             "int a = b[c[1]].d;",
@@ -149,6 +156,25 @@ fn operators(rt: HostRuntime) -> Result<(), Fail> {
         (
             "int a = cast < B > (cast<A>(c)) is null;",
             "Expr { @8, Binary { first: Expr { @8, Cast { to: TypeName { @15, name: \"B\" }, value: Expr { @20, Cast { to: TypeName { @25, name: \"A\" }, value: Expr { @28, Name(\"c\") } } } } }, links: [Link { operator: Is, operand: Expr { @35, Null } }] } }",
+        ),
+        // any assignment is an index
+        (
+            "int a = b[c ? 1 : 2][d = 3]--;",
+            "Expr { @8, Postfix { operand: Expr { @8, Name(\"b\") }, suffixes: [Index(Expr { @10, Conditional { condition: Expr { @10, Name(\"c\") }, then: Expr { @14, Number(1) }, otherwise: Expr { @18, Number(2) } } }), Index(Expr { @21, Assign { target: Expr { @21, Name(\"d\") }, operator: Assign, value: Expr { @25, Number(3) } } }), Decrement] } }",
+        ),
+        // each of them in another one
+        (
+            "int a = array<I@>(2)[cast<J>(b).c[0]];",
+            "Expr { @8, Postfix { operand: Expr { @8, NewArray { of: Element { @14, Handle(\"I\") }, arguments: [Expr { @18, Number(2) }] } }, suffixes: [Index(Expr { @21, Postfix { operand: Expr { @21, Cast { to: TypeName { @26, name: \"J\" }, value: Expr { @29, Name(\"b\") } } }, suffixes: [Field { @32, name: \"c\" }, Index(Expr { @34, Number(0) })] } })] } }",
+        ),
+        (
+            "int a = @cast<A>(array<int>(b[0]));",
+            "Expr { @8, Unary { operator: Handle, operand: Expr { @9, Cast { to: TypeName { @14, name: \"A\" }, value: Expr { @17, NewArray { of: Element { @23, Primitive(Int) }, arguments: [Expr { @28, Postfix { operand: Expr { @28, Name(\"b\") }, suffixes: [Index(Expr { @30, Number(0) })] } }] } } } } } }",
+        ),
+        // the signs round a cast's type compare nothing
+        (
+            "int a = b < cast<C>(d) > e;",
+            "Expr { @8, Binary { first: Expr { @8, Name(\"b\") }, links: [Link { operator: Less, operand: Expr { @12, Cast { to: TypeName { @17, name: \"C\" }, value: Expr { @20, Name(\"d\") } } } }, Link { operator: Greater, operand: Expr { @25, Name(\"e\") } }] } }",
         ),
     ];
     check_values(&rt, rt.alloc(), rows)
@@ -209,12 +235,40 @@ fn statements(rt: HostRuntime) -> Result<(), Fail> {
 }
 
 #[test]
+fn statements_with_arrays_and_indexes(rt: HostRuntime) -> Result<(), Fail> {
+    let rows = &[
+        // a declaration, or a new array by itself
+        (
+            "void f() { array<A@> a, b(1); array<int>(2); for (array<A@>@ c = a;;) ; }",
+            "Stmt { @11, Vars(Vars { of: Type { @11, Array(Element { @17, Handle(\"A\") }) }, decls: [Decl { @21, name: \"a\", initializer: Default }, Decl { @24, name: \"b\", initializer: Arguments([Expr { @26, Number(1) }]) }] }) }, Stmt { @30, Expr(Expr { @30, NewArray { of: Element { @36, Primitive(Int) }, arguments: [Expr { @41, Number(2) }] } }) }, Stmt { @45, For { first: Stmt { @50, Vars(Vars { of: Type { @50, ArrayHandle(Element { @56, Handle(\"A\") }) }, decls: [Decl { @61, name: \"c\", initializer: Value(Expr { @65, Name(\"a\") }) }] }) }, condition: None, steps: [], body: Stmt { @70, Empty } } }",
+        ),
+        (
+            "void f() { a.b[0].c() = -d[1]; cast<A>(e); if (g[h]) return i[0]; }",
+            "Stmt { @11, Expr(Expr { @11, Assign { target: Expr { @11, Postfix { operand: Expr { @11, Name(\"a\") }, suffixes: [Field { @13, name: \"b\" }, Index(Expr { @15, Number(0) }), Method { @18, name: \"c\", arguments: [] }] } }, operator: Assign, value: Expr { @24, Unary { operator: Minus, operand: Expr { @25, Postfix { operand: Expr { @25, Name(\"d\") }, suffixes: [Index(Expr { @27, Number(1) })] } } } } } }) }, Stmt { @31, Expr(Expr { @31, Cast { to: TypeName { @36, name: \"A\" }, value: Expr { @39, Name(\"e\") } } }) }, Stmt { @43, If { condition: Expr { @47, Postfix { operand: Expr { @47, Name(\"g\") }, suffixes: [Index(Expr { @49, Name(\"h\") })] } }, then: Stmt { @53, Return(Some(Expr { @60, Postfix { operand: Expr { @60, Name(\"i\") }, suffixes: [Index(Expr { @62, Number(0) })] } })) } } }",
+        ),
+    ];
+    check_bodies(&rt, rt.alloc(), rows)
+}
+
+#[test]
 fn items(rt: HostRuntime) -> Result<(), Fail> {
     let rows = &[
         (
             "; class A { int a, b = 1; A(int x) { } A@ m() { return null; } };",
             "Class(Class { @8, name: \"A\", interfaces: [], members: [Vars(Vars { of: Type { @12, Primitive(Int) }, decls: [Decl { @16, name: \"a\", initializer: Default }, Decl { @19, name: \"b\", initializer: Value(Expr { @23, Number(1) }) }] }), Constructor(Constructor { @26, name: \"A\", parameters: [Parameter { of: Type { @28, Primitive(Int) }, @32, name: \"x\" }], body: [] }), Function(Function { @42, result: Some(Type { @39, Handle(\"A\") }), name: \"m\", parameters: [], body: [Stmt { @48, Return(Some(Expr { @55, Null })) }] })] })",
         ),
+        // a function, or a variable with arguments
+        (
+            "Foo f(Bar b) {} Foo f(b); Foo g();",
+            "Function(Function { @4, result: Some(Type { @0, Object(\"Foo\") }), name: \"f\", parameters: [Parameter { of: Type { @6, Object(\"Bar\") }, @10, name: \"b\" }], body: [] }), Vars(Vars { of: Type { @16, Object(\"Foo\") }, decls: [Decl { @20, name: \"f\", initializer: Arguments([Expr { @22, Name(\"b\") }]) }] }), Vars(Vars { of: Type { @26, Object(\"Foo\") }, decls: [Decl { @30, name: \"g\", initializer: Arguments([]) }] })",
+        ),
+    ];
+    check_items(&rt, rt.alloc(), rows)
+}
+
+#[test]
+fn interfaces_and_arrays(rt: HostRuntime) -> Result<(), Fail> {
+    let rows = &[
         // an interface, and a class that lists two
         (
             "interface I { int v(); } class A : I, J { }",
@@ -229,10 +283,24 @@ fn items(rt: HostRuntime) -> Result<(), Fail> {
             "void f(array<bool>@ a) { array<uint64> b(2); }",
             "Function(Function { @5, result: None, name: \"f\", parameters: [Parameter { of: Type { @7, ArrayHandle(Element { @13, Primitive(Bool) }) }, @20, name: \"a\" }], body: [Stmt { @25, Vars(Vars { of: Type { @25, Array(Element { @31, Primitive(Uint64) }) }, decls: [Decl { @39, name: \"b\", initializer: Arguments([Expr { @41, Number(2) }]) }] }) }] })",
         ),
-        // a function, or a variable with arguments
         (
-            "Foo f(Bar b) {} Foo f(b); Foo g();",
-            "Function(Function { @4, result: Some(Type { @0, Object(\"Foo\") }), name: \"f\", parameters: [Parameter { of: Type { @6, Object(\"Bar\") }, @10, name: \"b\" }], body: [] }), Vars(Vars { of: Type { @16, Object(\"Foo\") }, decls: [Decl { @20, name: \"f\", initializer: Arguments([Expr { @22, Name(\"b\") }]) }] }), Vars(Vars { of: Type { @26, Object(\"Foo\") }, decls: [Decl { @30, name: \"g\", initializer: Arguments([]) }] })",
+            "array<A@>@ f(array<int> a) { }",
+            "Function(Function { @11, result: Some(Type { @0, ArrayHandle(Element { @6, Handle(\"A\") }) }), name: \"f\", parameters: [Parameter { of: Type { @13, Array(Element { @19, Primitive(Int) }) }, @24, name: \"a\" }], body: [] })",
+        ),
+        // methods of interfaces, one of them without any
+        (
+            "interface I { void m(int a, I@ b); array<A@>@ n(array<bool> c); } interface J { }",
+            "Interface(Interface { @10, name: \"I\", methods: [InterfaceMethod { @19, result: None, name: \"m\", parameters: [Parameter { of: Type { @21, Primitive(Int) }, @25, name: \"a\" }, Parameter { of: Type { @28, Handle(\"I\") }, @31, name: \"b\" }] }, InterfaceMethod { @46, result: Some(Type { @35, ArrayHandle(Element { @41, Handle(\"A\") }) }), name: \"n\", parameters: [Parameter { of: Type { @48, Array(Element { @54, Primitive(Bool) }) }, @60, name: \"c\" }] }] }), Interface(Interface { @76, name: \"J\", methods: [] })",
+        ),
+        // members of a class that lists one
+        (
+            "class A : I { array<int> v(3); A() { v[0] = 1; } array<int>@ m() { return v; } }",
+            "Class(Class { @6, name: \"A\", interfaces: [TypeName { @10, name: \"I\" }], members: [Vars(Vars { of: Type { @14, Array(Element { @20, Primitive(Int) }) }, decls: [Decl { @25, name: \"v\", initializer: Arguments([Expr { @27, Number(3) }]) }] }), Constructor(Constructor { @31, name: \"A\", parameters: [], body: [Stmt { @37, Expr(Expr { @37, Assign { target: Expr { @37, Postfix { operand: Expr { @37, Name(\"v\") }, suffixes: [Index(Expr { @39, Number(0) })] } }, operator: Assign, value: Expr { @44, Number(1) } } }) }] }), Function(Function { @61, result: Some(Type { @49, ArrayHandle(Element { @55, Primitive(Int) }) }), name: \"m\", parameters: [], body: [Stmt { @67, Return(Some(Expr { @74, Name(\"v\") })) }] })] })",
+        ),
+        // lines
+        (
+            "interface I {\n void m(); }\nclass A\n : I { }",
+            "Interface(Interface { @10, name: \"I\", methods: [InterfaceMethod { @20/2, result: None, name: \"m\", parameters: [] }] }), Class(Class { @33/3, name: \"A\", interfaces: [TypeName { @38/4, name: \"I\" }], members: [] })",
         ),
     ];
     check_items(&rt, rt.alloc(), rows)

@@ -29,10 +29,16 @@ fn check_loaded(
     Ok(())
 }
 
-static FAULTS: [(&str, &str); 8] = [
+static FAULTS: [(&str, &str); 14] = [
     ("int f( {", "refused 104 Unexpected 7\n"),
     ("float x;", "refused 105 Unsupported float 0\n"),
     ("class A : I { }", "refused 199 NotYet\n"),
+    ("interface I { void m(); }", "refused 199 NotYet\n"),
+    ("int n = cast<A>(null).n;", "refused 199 NotYet\n"),
+    ("array<int> a(3);", "refused 199 NotYet\n"),
+    ("int n = a[0];", "refused 199 NotYet\n"),
+    ("array<array<int>> a;", "refused 104 Unexpected 6\n"),
+    ("int[] a;", "refused 104 Unexpected 3\n"),
     ("int \"", "refused 101 BadCharacter 4\n"),
     ("/* x", "refused 102 UnclosedComment 0\n"),
     ("class A { }", "refused 199 NotYet\n"),

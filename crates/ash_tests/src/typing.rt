@@ -202,6 +202,73 @@ fn faults_of_the_layers_below_come_first(rt: HostRuntime) -> Result<(), Fail> {
     check_rows(&rt, rt.alloc(), &LAYERS)
 }
 
+// The last one is in `docs/LANGUAGE.md`.
+static UNTYPED: [Row; 7] = [
+    (
+        "interface I { void m(); }",
+        "refused 199 NotYet\n",
+        "refused 199 NotYet\n",
+        Ending::Refused,
+    ),
+    (
+        "class A : I { }",
+        "refused 199 NotYet\n",
+        "refused 199 NotYet\n",
+        Ending::Refused,
+    ),
+    (
+        "class A { } A@ a = cast<A>(null);",
+        "refused 199 NotYet\n",
+        "refused 199 NotYet\n",
+        Ending::Refused,
+    ),
+    (
+        "array<Counter@>@ a = array<Counter@>(2);",
+        "refused 199 NotYet\n",
+        "refused 199 NotYet\n",
+        Ending::Refused,
+    ),
+    (
+        "int n = a[0];",
+        "refused 199 NotYet\n",
+        "refused 199 NotYet\n",
+        Ending::Refused,
+    ),
+    (
+        "int n; int n; X x; void f() { zz = a[0]; }",
+        "refused 199 NotYet\n",
+        "refused 199 NotYet\n",
+        Ending::Refused,
+    ),
+    (
+        "interface Sink {
+    void put(int x);
+}
+
+class Log : Sink {
+    array<int> all;
+
+    void put(int x) { all.insertLast(x); }
+}
+
+Sink@ sink = Log();
+
+int first() {
+    Log@ log = cast<Log>(sink);
+    return log.all[0];
+}
+",
+        "refused 199 NotYet\n",
+        "refused 199 NotYet\n",
+        Ending::Refused,
+    ),
+];
+
+#[test]
+fn what_is_read_and_not_typed_so_far(rt: HostRuntime) -> Result<(), Fail> {
+    check_rows(&rt, rt.alloc(), &UNTYPED)
+}
+
 static SOUND: [Row; 4] = [
     ("", "ok seq 1\n", "ok\n", Ending::Well),
     (
