@@ -7,7 +7,8 @@ Here the task at the head of the longest chain that is left begins at once with 
 still have some of these, since all wait for it; any other task gets the jobs that are left, but one where another is ready.
 A check with several jobs leaves some of them idle for part of its time, so twice as many jobs are given out as there are
 processors, and the operating system gives the longest chain what it can use: all other tasks are nice to it, and edits to
-these. So they fill what the chain leaves free.
+these. So they fill what the chain leaves free. An edit has one job, which is never idle, so only one more than there are
+processors run at once.
 Only the order of the work is another one: what is proved, tried and run, and the verdict, are those of `rt ci`. Under a
 toolchain that was not tried with this, plain `rt ci` runs.
 """
@@ -105,7 +106,8 @@ def in_lanes(tasks, processors, memory):
                 # a proof waits for memory, which edits would take again and again
                 break
             _, _, needs, call = tasks[key]
-            spare = int(JOBS_FOR_A_PROCESSOR * processors) - sum(jobs for _, _, jobs in running.values())
+            most = processors + 1 if fills(key) else int(JOBS_FOR_A_PROCESSOR * processors)
+            spare = most - sum(jobs for _, _, jobs in running.values())
             room = memory - sum(taken for _, taken, _ in running.values())
             rivals = [it for it in [*ready, *(it for it, _, _ in running.values())] if it != key and not fills(it)]
             is_head = not fills(key) and all(order[it] < NEAR * order[key] for it in rivals)
