@@ -202,7 +202,7 @@ fn indexes_casts_and_new_arrays_in_expressions(rt: HostRuntime) -> Result<(), Fa
 }
 
 #[test]
-fn indexes_casts_and_new_arrays_behind_operators(rt: HostRuntime) -> Result<(), Fail> {
+fn indexes_casts_and_new_arrays_after_operators(rt: HostRuntime) -> Result<(), Fail> {
     let rows = &[
         ("+ ", ""),
         ("- ", ""),
