@@ -5,8 +5,8 @@ use Rattle.ash_registry.specs.Calls.{Call as Registration}
 use Rattle.ash_meaning.specs.Refusals.{Refusal}
 use Rattle.ash_meaning.specs.Refusals as refusals
 use Rattle.ash_meaning.specs.declared.request.Argument.{Argument}
-use Rattle.ash_meaning.specs.Meaning.{End}
-use Rattle.ash_meaning.specs.Tree.{Function}
+use Rattle.ash_subset.specs.Meaning.{End}
+use Rattle.ash_subset.specs.Tree.{Function}
 use Rattle.ash_meaning.specs.State.{State, Script, Request, Load, Call, Discard, Global, Seq, Snapshot, Reply, Answered, Value, Number, Done, Refused}
 use Rattle.ash_meaning.specs.Step.{Demand, Task, Initialize, Run, Remove, Read, Count, Rewrite, Steps, task_of, perform, unless_refused, is_spent, is_module_name, find_script, find_function, tree_of, max_modules, load_of, call_in, call_of, call_with, words_for, read_in, read_of, word_named}
 use Rattle.ash_meaning.specs.Reading.{Reading, read_source}

@@ -8,7 +8,7 @@ use Rattle.ash_journal.specs.Current.{Contents, Represent, SettleOn}
 use Rattle.ash_journal.specs.Layout.{IsOpen}
 use Rattle.ash_journal.proofs.LayoutLaws.{open_closed}
 use Rattle.ash_journal.proofs.SettleLaws.{settle_turned, stand_now, represent_once}
-use Rattle.ash_meaning.specs.Meaning.{End}
+use Rattle.ash_subset.specs.Meaning.{End}
 use Rattle.ash_meaning.specs.Refusals as refusals
 use Rattle.ash_meaning.specs.State.{State, Request, Seq, Reply, Answered, Refused, empty}
 use Rattle.ash_meaning.specs.Step.{Demand, Initialize, Run, Remove, Read, Count, Rewrite, Steps, task_of, unless_refused}

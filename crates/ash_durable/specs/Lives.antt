@@ -5,7 +5,7 @@ use Rattle.ash_disk.specs.Image.{Only}
 use Rattle.ash_disk.specs.Moments.{LeftSince}
 use Rattle.ash_journal.specs.Layout.{IsOpen}
 use Rattle.ash_journal.specs.Writes.{HasRested}
-use Rattle.ash_meaning.specs.Meaning.{End}
+use Rattle.ash_subset.specs.Meaning.{End}
 use Rattle.ash_meaning.specs.State.{State, Request, Reply, Answered, empty}
 use Rattle.ash_meaning.specs.Step.{Steps}
 use Rattle.ash_registry.specs.Calls.{Call as Registration}

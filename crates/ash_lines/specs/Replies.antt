@@ -4,15 +4,15 @@ use Rattle.std.specs.Fmt.{signed_decimal}
 use Rattle.std.specs.List.{flat_map}
 use Rattle.ash_host.specs.declared.word.Word.{Word}
 use Rattle.ash_host.specs.declared.word.Word.TheVariants.{Bool, Int, Uint, Int64, Uint64, Null, Object}
-use Rattle.ash_meaning.specs.declared.outcome.Exception.{Exception}
-use Rattle.ash_meaning.specs.declared.outcome.Exception.TheVariants as exceptions
+use Rattle.ash_subset.specs.declared.outcome.Exception.{Exception}
+use Rattle.ash_subset.specs.declared.outcome.Exception.TheVariants as exceptions
 use Rattle.ash_meaning.specs.Refusals.{Refusal}
 use Rattle.ash_meaning.specs.Refusals as refusals
 use Rattle.ash_parse.specs.declared.faults.UnsupportedPart.{UnsupportedPart}
 use Rattle.ash_parse.specs.Faults.{part_text}
 use Rattle.ash_lines.specs.declared.reply.Details as details
 use Rattle.ash_lines.specs.declared.reply.Details.TheVariants as the_details
-use Rattle.ash_meaning.specs.Meaning.{End, Finished, Threw, Aborted}
+use Rattle.ash_subset.specs.Meaning.{End, Finished, Threw, Aborted}
 use Rattle.ash_meaning.specs.State.{Reply, Answered, Value, Number, Done, Refused}
 
 -- what is told of a line: the host's reply, that the run ends, or why it is no request

@@ -3,16 +3,17 @@
 ghost use Rattle.std.specs.Prelude.{◌≡◌, ◌∷◌, [], ◌++◌, codes, map, string_bytes};
 ghost use Rattle.std.specs.List.{flat_map};
 ghost use Rattle.ash_meaning.specs.Refusals.{refusal_of};
-ghost use Rattle.ash_meaning.specs.State.{reply_of, end_of};
+ghost use Rattle.ash_meaning.specs.State.{reply_of};
+ghost use Rattle.ash_subset.specs.Outcomes.{end_of};
 ghost use Rattle.ash_lines.specs.Sink.{Puts, Says};
 ghost use Rattle.ash_lines.specs.Replies.{word_text, exception_text, refusal_name, details_of, details_in, details_text, names_text, refusal_text, place_text, finished_text, end_text, reply_text, seq_text};
 
 use crate::sink::{Sink, WriteFault};
 use ash_host::Word;
-use ash_meaning::outcome::{Exception, Outcome};
 use ash_meaning::refusal::Refusal;
 use ash_meaning::request::Reply;
 use ash_parse::UnsupportedPart;
+use ash_subset::outcome::{Exception, Outcome};
 use itoa::Buffer;
 
 /// Puts a reply and the end of its line, and sends them.

@@ -6,11 +6,11 @@ use Rattle.ash_registry.specs.Calls.{Call}
 use Rattle.ash_meaning.specs.declared.script.Script as declared
 use Rattle.ash_meaning.specs.declared.request.Argument.{Argument}
 use Rattle.ash_meaning.specs.Kept.{IsAdmitted}
-use Rattle.ash_meaning.specs.Meaning.{End, call}
+use Rattle.ash_subset.specs.Meaning.{End, call}
 use Rattle.ash_meaning.specs.Plain.{IsKept, IsLoaded, IsCalled}
 use Rattle.ash_meaning.specs.State.{Script}
 use Rattle.ash_meaning.specs.Step.{is_module_name}
-use Rattle.ash_meaning.specs.Tree.{Module, module_of}
+use Rattle.ash_subset.specs.Tree.{Module, module_of}
 use Rattle.ash_meaning.specs.Reading.{module_read}
 use Rattle.ash_meaning.proofs.ReadingLaws.{module_read-long, module_read-typed}
 use Rattle.ash_meaning.proofs.Typed.{IsTypedModule, IsTypedFunction}

@@ -9,7 +9,7 @@ use Rattle.ash_host.specs.declared.word.Word.{Word}
 use Rattle.ash_registry.specs.Calls.{Call}
 use Rattle.ash_meaning.specs.declared.script.Script as declared
 use Rattle.ash_meaning.specs.Kept.{IsAdmitted, Admits}
-use Rattle.ash_meaning.specs.Meaning.{End, Finished, Threw, Aborted}
+use Rattle.ash_subset.specs.Meaning.{End, Finished, Threw, Aborted}
 use Rattle.ash_meaning.specs.Plain.{script_of, scripts_of, state_of, IsKept, AreKept}
 use Rattle.ash_meaning.specs.State.{Script}
 use Rattle.ash_meaning.specs.Step.{max_modules, are_ascending, names_of_scripts, first_where, has_name, with_script, kept as keep}

@@ -11,14 +11,14 @@ use Rattle.ash_registry.specs.Calls.{Call as Registration}
 use Rattle.ash_meaning.specs.declared.script.Script as declared
 use Rattle.ash_meaning.specs.declared.request.Argument.{Argument}
 use Rattle.ash_meaning.specs.declared.refusal.Refusal.TheVariants.{NoGlobal}
-use Rattle.ash_meaning.specs.Meaning.{End, Finished}
+use Rattle.ash_subset.specs.Meaning.{End, Finished}
 use Rattle.ash_meaning.specs.Plain.{script_of, scripts_of, state_of, IsKept, AreKept, IsLoaded, RefusesLoad, IsCalled, RefusesCall}
 use Rattle.ash_meaning.specs.Reading.{Reading, read_source, module_in, TakesToRead}
 use Rattle.ash_meaning.specs.Refusals.{Refusal}
 use Rattle.ash_meaning.specs.Refusals as refusals
 use Rattle.ash_meaning.specs.State.{Script, State, Load, Call, Discard, Global, Answered, Refused, word_of}
 use Rattle.ash_meaning.specs.Step.{Demand, Initialize, Run, Remove, TakesMemory, Steps, step, unless_refused, perform, answer, kept, is_spent, is_module_name, max_modules, has_name, find_script, find_function, tree_of, word_named, call_of, call_in, call_with, calling, discarding, load_of, loading, read_of, read_in, without_script, with_globals}
-use Rattle.ash_meaning.specs.Tree.{Module, Function, module_of}
+use Rattle.ash_subset.specs.Tree.{Module, Function, module_of}
 use Rattle.ash_meaning.proofs.Ascending.{same_name}
 use Rattle.ash_meaning.proofs.Places.{found_at, found_nowhere, changed_at, removed_at}
 

@@ -5,16 +5,16 @@ use Rattle.ash_tree.specs.Tree.{Item}
 use Rattle.ash_registry.specs.Calls.{Call}
 use Rattle.ash_meaning.specs.Lexing.{Lexes}
 use Rattle.ash_meaning.specs.Checking.{Checking, IsNoScript, IsUntypedScript, ChecksTokens, Checks, no_tokens, has_tokens, checked_source, TakesToTell, TakesToCheck}
-use Rattle.ash_meaning.specs.Tree.{Module, module_of}
-use Rattle.ash_meaning.specs.declared.tree.Module as code
+use Rattle.ash_subset.specs.Tree.{Module, module_of}
+use Rattle.ash_subset.specs.declared.tree.Module as code
 use Rattle.ash_meaning.specs.Reading.{Reading, ReadsScript, Reads, refused, typed, module_or_none, read_checked, read_source, module_in, module_read, TakesToRead}
 use Rattle.ash_meaning.specs.declared.refusal.Refusal as code_refusal
 use Rattle.ash_meaning.specs.Refusals.{Refusal, refusal_of}
 use Rattle.ash_meaning.specs.Refusals as refusals
-use Rattle.ash_meaning.specs.subset.Resolver.{resolved}
+use Rattle.ash_subset.specs.Resolver.{resolved}
 use Rattle.ash_meaning.proofs.CheckingLaws.{checked_source-is, checked_source-only, of_refusal, takes_untyped, takes_halt}
 use Rattle.ash_meaning.proofs.Typed.{IsTypedModule}
-use Rattle.ash_meaning.proofs.subset.TypedLemmas.{resolved-typed}
+use Rattle.ash_meaning.proofs.TypedLemmas.{resolved-typed}
 
 -- what is read of a script
 

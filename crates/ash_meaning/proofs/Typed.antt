@@ -1,9 +1,9 @@
 -- What is typed: each word is an `int`, and each variable has its place.
 use Rattle.std.proofs.Common.{◌≡◌, ℕ, ◌<◌, ◌≤◌, Bool, true, false, cond, length, Option, Some, None, option_map, refl}
 use Rattle.std.specs.List.{AllByRecursion}
-use Rattle.ash_meaning.specs.declared.tree.Place.{Place}
-use Rattle.ash_meaning.specs.declared.tree.Place.TheVariants.{Local, Global}
-use Rattle.ash_meaning.specs.Tree.{Expr, Literal, Read, Chain, Links, none, link, Action, Assign, Update, Return, Stmt, Function, Global as Variable, Module}
+use Rattle.ash_subset.specs.declared.tree.Place.{Place}
+use Rattle.ash_subset.specs.declared.tree.Place.TheVariants.{Local, Global}
+use Rattle.ash_subset.specs.Tree.{Expr, Literal, Read, Chain, Links, none, link, Action, Assign, Update, Return, Stmt, Function, Global as Variable, Module}
 use Rattle.ash_meaning.specs.Kept.{IsInt}
 
 -- the variable is one of so many locals or globals

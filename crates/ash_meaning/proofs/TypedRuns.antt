@@ -5,15 +5,15 @@ use Rattle.std.proofs.lemmas.List.{length-map, length-set}
 use Rattle.std.proofs.lemmas.Bool.Decides.{nat_tests}
 use Rattle.ash_host.specs.declared.word.Word.{Word}
 use Rattle.ash_host.specs.declared.word.Word.TheVariants.{Int, Null}
-use Rattle.ash_meaning.specs.declared.tree.Operator.{Operator}
-use Rattle.ash_meaning.specs.declared.tree.Operator.TheVariants.{Add, Subtract, Multiply}
-use Rattle.ash_meaning.specs.declared.tree.Place.{Place}
-use Rattle.ash_meaning.specs.declared.tree.Place.TheVariants.{Local, Global}
+use Rattle.ash_subset.specs.declared.tree.Operator.{Operator}
+use Rattle.ash_subset.specs.declared.tree.Operator.TheVariants.{Add, Subtract, Multiply}
+use Rattle.ash_subset.specs.declared.tree.Place.{Place}
+use Rattle.ash_subset.specs.declared.tree.Place.TheVariants.{Local, Global}
 use Rattle.ash_meaning.specs.declared.request.Argument.{Argument}
 use Rattle.ash_meaning.specs.declared.request.Argument.TheVariants as arguments
-use Rattle.ash_meaning.specs.Tree.{Expr, Literal, Read, Chain, Links, none, link, Action, Assign, Update, Return, Stmt, Function, Global as Variable, Module}
-use Rattle.ash_meaning.specs.Activity.{Activity, Progress, Done, Broken, Run, onward, spend, at_line, tick, value_at, stored_at}
-use Rattle.ash_meaning.specs.Meaning.{operate, expression, chain, act, statement, Flow, On, Returned, go_on, block, body, initialize, initializers, ended, begun, call, load_globals, zero_of, value_of}
+use Rattle.ash_subset.specs.Tree.{Expr, Literal, Read, Chain, Links, none, link, Action, Assign, Update, Return, Stmt, Function, Global as Variable, Module}
+use Rattle.ash_subset.specs.Activity.{Activity, Progress, Done, Broken, Run, onward, spend, at_line, tick, value_at, stored_at}
+use Rattle.ash_subset.specs.Meaning.{operate, expression, chain, act, statement, Flow, On, Returned, go_on, block, body, initialize, initializers, ended, begun, call, load_globals, zero_of, value_of}
 use Rattle.ash_meaning.specs.Step.{first_where, both, int_argument, int_arguments, words_for}
 use Rattle.ash_meaning.specs.Kept.{IsInt}
 use Rattle.ash_meaning.proofs.Typed.{IsPlace, IsTyped, AreTyped, IsTypedAction, IsTypedStmt, IsTypedInitializer, IsTypedGlobal, IsTypedFunction, IsTypedModule, cond_some}

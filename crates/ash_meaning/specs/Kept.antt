@@ -7,7 +7,7 @@ use Rattle.ash_host.specs.declared.word.Word.TheVariants.{Int}
 use Rattle.ash_registry.specs.Calls.{Call as Registration}
 use Rattle.ash_meaning.specs.declared.kept.StoredModule.{StoredModule}
 use Rattle.ash_meaning.specs.declared.kept.ModuleParts.{ModuleParts}
-use Rattle.ash_meaning.specs.Tree.{Module}
+use Rattle.ash_subset.specs.Tree.{Module}
 use Rattle.ash_meaning.specs.State.{Script, State}
 use Rattle.ash_meaning.specs.Step.{is_module_name, max_modules, are_ascending, names_of_scripts}
 use Rattle.ash_meaning.specs.Reading.{module_read}

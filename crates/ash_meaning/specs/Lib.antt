@@ -1,14 +1,9 @@
-pub mod Tree
-pub mod Activity
-pub mod Meaning
 pub mod Refusals
 pub mod State
-pub mod subset
 pub mod Lexing
 pub mod Scanning
 pub mod Checking
 pub mod Reading
-pub mod Machine
 pub mod Step
 pub mod Kept
 pub mod Plain

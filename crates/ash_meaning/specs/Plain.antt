@@ -11,10 +11,10 @@ use Rattle.ash_meaning.specs.Refusals.{Refusal}
 use Rattle.ash_meaning.specs.Refusals as refusals
 use Rattle.ash_meaning.specs.Kept.{IsAdmitted}
 use Rattle.ash_meaning.specs.Kept as stored
-use Rattle.ash_meaning.specs.Meaning.{End, call, load_globals}
+use Rattle.ash_subset.specs.Meaning.{End, call, load_globals}
 use Rattle.ash_meaning.specs.State.{State, Script}
 use Rattle.ash_meaning.specs.Step.{max_modules, are_ascending, names_of_scripts, with_script, kept, find_function, words_for}
-use Rattle.ash_meaning.specs.Tree.{Function, module_of}
+use Rattle.ash_subset.specs.Tree.{Function, module_of}
 use Rattle.ash_meaning.specs.Reading.{read_source, module_read, TakesToRead}
 
 abbrev pub script_of : declared.Script → Script

@@ -6,10 +6,10 @@ use Rattle.std.specs.Prelude.{◌≡◌, ℕ, List, Option, Some, None, Result, 
 use Rattle.ash_tree.specs.Tree.{Item}
 use Rattle.ash_registry.specs.Calls.{Call as Registration}
 use Rattle.ash_meaning.specs.Checking.{Checking, Checks, checked_source, TakesToTell}
-use Rattle.ash_meaning.specs.Tree.{Module}
+use Rattle.ash_subset.specs.Tree.{Module}
 use Rattle.ash_meaning.specs.Refusals.{Refusal}
 use Rattle.ash_meaning.specs.Refusals as refusals
-use Rattle.ash_meaning.specs.subset.Resolver.{resolved}
+use Rattle.ash_subset.specs.Resolver.{resolved}
 
 abbrev pub Reading : Type 0
 Reading = Result Module Refusal

@@ -10,9 +10,8 @@ use Rattle.ash_meaning.specs.declared.request.Request.TheVariants as requests
 use Rattle.ash_meaning.specs.declared.request.Answer as answer
 use Rattle.ash_meaning.specs.declared.request.Reply as reply
 use Rattle.ash_meaning.specs.declared.request.Reply.TheVariants as replies
-use Rattle.ash_meaning.specs.declared.outcome.Outcome as outcome
-use Rattle.ash_meaning.specs.declared.outcome.Outcome.TheVariants as outcomes
-use Rattle.ash_meaning.specs.Meaning.{End, Finished, Threw, Aborted}
+use Rattle.ash_subset.specs.Meaning.{End}
+use Rattle.ash_subset.specs.Outcomes.{end_of}
 
 -- a module that is kept: its name, its source and what its globals hold, in source order
 pub record Script : Type 0 where
@@ -55,11 +54,6 @@ request_of (requests.Discard name) = Discard name.now
 request_of (requests.Global script name) = Global script.now name.now
 request_of requests.Seq = Seq
 request_of requests.Snapshot = Snapshot
-
-abbrev pub end_of : outcome.Outcome → End
-end_of (outcomes.Finished value) = Finished value
-end_of (outcomes.Exception exception function line) = Threw exception (string_bytes function) line
-end_of (outcomes.Aborted function line) = Aborted (string_bytes function) line
 
 abbrev pub answered : answer.Answer → Reply
 answered a = Answered (end_of a.outcome) a.seq

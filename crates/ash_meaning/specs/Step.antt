@@ -13,8 +13,8 @@ use Rattle.ash_meaning.specs.declared.request.Argument.{Argument}
 use Rattle.ash_meaning.specs.declared.request.Argument.TheVariants as arguments
 use Rattle.ash_meaning.specs.Refusals.{Refusal}
 use Rattle.ash_meaning.specs.Refusals as refusals
-use Rattle.ash_meaning.specs.Tree.{Module, Function, Global as Variable}
-use Rattle.ash_meaning.specs.Meaning.{End, Finished, call, load_globals}
+use Rattle.ash_subset.specs.Tree.{Module, Function, Global as Variable}
+use Rattle.ash_subset.specs.Meaning.{End, Finished, call, load_globals}
 use Rattle.ash_meaning.specs.State.{Script, State, Request, Load, Call, Discard, Global, Seq, Snapshot, Reply, Answered, Value, Number, Done, Refused}
 use Rattle.ash_meaning.specs.Checking.{TakesToTell}
 use Rattle.ash_meaning.specs.Reading.{Reading, read_source, module_read}

@@ -5,12 +5,12 @@ ghost use Rattle.std.specs.List.{position, remove};
 ghost use Rattle.std.specs.Ordering.{is_lt};
 ghost use Rattle.ash_meaning.specs.Kept.{scripts_in};
 ghost use Rattle.ash_meaning.specs.Plain.{script_of, scripts_of, IsInserted, IsLeft, KeepsEach};
-ghost use Rattle.ash_meaning.specs.State.{end_of};
+ghost use Rattle.ash_subset.specs.Outcomes.{end_of};
 ghost use Rattle.ash_meaning.specs.Step.{compare_names, has_name};
 
 use crate::kept::ModuleParts;
-use crate::outcome::Outcome;
 use crate::script::Script;
+use ash_subset::outcome::Outcome;
 use std::alloc::{AllocError, Global};
 
 /// The most modules that a host has.

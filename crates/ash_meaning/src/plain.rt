@@ -10,12 +10,12 @@ ghost use Rattle.ash_meaning.specs.Step.{Steps, KeepsRefused, step};
 use crate::kept::{ModuleParts, StoredModule, are_ascending};
 use crate::modules::{self, MAX_MODULES};
 use crate::name::is_module_name;
-use crate::outcome::Outcome;
 use crate::refusal::Refusal;
 use crate::request::{Answer, Argument, Reply, Request};
 use crate::script::{self, Script};
 use ash_host::Word;
 use ash_registry::Registry;
+use ash_subset::outcome::Outcome;
 use std::alloc::{AllocError, Global};
 use std::marker::Model;
 

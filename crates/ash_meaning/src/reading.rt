@@ -6,14 +6,14 @@ ghost use Rattle.ash_registry.specs.Calls.{Call};
 ghost use Rattle.ash_registry.specs.Registered.{registered};
 ghost use Rattle.ash_meaning.specs.Reading.{Reading, Reads, module_or_none, read_source, module_read, TakesToRead};
 ghost use Rattle.ash_meaning.specs.Refusals.{refusal_of, NoMemory};
-ghost use Rattle.ash_meaning.specs.Tree.{module_of};
-ghost use Rattle.ash_meaning.specs.subset.Resolver.{resolved};
+ghost use Rattle.ash_subset.specs.Tree.{module_of};
+ghost use Rattle.ash_subset.specs.Resolver.{resolved};
 
 use crate::checking::checked_script;
 use crate::refusal::Refusal;
-use crate::subset::resolver::resolve;
-use crate::tree::Module;
 use ash_registry::Registry;
+use ash_subset::resolver::resolve;
+use ash_subset::tree::Module;
 use std::alloc::{AllocError, Global};
 
 /// The typed tree of a script, or that it can't be run so far.

@@ -1,8 +1,8 @@
 // What is asked of the host, and what it replies.
 
-use crate::outcome::Outcome;
 use crate::refusal::Refusal;
 use ash_host::Word;
+use ash_subset::outcome::Outcome;
 
 /// One request. Its texts are borrowed from whoever asks.
 #[derive(Clone, Copy, Debug)]

@@ -12,21 +12,21 @@ ghost use Rattle.ash_meaning.specs.Plain.{IsKept, AreEachKept, RestoresOne, Rest
 ghost use Rattle.ash_meaning.specs.Plain.{IsLoaded, RefusesLoad, IsCalled, RefusesCall};
 ghost use Rattle.ash_meaning.specs.Refusals.{refusal_of};
 ghost use Rattle.ash_meaning.specs.declared.refusal.Refusal.TheVariants.{NoGlobal};
-ghost use Rattle.ash_meaning.specs.State.{end_of};
+ghost use Rattle.ash_subset.specs.Outcomes.{end_of};
 ghost use Rattle.ash_meaning.specs.Step.{is_module_name, find_function, place_from, names_of, word_named};
-ghost use Rattle.ash_meaning.specs.Tree.{function_of, module_of};
+ghost use Rattle.ash_subset.specs.Tree.{function_of, module_of};
 
 use crate::arguments::words_for;
-use crate::evaluator;
 use crate::kept::StoredModule;
 use crate::name::is_module_name;
-use crate::outcome::Outcome;
 use crate::reading::{module_read, read_source};
 use crate::refusal::Refusal;
 use crate::request::Argument;
-use crate::tree::{Function, Module};
 use ash_host::Word;
 use ash_registry::Registry;
+use ash_subset::evaluator;
+use ash_subset::outcome::Outcome;
+use ash_subset::tree::{Function, Module};
 use std::alloc::{AllocError, Global};
 
 /// A module that is kept, with the tree of its source.

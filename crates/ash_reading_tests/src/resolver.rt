@@ -3,9 +3,9 @@
 use crate::compare::check_text;
 use crate::sources::{bracketed, parts_of};
 use ash_lex::{Token, lex};
-use ash_meaning::subset::resolver::resolve;
-use ash_meaning::tree::Module as Resolved;
 use ash_parse::{ParseFault, parse_module};
+use ash_subset::resolver::resolve;
+use ash_subset::tree::Module as Resolved;
 use ash_tree::Module;
 use std::alloc::{AllocError, Global};
 use std::fmt::Write;

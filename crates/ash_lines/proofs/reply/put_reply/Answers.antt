@@ -1,4 +1,4 @@
-use Rattle.ash_meaning.specs.State.{end_of}
+use Rattle.ash_subset.specs.Outcomes.{end_of}
 use Rattle.ash_lines.specs.Replies.{end_text, seq_text}
 use Rattle.ash_lines.proofs.SinkLemmas.{stops-more, puts-then}
 use Rattle.ash_lines.proofs.reply.put_reply.Goals as goal

@@ -1,7 +1,7 @@
 use Rattle.std.proofs.Common.{◌≡◌, drop, map}
 use Rattle.std.specs.Str.{bytes_eq}
 use Rattle.ash_meaning.specs.Step.{first_where}
-use Rattle.ash_meaning.specs.Tree.{Function, function_of}
+use Rattle.ash_subset.specs.Tree.{Function, function_of}
 use Rattle.ash_meaning.proofs.script.find_function.Given as goal
 
 abbrev pub invariant-loop-function : goal.invariant-loop-function

@@ -1,7 +1,7 @@
 use Rattle.std.proofs.Common.{rules}
 use Rattle.ash_registry.specs.Registered.{registered}
 use Rattle.ash_meaning.specs.Plain.{IsLoaded}
-use Rattle.ash_meaning.specs.State.{end_of}
+use Rattle.ash_subset.specs.Outcomes.{end_of}
 use Rattle.ash_meaning.specs.declared.script.Script as declared
 use Rattle.ash_meaning.proofs.Admitted.{load_keeps}
 use Rattle.ash_meaning.proofs.script.loaded.Goals as goal

@@ -1,6 +1,6 @@
 use Rattle.std.proofs.Common.{◌≡◌, drop, map}
 use Rattle.ash_meaning.specs.Step.{place_from}
-use Rattle.ash_meaning.specs.Tree.{Global, global_of}
+use Rattle.ash_subset.specs.Tree.{Global, global_of}
 use Rattle.ash_meaning.proofs.script.place_of.Given as goal
 
 abbrev pub invariant-loop-place : goal.invariant-loop-place

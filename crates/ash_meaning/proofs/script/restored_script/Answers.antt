@@ -2,7 +2,7 @@ use Rattle.std.proofs.Common.{rules, refl, arith}
 use Rattle.std.proofs.lemmas.List.{length-map}
 use Rattle.ash_registry.specs.Registered.{registered}
 use Rattle.ash_meaning.specs.Kept.{IsAdmitted, script_of}
-use Rattle.ash_meaning.specs.Tree.{module_of, global_of}
+use Rattle.ash_subset.specs.Tree.{module_of, global_of}
 use Rattle.ash_meaning.proofs.script.restored_script.Goals as goal
 
 pub returns-clause-exact : goal.returns-clause-exact

@@ -6,7 +6,8 @@ use Rattle.ash_meaning.specs.declared.script.Script as declared
 use Rattle.ash_meaning.specs.Plain.{state_of}
 use Rattle.ash_meaning.specs.Refusals.{refusal_of}
 use Rattle.ash_meaning.specs.Refusals as refusals
-use Rattle.ash_meaning.specs.State.{State, Call, Reply, Answered, Refused, end_of, answer_of}
+use Rattle.ash_meaning.specs.State.{State, Call, Reply, Answered, Refused, answer_of}
+use Rattle.ash_subset.specs.Outcomes.{end_of}
 use Rattle.ash_meaning.specs.Step.{Steps}
 use Rattle.ash_meaning.proofs.PlainSteps.{place_in, place_given, unspent, calls-none, calls-refused, called-globals, calls-one}
 use Rattle.ash_meaning.proofs.KeptModules.{kept-at, kept-set, set-same}

@@ -1,7 +1,7 @@
 use Rattle.std.proofs.Common.{◌≡◌, ◌+◌, List, Some, None, sym, subst}
 use Rattle.ash_registry.specs.Registered.{registered}
 use Rattle.ash_meaning.specs.declared.script.Script as declared
-use Rattle.ash_meaning.specs.Meaning.{Finished}
+use Rattle.ash_subset.specs.Meaning.{Finished}
 use Rattle.ash_meaning.specs.Plain.{state_of, AreKept}
 use Rattle.ash_meaning.specs.Refusals as refusals
 use Rattle.ash_meaning.specs.State.{State, Discard, Answered, Refused}

@@ -5,7 +5,8 @@ use Rattle.ash_meaning.specs.declared.script.Script as declared
 use Rattle.ash_meaning.specs.Plain.{scripts_of, state_of}
 use Rattle.ash_meaning.specs.Refusals.{refusal_of}
 use Rattle.ash_meaning.specs.Refusals as refusals
-use Rattle.ash_meaning.specs.State.{State, Load, Reply, Answered, Refused, end_of, answer_of}
+use Rattle.ash_meaning.specs.State.{State, Load, Reply, Answered, Refused, answer_of}
+use Rattle.ash_subset.specs.Outcomes.{end_of}
 use Rattle.ash_meaning.specs.Step.{Steps, is_module_name, max_modules, first_where, has_name}
 use Rattle.ash_meaning.proofs.PlainSteps.{place_in, nowhere, unspent, none_where, few_as, many_as, loads-taken, loads-too_many, loads-refused, loads-out, loads-ended}
 use Rattle.ash_meaning.proofs.KeptModules.{kept-ended}

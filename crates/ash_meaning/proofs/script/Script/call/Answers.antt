@@ -1,6 +1,6 @@
 use Rattle.std.proofs.Common.{rules}
 use Rattle.ash_meaning.specs.Plain.{IsCalled}
-use Rattle.ash_meaning.specs.State.{end_of}
+use Rattle.ash_subset.specs.Outcomes.{end_of}
 use Rattle.ash_meaning.specs.declared.script.Script as declared
 use Rattle.ash_meaning.proofs.Admitted.{call_keeps}
 use Rattle.ash_meaning.proofs.script.Script.call.Goals as goal

@@ -1,3 +1,0 @@
-pub mod NameLemmas
-pub mod ChainLemmas
-pub mod TypedLemmas

@@ -1,3 +1,0 @@
-pub mod Scope
-pub mod Resolver
-pub mod Views
