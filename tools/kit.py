@@ -6,9 +6,9 @@ import sys
 
 TOP = os.path.dirname(os.path.dirname(os.path.abspath(__file__)))
 
-# Within how many minutes a run of the gate had ashd proved from nothing, by the number of processors. The gate proves the
-# tests beside it; a build by ashd.sh alone was not timed.
-MINUTES = {4: 39}
+# How many minutes a run of the gate took to prove all crates below ashd from nothing, and ashd after these, by the number of
+# processors. The gate proves the tests beside them; a build by ashd.sh alone was not timed.
+MINUTES = {4: 45}
 
 
 def processors():
