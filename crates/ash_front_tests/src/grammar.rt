@@ -386,6 +386,13 @@ fn chooses_between_declaration_and_expression(rt: HostRuntime) -> Result<(), Fai
             "class A { int a, b = 1; A() { } A(int x) { } void m() { } A@ n(A@ o) { } A@ p; }",
             "ok",
         ),
+    ];
+    check_scripts(&rt, rt.alloc(), rows)
+}
+
+#[test]
+fn reads_statements_and_expressions(rt: HostRuntime) -> Result<(), Fail> {
+    let rows = &[
         ("void f() { if (a) if (b) c; else d; else e; }", "ok"),
         (
             "void f() { for (int i = 0; i < 3; i++, --j) { } for (;;) break; for (i = 1;;) ; }",
