@@ -2,7 +2,7 @@
 ghost use Rattle.std.specs.Prelude.{◌≡◌, ◌≤◌, IsTrue, IsSome};
 ghost use Rattle.ash_host.specs.Objects.{Lives};
 ghost use Rattle.ash_objects.specs.Table.{IsAlive, field_of};
-ghost use Rattle.ash_objects.specs.Arrays.{array_at};
+ghost use Rattle.ash_objects.specs.Arrays.{array_at, elements_at};
 ghost use Rattle.ash_objects.specs.Responses.{box_at};
 
 use crate::reporter::{Log, Reporter};
@@ -62,7 +62,8 @@ fn is_host(objects: &Table, number: u64) -> bool
 
 /// Whether it is an array that lives.
 pub fn is_array(objects: &Table, number: u64) -> bool
-    ensures { IsTrue result → IsSome (array_at number objects.now) }
+    ensures array { IsTrue result → IsSome (array_at number objects.now) }
+    ensures elements { IsTrue result → IsSome (elements_at number objects.now) }
 {
     matches!(objects.body(number), Some(Body::Array(_)))
 }
