@@ -54,4 +54,5 @@ returns g c = record {
   called = λ number is. rw (c.push_reserved.ensures.items, c.reserve.ensures.items, c.number-number.ensures number is, called_is (Object number) c.args.method c.invoke_in-answer.result c.in_default.not-NoMemory) refl;
   unchanged = tt;
   no_event = tt;
+  no_room = tt;
 }
