@@ -1,12 +1,12 @@
 -- Objects that are put into their slots all at once, and their counts.
-use Rattle.std.proofs.Common.{◌≡◌, ℕ, Bool, true, false, cond, List, [], ◌∷◌, refl, sym, subst, ap, ◌∙◌, nat_eq, arith, Option, Some, None, length, zero, suc, ◌+◌, ◌-◌, ◌*◌, ◌≤◌, ◌<◌, ◌^◌, drop, get_or, map}
+use Rattle.std.proofs.Common.{◌≡◌, ℕ, Bool, true, false, cond, List, [], ◌∷◌, refl, sym, subst, ap, ◌∙◌, nat_eq, arith, Option, Some, None, length, zero, suc, ◌+◌, ◌-◌, ◌*◌, ◌≤◌, ◌<◌, ◌^◌, ◌++◌, take, drop, get_or, map}
 use Rattle.std.specs.Prelude.{IsSome, IfSome, All, sum_by, slice_get}
 use Rattle.std.specs.Option.{option_map, option_map_or}
 use Rattle.std.specs.Map.{values_of}
 use Rattle.std.specs.Ordering.{nat_cmp, match_ordering}
 use Rattle.std.specs.List.Sorted.{IsStrictlyIncreasing, IsStrictlySortedBy}
 use Rattle.std.proofs.lemmas.Bool.{eqb-true, eq-eqb}
-use Rattle.std.proofs.lemmas.List.{drop-map}
+use Rattle.std.proofs.lemmas.List.{drop-map, length-append, length-take, take_all, drop_all}
 use Rattle.std.proofs.lemmas.List.Sums.{sum_by-cons, count_by-le-length}
 use Rattle.std.proofs.lemmas.Map.Keys.{sorted_from_strictly_increasing}
 use Rattle.ash_host.specs.declared.word.Word.{Word}
@@ -25,6 +25,7 @@ use Rattle.ash_objects.specs.Restoring.{stored_in, with_taken, AreFit, IsFresh, 
 use Rattle.ash_objects.proofs.Counts.{object_at-living, numbers-living}
 use Rattle.ash_objects.proofs.Fields.{living_face, with_holds}
 use Rattle.ash_objects.proofs.Marks.{object_at-mapped, in_order-mapped}
+use Rattle.ash_objects.proofs.Pointwise.{IsPopped, popped}
 use Rattle.ash_objects.proofs.Referring.{all_face, all_fields, all_order, all_length, all_each, all_counted, all_alive_face, words_at_face}
 
 -- an entry before all others is put in front of them
@@ -236,6 +237,80 @@ module _ {B : Type 0} where
       let second : b ≡ box = cc in
       rw (← first, ← second) fit.0
   fit_at (o ∷ objects) (b ∷ boxes) (suc k) object box fit one two = fit_at objects boxes k object box fit.1 one two
+
+  fit_many : (objects : List Stored) (boxes : List (Option B)) → AreFit objects boxes → length boxes ≡ length objects
+  fit_many [] [] fit = refl
+  fit_many [] (b ∷ boxes) fit = absurd fit
+  fit_many (o ∷ objects) [] fit = absurd fit
+  fit_many (o ∷ objects) (b ∷ boxes) fit = ap suc (fit_many objects boxes fit.1)
+
+  -- How far the putting of objects has come, the last first: what is left of them and of what they took, and what is there.
+  pub record PutState (objects : List Stored) (boxes : List (Option B)) (os : List Stored) (bs : List (Option B)) (l : List (ℕ × Placed B)) : Type 0 where
+    pub left : os ≡ take (length os) objects
+    pub right : bs ≡ take (length os) boxes
+    pub within : length os ≤ length objects
+    pub put : ArePut (drop (length os) objects) (drop (length os) boxes) l
+
+  pub put_begin : (objects : List Stored) (boxes : List (Option B)) (l : List (ℕ × Placed B)) → AreFit objects boxes → l ≡ [] → PutState objects boxes objects boxes l
+  put_begin objects boxes l fit none = record {
+    left = sym (take_all (length objects) objects (omega arith));
+    right = let many = fit_many objects boxes fit in sym (take_all (length objects) boxes (omega (arith, many)));
+    within = omega arith;
+    put = let many = fit_many objects boxes fit in rw (none, drop_all (length objects) objects (omega arith), drop_all (length objects) boxes (omega (arith, many))) tt;
+  }
+
+  -- there is a box for each object
+  pub put_box : (objects : List Stored) (boxes : List (Option B)) (os os' : List Stored) (bs : List (Option B)) (object : Stored) (l : List (ℕ × Placed B)) → AreFit objects boxes → PutState objects boxes os bs l → os ≡ os' ++ object ∷ [] → bs ≡ [] → ⊥
+  put_box objects boxes os os' bs object l fit s is none =
+      let many = fit_many objects boxes fit in
+      let long = ap length is ∙ length-append os' (object ∷ []) in
+      let all = ap length s.right ∙ length-take (length os) boxes in
+      let nothing = ap length none in
+      let inside = s.within in
+      absurd (omega (arith, many, long, all, nothing, inside))
+
+  -- one object more is put
+  module _ (objects : List Stored) (boxes : List (Option B)) (os os' : List Stored) (bs bs' : List (Option B)) (object : Stored) (box : Option B) (l : List (ℕ × Placed B)) (order : IsInOrder (stored_in objects)) (fit : AreFit objects boxes) (s : PutState objects boxes os bs l) (one : os ≡ os' ++ object ∷ []) (two : bs ≡ bs' ++ box ∷ []) where
+    first : IsPopped objects os' object
+    first = popped objects os' object (length os) (sym s.left ∙ one)
+
+    second : IsPopped boxes bs' box
+    second = popped boxes bs' box (length os) (sym s.right ∙ two)
+
+    long : length os ≡ length os' + 1
+    long = ap length one ∙ length-append os' (object ∷ [])
+
+    same : length bs' ≡ length os'
+    same =
+        let many = fit_many objects boxes fit in
+        let all = ap length s.right ∙ length-take (length os) boxes in
+        let some = ap length two ∙ length-append bs' (box ∷ []) in
+        let inside = s.within in
+        omega (arith, many, all, some, inside, long)
+
+    next : drop (length os') boxes ≡ box ∷ drop (length os' + 1) boxes
+    next = subst (λ (n : ℕ). drop n boxes ≡ box ∷ drop (n + 1) boxes) same second.next
+
+    behind : ArePut (drop (length os' + 1) objects) (drop (length os' + 1) boxes) l
+    behind = subst (λ (n : ℕ). ArePut (drop n objects) (drop n boxes) l) long s.put
+
+    pub put_fits : IsSome (with_taken object.body box)
+    put_fits = fit_at objects boxes (length os') object box fit first.there (subst (λ (n : ℕ). slice_get boxes n ≡ Some box) same second.there)
+
+    pub put_new : object_at object.number l ≡ None
+    put_new = put_absent objects boxes (length os') object l order first.next behind
+
+    pub put_more : (p : Placed B) → with_taken object.body box ≡ Some (p.item).body → IsFresh p → PutState objects boxes os' bs' (with_at object.number p l)
+    put_more p is fresh = record {
+      left = first.left;
+      right = subst (λ (n : ℕ). bs' ≡ take n boxes) same second.left;
+      within = let inside = first.within in omega (arith, inside);
+      put = put_front objects boxes (length os') object box p l order first.next next behind is fresh;
+    }
+
+  -- all are put
+  pub put_end : (objects : List Stored) (boxes : List (Option B)) (os : List Stored) (bs : List (Option B)) (l : List (ℕ × Placed B)) → os ≡ [] → PutState objects boxes os bs l → ArePut objects boxes l
+  put_end objects boxes os bs l none s = subst (λ (n : ℕ). ArePut (drop n objects) (drop n boxes) l) (ap length none) s.put
 
   -- All objects of a state, put into slots.
   module _ (objects : List Stored) (boxes : List (Option B)) (l : List (ℕ × Placed B)) (last : ℕ) (put : ArePut objects boxes l) (numbered : AreNumbered last (stored_in objects)) (few : length objects ≤ 4096) (short : (m : ℕ) → IfSome (object_at m (stored_in objects)) (λ body. length (words_of body) ≤ 4096)) (alive : (m : ℕ) → IfSome (object_at m (stored_in objects)) (λ body. All (λ word. IfSome (handle word) (Lives (stored_in objects))) (words_of body))) where
