@@ -1,61 +1,30 @@
--- What a call of a host object leaves: its box, and nothing else.
+-- What a call of a host object leaves of a table: its box, and nothing else.
 use Rattle.std.proofs.Common.{◌≡◌, ℕ, Bool, true, false, cond, List, [], ◌∷◌, refl, sym, subst, ap, ◌∙◌, nat_eq, arith, Option, Some, None, length, ◌≤◌}
 use Rattle.std.specs.Prelude.{IsSomeAnd, IsSome}
 use Rattle.std.specs.Option.{option_map, option_map_or, option_and_then}
 use Rattle.ash_host.specs.declared.word.Word.{Word}
 use Rattle.ash_host.specs.Objects.{object_at, IsInOrder, handles_to}
-use Rattle.ash_objects.specs.declared.entry.Item.{Item}
-use Rattle.ash_objects.specs.declared.body.Body.{Body}
-use Rattle.ash_objects.specs.declared.body.Body.TheVariants.{Script, Array, Host}
-use Rattle.ash_objects.specs.declared.body.Script as scripts
-use Rattle.ash_objects.specs.declared.body.Array as arrays
-use Rattle.ash_objects.specs.Bodies.{words_of}
-use Rattle.ash_objects.specs.Store.{Placed, AreStored, IsIn, change_in, with_item}
-use Rattle.ash_objects.specs.Table.{Living, change_at}
-use Rattle.ash_objects.specs.Responses.{box_of, stored_box, boxed, with_box, called}
+use Rattle.ash_slots.specs.declared.entry.Item.{Item}
+use Rattle.ash_slots.specs.declared.body.Body.{Body}
+use Rattle.ash_slots.specs.declared.body.Body.TheVariants.{Script, Array, Host}
+use Rattle.ash_slots.specs.declared.body.Script as scripts
+use Rattle.ash_slots.specs.declared.body.Array as arrays
+use Rattle.ash_slots.specs.Bodies.{words_of}
+use Rattle.ash_slots.specs.Store.{Placed, AreStored, IsIn, change_in, with_item, change_at}
+use Rattle.ash_objects.specs.Table.{Living}
+use Rattle.ash_slots.specs.Responses.{box_of, stored_box, boxed}
+use Rattle.ash_objects.specs.Responses.{with_box, called}
 use Rattle.ash_host.specs.declared.answer.HostAnswer.{HostAnswer}
 use Rattle.ash_host.specs.declared.answer.HostAnswer.TheVariants as answers
 use Rattle.ash_host.specs.declared.event.Target.{Target}
 use Rattle.ash_host.specs.declared.event.Event.TheVariants.{Called}
 use Rattle.ash_objects.specs.Counting.{holding, fields_in, living, living_in, AreCounted, IsTable, face}
-use Rattle.ash_objects.proofs.Changing.{object_at-change, length-change, in_order-change, sum-change, change_in_is}
+use Rattle.ash_slots.proofs.Changing.{object_at-change, length-change, in_order-change, sum-change, change_in_is}
 use Rattle.ash_objects.proofs.Counts.{object_at-living, each-change, given-change}
 use Rattle.ash_objects.proofs.Fields.{view_face, counted_same}
-use Rattle.ash_objects.proofs.Steps.{change_same}
+use Rattle.ash_slots.proofs.Steps.{change_same}
 
 module _ {B : Type 0} where
-  item_same : (n : ℕ) (l : List (ℕ × Placed B)) (it : Item B) → IsSomeAnd (object_at n l) (λ object. object.item ≡ it) → (p : Placed B) → object_at n l ≡ Some p → p.item ≡ it
-  item_same n l it h p is = subst (λ (v : Option (Placed B)). IsSomeAnd v (λ object. object.item ≡ it)) is h
-
-  module _ (n : ℕ) (l : List (ℕ × Placed B)) (it : Item B) (mine : IsSomeAnd (object_at n l) (λ object. object.item ≡ it)) where
-    stored_is : stored_box n l ≡ box_of it.body
-    stored_is = go (object_at n l) mine
-      where
-        go : (v : Option (Placed B)) → IsSomeAnd v (λ object. object.item ≡ it) → option_and_then (λ object. box_of (object.item).body) v ≡ box_of it.body
-        go None h = absurd h
-        go (Some p) h = ap (λ (i : Item B). box_of i.body) h
-
-    -- the box that is called is that of the number
-    pub box_was : (box : B) → it.body ≡ Host box → stored_box n l ≡ Some box
-    box_was box is = stored_is ∙ ap box_of is
-
-    pub no_script : (script : scripts.Script) → it.body ≡ Script script → IsSome (stored_box n l) → ⊥
-    no_script script is some =
-        let none : stored_box n l ≡ None = stored_is ∙ ap box_of is in
-        let no = subst (λ (v : Option B). IsSome v) none some in
-        cc
-
-    pub no_array : (array : arrays.Array) → it.body ≡ Array array → IsSome (stored_box n l) → ⊥
-    no_array array is some =
-        let none : stored_box n l ≡ None = stored_is ∙ ap box_of is in
-        let no = subst (λ (v : Option B). IsSome v) none some in
-        cc
-
-    pub boxed_at : (slot : ℕ) (s : AreStored l) (here : IsIn n slot l) (after : B) → change_in slot (with_item (record { count = it.count; touched = true; body = Host after })) l ≡ change_at n (boxed after) l
-    boxed_at slot s here after =
-        change_in_is slot n _ l s here
-        ∙ change_same n _ (boxed after) l s.in_order (λ p at. ap (λ (i : Item B). with_item (record { count = i.count; touched = true; body = Host after }) p) (sym (item_same n l it mine p at)))
-
   -- what a contract sees of the box is what is there
   pub box_view : (n : ℕ) (l : List (ℕ × Placed B)) → option_and_then (λ object. box_of object.body) (object_at n (living_in l)) ≡ stored_box n l
   box_view n l = ap (λ (v : Option (Living B)). option_and_then (λ object. box_of object.body) v) (object_at-living n l l) ∙ go (object_at n l)

@@ -17,11 +17,12 @@ use Rattle.ash_host.specs.Reach.{Reachable, Root, Field}
 use Rattle.ash_host.proofs.Membership.{is_among_yes, is_among_says, numbers-filter}
 use Rattle.ash_host.proofs.CountLaws.{handles_counted, counted_handles}
 use Rattle.ash_host.proofs.Order.{same_in_order, object_here, object_later, none_behind, in_order_behind}
-use Rattle.ash_objects.specs.declared.entry.Entry.{Entry}
-use Rattle.ash_objects.specs.Bodies.{words_of, is_boxed}
-use Rattle.ash_objects.specs.Store.{Placed, NoneWaits}
+use Rattle.ash_slots.specs.declared.entry.Entry.{Entry}
+use Rattle.ash_slots.specs.Bodies.{words_of, is_boxed}
+use Rattle.ash_slots.specs.Store.{Placed, NoneWaits}
 use Rattle.ash_objects.specs.Table.{Living, Table, fields_holding, holds_of}
-use Rattle.ash_objects.specs.Counting.{holding, fields_in, counted, living, living_among, living_in, face, face_at, AreCounted, IsTable}
+use Rattle.ash_objects.specs.Counting.{holding, fields_in, living, living_among, living_in, face, face_at, AreCounted, IsTable}
+use Rattle.ash_slots.specs.Counting.{counted}
 use Rattle.ash_objects.specs.Collecting.{mark_of, HaveGone, AreInOrder, marked_since, marked_drops}
 use Rattle.ash_objects.specs.Sweeping.{RefersTo, gone_from, gone_since, drops, Collects, RanksFall, LeavesReachable}
 use Rattle.ash_objects.proofs.Counts.{object_at-living, numbers-living, count_is}

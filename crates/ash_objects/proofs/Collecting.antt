@@ -9,15 +9,16 @@ use Rattle.std.proofs.lemmas.List.{length-append}
 use Rattle.std.proofs.lemmas.Map.Entries.{sum_by-remove_entry}
 use Rattle.ash_host.specs.declared.word.Word.{Word}
 use Rattle.ash_host.specs.Objects.{object_at, IsInOrder, Lives, handles_to}
-use Rattle.ash_objects.specs.declared.entry.Item.{Item}
-use Rattle.ash_objects.specs.declared.entry.Entry.{Entry}
-use Rattle.ash_objects.specs.Bodies.{words_of, is_boxed}
-use Rattle.ash_objects.specs.Store.{Placed, AreStored, IsIn, IsIdle, change_in, with_waiting}
-use Rattle.ash_objects.specs.Counting.{holding, fields_in, counted, AreCounted, face, face_at, once_less, release_all}
+use Rattle.ash_slots.specs.declared.entry.Item.{Item}
+use Rattle.ash_slots.specs.declared.entry.Entry.{Entry}
+use Rattle.ash_slots.specs.Bodies.{words_of, is_boxed}
+use Rattle.ash_slots.specs.Store.{Placed, AreStored, IsIn, IsIdle, change_in, with_waiting}
+use Rattle.ash_objects.specs.Counting.{holding, fields_in, AreCounted, face, face_at, release_all}
+use Rattle.ash_slots.specs.Counting.{counted, once_less}
 use Rattle.ash_objects.specs.Collecting.{mark_of, entry_mark, HaveGone}
-use Rattle.ash_objects.proofs.Changing.{object_at-change_in, numbers-change_in}
+use Rattle.ash_slots.proofs.Changing.{object_at-change_in, numbers-change_in}
 use Rattle.ash_objects.proofs.Fields.{in_face}
-use Rattle.ash_objects.proofs.Moving.{object_at-removed}
+use Rattle.ash_slots.proofs.Moving.{object_at-removed}
 use Rattle.ash_objects.proofs.Referring.{lives_face}
 use Rattle.ash_objects.proofs.Releasing.{released_face, released_fields, released_order, released_length, released_marks, released_each, released_counted}
 

@@ -7,11 +7,12 @@ use Rattle.std.proofs.lemmas.Bool.{eqb-true, eq-eqb}
 use Rattle.std.proofs.lemmas.List.Sums.{sum_by-cons, count_by-le-length}
 use Rattle.ash_host.specs.Objects.{object_at, numbers, IsInOrder, handles_to, is_handle_to}
 use Rattle.ash_host.proofs.Order.{none_behind, in_order_behind, same_in_order}
-use Rattle.ash_objects.specs.Bodies.{words_of}
-use Rattle.ash_objects.specs.Store.{Placed}
-use Rattle.ash_objects.specs.Table.{Living, change_at, fields_holding, held, unheld}
-use Rattle.ash_objects.specs.Counting.{holding, fields_in, counted, living, living_among, living_in, AreCounted, AreGiven, once_more, once_less}
-use Rattle.ash_objects.proofs.Changing.{object_at-change, length-change, in_order-change, sum_same-change}
+use Rattle.ash_slots.specs.Bodies.{words_of}
+use Rattle.ash_slots.specs.Store.{Placed, change_at}
+use Rattle.ash_objects.specs.Table.{Living, fields_holding, held, unheld}
+use Rattle.ash_objects.specs.Counting.{holding, fields_in, living, living_among, living_in, AreCounted, AreGiven}
+use Rattle.ash_slots.specs.Counting.{counted, once_more, once_less}
+use Rattle.ash_slots.proofs.Changing.{object_at-change, length-change, in_order-change, sum_same-change}
 
 module _ {B : Type 0} where
   -- what a contract sees at a number

@@ -10,13 +10,14 @@ use Rattle.std.proofs.lemmas.List.Sums.{sum_by-cons, sum_by-set, get_or-le-sum_b
 use Rattle.ash_host.specs.declared.word.Word.{Word}
 use Rattle.ash_host.specs.declared.word.Word.TheVariants as words
 use Rattle.ash_host.specs.Objects.{object_at, IsInOrder, Lives, handles_to, is_handle_to, handle}
-use Rattle.ash_objects.specs.declared.body.Body.{Body}
-use Rattle.ash_objects.specs.declared.body.Body.TheVariants.{Script, Array, Host}
-use Rattle.ash_objects.specs.Bodies.{words_of, with_word}
-use Rattle.ash_objects.specs.Store.{Placed}
-use Rattle.ash_objects.specs.Table.{Living, change_at, with_field}
-use Rattle.ash_objects.specs.Counting.{face, face_at, holding, fields_in, counted, living, living_in, AreCounted, once_more, once_less, change_handle, written}
-use Rattle.ash_objects.proofs.Changing.{object_at-change, length-change, in_order-change, sum-change, sum_same-change}
+use Rattle.ash_slots.specs.declared.body.Body.{Body}
+use Rattle.ash_slots.specs.declared.body.Body.TheVariants.{Script, Array, Host}
+use Rattle.ash_slots.specs.Bodies.{words_of, with_word}
+use Rattle.ash_slots.specs.Store.{Placed, change_at}
+use Rattle.ash_objects.specs.Table.{Living, with_field}
+use Rattle.ash_objects.specs.Counting.{face, face_at, holding, fields_in, living, living_in, AreCounted}
+use Rattle.ash_slots.specs.Counting.{counted, once_more, once_less, change_handle, written}
+use Rattle.ash_slots.proofs.Changing.{object_at-change, length-change, in_order-change, sum-change, sum_same-change}
 use Rattle.ash_objects.proofs.Counts.{view_change, counted-change, each-change}
 
 -- whether a handle is to an object, as a number

@@ -1,9 +1,4 @@
-pub mod Placing
-pub mod Writing
-pub mod Moving
-pub mod Changing
 pub mod Counts
-pub mod Steps
 pub mod Fields
 pub mod Views
 pub mod Boxes

@@ -8,8 +8,8 @@ use Rattle.std.proofs.lemmas.List.Sums.{sum_by-cons}
 use Rattle.ash_host.specs.declared.event.Event.{Event}
 use Rattle.ash_host.specs.declared.event.Event.TheVariants.{Dropped}
 use Rattle.ash_host.specs.Objects.{object_at, numbers, IsInOrder}
-use Rattle.ash_objects.specs.declared.entry.Entry.{Entry}
-use Rattle.ash_objects.specs.Bodies.{is_boxed}
+use Rattle.ash_slots.specs.declared.entry.Entry.{Entry}
+use Rattle.ash_slots.specs.Bodies.{is_boxed}
 use Rattle.ash_objects.specs.Collecting.{entry_mark, marked_since, marked_drops}
 
 -- a sum over what a list is mapped to

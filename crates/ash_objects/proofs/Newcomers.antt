@@ -10,16 +10,17 @@ use Rattle.std.proofs.lemmas.Map.Entries.{sum_by-insert_entry}
 use Rattle.std.proofs.lemmas.Map.Keys.{sorted_from_strictly_increasing}
 use Rattle.ash_host.specs.Objects.{object_at, numbers, IsInOrder, Lives, with_at, handle, handles_to}
 use Rattle.ash_host.proofs.Order.{object_at-with_at, in_order-with_at, same_in_order}
-use Rattle.ash_objects.specs.Bodies.{words_of}
-use Rattle.ash_objects.specs.Store.{Placed, IsIn}
+use Rattle.ash_slots.specs.Bodies.{words_of}
+use Rattle.ash_slots.specs.Store.{Placed, IsIn}
 use Rattle.ash_objects.specs.Table.{Living, Table, slot_of}
 use Rattle.ash_objects.specs.Making.{made, with_made, first_of_kind}
 use Rattle.std.specs.List.{remove}
 use Rattle.ash_host.specs.declared.host_object.HostObject.{Ghosts}
-use Rattle.ash_objects.specs.declared.body.Body.{Body}
-use Rattle.ash_objects.specs.declared.body.Body.TheVariants.{Host}
-use Rattle.ash_objects.specs.Counting.{holding, fields_in, counted, living_among, living_in, words_at, AllLive, refer_all, AreCounted, AreGiven, IsTable, face, face_at}
-use Rattle.ash_objects.proofs.Placing.{found_by_number}
+use Rattle.ash_slots.specs.declared.body.Body.{Body}
+use Rattle.ash_slots.specs.declared.body.Body.TheVariants.{Host}
+use Rattle.ash_objects.specs.Counting.{holding, fields_in, living_among, living_in, words_at, AllLive, refer_all, AreCounted, AreGiven, IsTable, face, face_at}
+use Rattle.ash_slots.specs.Counting.{counted}
+use Rattle.ash_slots.proofs.Placing.{found_by_number}
 use Rattle.ash_objects.proofs.Counts.{object_at-living, numbers-living, counted_fits}
 use Rattle.ash_objects.proofs.Fields.{with_holds, living_face}
 use Rattle.ash_objects.proofs.Referring.{all_face, all_fields, all_order, all_length, all_each, all_given, all_counted}

@@ -6,10 +6,11 @@ use Rattle.std.proofs.lemmas.List.Elements.{All-head, All-tail}
 use Rattle.std.proofs.lemmas.List.Sums.{sum_by-cons}
 use Rattle.ash_host.specs.declared.word.Word.{Word}
 use Rattle.ash_host.specs.Objects.{object_at, IsInOrder, Lives, handles_to, is_handle_to, handle}
-use Rattle.ash_objects.specs.declared.entry.Item.{Item}
-use Rattle.ash_objects.specs.Bodies.{words_of}
-use Rattle.ash_objects.specs.Store.{Placed, IsIn}
-use Rattle.ash_objects.specs.Counting.{fields_in, counted, AllLive, AreGiven, once_more, change_handle, refer_all, words_at, living_in, face, face_at}
+use Rattle.ash_slots.specs.declared.entry.Item.{Item}
+use Rattle.ash_slots.specs.Bodies.{words_of}
+use Rattle.ash_slots.specs.Store.{Placed, IsIn}
+use Rattle.ash_objects.specs.Counting.{fields_in, AllLive, AreGiven, refer_all, words_at, living_in, face, face_at}
+use Rattle.ash_slots.specs.Counting.{counted, once_more, change_handle}
 use Rattle.ash_objects.specs.Table.{Living}
 use Rattle.ash_objects.proofs.Counts.{given-change}
 use Rattle.ash_objects.proofs.Views.{alive_view}

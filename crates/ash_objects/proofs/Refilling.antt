@@ -8,34 +8,25 @@ use Rattle.std.proofs.lemmas.List.Sums.{sum_by-append}
 use Rattle.std.proofs.lemmas.List.Folds.{sum_by-replicate}
 use Rattle.ash_host.specs.declared.word.Word.{Word}
 use Rattle.ash_host.specs.Objects.{object_at, IsInOrder, Lives, handles_to, is_handle_to, handle}
-use Rattle.ash_objects.specs.declared.entry.Item.{Item}
-use Rattle.ash_objects.specs.declared.body.Body.{Body}
-use Rattle.ash_objects.specs.declared.body.Body.TheVariants.{Script, Array, Host}
-use Rattle.ash_objects.specs.declared.body.Array as arrays
-use Rattle.ash_objects.specs.declared.body.Element.{Element}
-use Rattle.ash_objects.specs.declared.body.Element.TheVariants as elements
-use Rattle.ash_objects.specs.Bodies.{words_of, with_word, initial_of}
-use Rattle.ash_objects.specs.Arrays.{array_of, array_at, elements_of, elements_at, with_words, with_elements, stored_array, refilled, lengthened}
-use Rattle.ash_objects.specs.Store.{Placed, AreStored, IsIn, change_in, with_item}
-use Rattle.ash_objects.specs.Table.{Living, Table, change_at, body_of, slot_of, field_of, with_object, with_field}
-use Rattle.ash_objects.specs.Counting.{face, face_at, holding, fields_in, counted, living_in, AreCounted, AreGiven, IsTable, once_less, change_handle, release_all}
-use Rattle.ash_objects.proofs.Changing.{object_at-change, length-change, in_order-change, change_in_is, sum-change}
+use Rattle.ash_slots.specs.declared.entry.Item.{Item}
+use Rattle.ash_slots.specs.declared.body.Body.{Body}
+use Rattle.ash_slots.specs.declared.body.Body.TheVariants.{Script, Array, Host}
+use Rattle.ash_slots.specs.declared.body.Array as arrays
+use Rattle.ash_slots.specs.declared.body.Element.{Element}
+use Rattle.ash_slots.specs.declared.body.Element.TheVariants as elements
+use Rattle.ash_slots.specs.Bodies.{words_of, with_word, initial_of}
+use Rattle.ash_slots.specs.Arrays.{array_of, with_words, stored_array, refilled, lengthened}
+use Rattle.ash_objects.specs.Arrays.{array_at, elements_of, elements_at, with_elements}
+use Rattle.ash_slots.specs.Store.{Placed, AreStored, IsIn, change_in, with_item, change_at}
+use Rattle.ash_objects.specs.Table.{Living, Table, body_of, slot_of, field_of, with_object, with_field}
+use Rattle.ash_objects.specs.Counting.{face, face_at, holding, fields_in, living_in, AreCounted, AreGiven, IsTable, release_all}
+use Rattle.ash_slots.specs.Counting.{counted, once_less, change_handle}
+use Rattle.ash_slots.proofs.Changing.{object_at-change, length-change, in_order-change, change_in_is, sum-change}
 use Rattle.ash_objects.proofs.Counts.{numbers-living, each-change, given-change}
 use Rattle.ash_objects.proofs.Fields.{view_face, counted_same, in_face}
 use Rattle.ash_objects.proofs.Releasing.{released_face, released_fields, released_order, released_length, released_each, released_counted}
-use Rattle.ash_objects.proofs.Steps.{change_same}
+use Rattle.ash_slots.proofs.Steps.{change_same}
 use Rattle.ash_objects.proofs.Views.{body_view}
-
--- what is there
-pub some_of : {A : Type 0} (v : Option A) → IsSome v → (x : A) × (v ≡ Some x)
-some_of None h = cc
-some_of (Some x) h = (x, refl)
-
-pub if_some : {A : Type 0} (P : A → Type 0) (v : Option A) (x : A) → v ≡ Some x → P x → IfSome v P
-if_some P v x is h = subst (λ v. IfSome v P) (sym is) h
-
-pub some_if : {A : Type 0} (P : A → Type 0) (v : Option A) (x : A) → v ≡ Some x → IfSome v P → P x
-some_if P v x is h = subst (λ v. IfSome v P) is h
 
 take_short : {A : Type 0} (k : ℕ) (ws : List A) → length (take k ws) ≤ length ws
 take_short k ws =
@@ -80,30 +71,6 @@ one_longer k array is =
     let one : (k + 1) - length array.elements ≡ 1 = omega arith in
     ap (λ (j : ℕ). array.elements ++ replicate j (initial_of array.element)) one
 
-pub on_err : {T E : Type 0} (P : Type 0) (r : Result T E) → P → OnErr r P
-on_err P (Ok x) h = tt
-on_err P (Err e) h = h
-
-module _ {A : Type 0} where
-  change_id : (n : ℕ) (l : List (ℕ × A)) → change_at n (λ x. x) l ≡ l
-  change_id n [] = refl
-  change_id n (e ∷ l) =
-      ap (λ (x : A). (e.0, x) ∷ change_at n (λ x. x) l) (go (nat_eq n e.0)) ∙ ap (λ (t : List (ℕ × A)). e ∷ t) (change_id n l)
-    where
-      go : (b : Bool) → cond b e.1 e.1 ≡ e.1
-      go true = refl
-      go false = refl
-
-  -- a change over another is one
-  pub change_over : (n : ℕ) (f g h : A → A) → ((x : A) → f (g x) ≡ h x) → (l : List (ℕ × A)) → change_at n f (change_at n g l) ≡ change_at n h l
-  change_over n f g h same [] = refl
-  change_over n f g h same (e ∷ l) =
-      ap (λ (x : A). (e.0, x) ∷ change_at n f (change_at n g l)) (go (nat_eq n e.0)) ∙ ap (λ (t : List (ℕ × A)). (e.0, cond (nat_eq n e.0) (h e.1) e.1) ∷ t) (change_over n f g h same l)
-    where
-      go : (b : Bool) → cond b (f (cond b (g e.1) e.1)) (cond b (g e.1) e.1) ≡ cond b (h e.1) e.1
-      go true = same e.1
-      go false = refl
-
 module _ {B : Type 0} where
   words_array : (body : Body B) (array : arrays.Array) → array_of body ≡ Some array → words_of body ≡ array.elements
   words_array (Script script) array h = cc
@@ -124,45 +91,6 @@ module _ {B : Type 0} where
   short_filled ws few (Script script) h = h
   short_filled ws few (Array own) h = few
   short_filled ws few (Host box) h = h
-
-  -- what is written in a slot is a change at a number
-  module _ (slot n : ℕ) (l : List (ℕ × Placed B)) (it : Item B) (s : AreStored l) (here : IsIn n slot l) (mine : IsSomeAnd (object_at n l) (λ object. object.item ≡ it)) where
-    own : (p : Placed B) → object_at n l ≡ Some p → p.item ≡ it
-    own p is = subst (λ (v : Option (Placed B)). IsSomeAnd v (λ object. object.item ≡ it)) is mine
-
-    pub refilled_at : (array : arrays.Array) (ws now : List Word) → it.body ≡ Array array → now ≡ ws → change_in slot (with_item (record { count = it.count; touched = true; body = Array (record array { elements = now }) })) l ≡ change_at n (refilled ws) l
-    refilled_at array ws now is same =
-        change_in_is slot n _ l s here
-        ∙ change_same n _ (refilled ws) l s.in_order (λ p at. each p (own p at))
-      where
-        body_is : Array (record array { elements = now }) ≡ with_words ws it.body
-        body_is = ap (λ (es : List Word). Array (record array { elements = es })) same ∙ sym (ap (λ (b : Body B). with_words ws b) is)
-
-        each : (p : Placed B) → p.item ≡ it → with_item (record { count = it.count; touched = true; body = Array (record array { elements = now }) }) p ≡ refilled ws p
-        each p at =
-            ap (λ (b : Body B). with_item (record { count = it.count; touched = true; body = b }) p) body_is
-            ∙ ap (λ (i : Item B). with_item (record { count = i.count; touched = true; body = with_words ws i.body }) p) (sym at)
-
-    pub item_same : (array : arrays.Array) (now : List Word) → it.body ≡ Array array → now ≡ array.elements → change_in slot (with_item (record { count = it.count; touched = it.touched; body = Array (record array { elements = now }) })) l ≡ l
-    item_same array now is same =
-        change_in_is slot n _ l s here
-        ∙ change_same n _ (λ p. p) l s.in_order (λ p at. each p (own p at))
-        ∙ change_id n l
-      where
-        body_is : Array (record array { elements = now }) ≡ it.body
-        body_is = ap (λ (es : List Word). Array (record array { elements = es })) same ∙ sym is
-
-        each : (p : Placed B) → p.item ≡ it → with_item (record { count = it.count; touched = it.touched; body = Array (record array { elements = now }) }) p ≡ p
-        each p at =
-            ap (λ (b : Body B). with_item (record { count = it.count; touched = it.touched; body = b }) p) body_is
-            ∙ ap (λ (i : Item B). with_item i p) (sym at)
-
-    pub array_mine : (array : arrays.Array) → it.body ≡ Array array → stored_array n l ≡ Some array
-    array_mine array is = go (object_at n l) refl
-      where
-        go : (v : Option (Placed B)) → object_at n l ≡ v → option_and_then (λ object. array_of (object.item).body) v ≡ Some array
-        go None at = absurd (subst (λ (v : Option (Placed B)). IsSomeAnd v (λ object. object.item ≡ it)) at mine)
-        go (Some p) at = ap (λ (i : Item B). array_of i.body) (own p at) ∙ ap (λ (b : Body B). array_of b) is
 
   pub in_refilled : (n slot : ℕ) (ws : List Word) (l : List (ℕ × Placed B)) → IsIn n slot l → IsIn n slot (change_at n (refilled ws) l)
   in_refilled n slot ws l h = subst (λ (v : Option (Placed B)). IsSomeAnd v (λ object. object.slot ≡ slot)) (sym (object_at-change n (refilled ws) n l)) (go (nat_eq n n) (object_at n l) h)

@@ -6,9 +6,9 @@ use Rattle.std.proofs.lemmas.Bool.{eq-eqb}
 use Rattle.std.proofs.lemmas.List.Sums.{sum_by-cons}
 use Rattle.ash_host.specs.declared.word.Word.{Word}
 use Rattle.ash_host.specs.Objects.{object_at, IsInOrder, handles_to, handle}
-use Rattle.ash_objects.specs.Store.{Placed}
-use Rattle.ash_objects.specs.Table.{change_at}
-use Rattle.ash_objects.specs.Counting.{fields_in, counted, once_less, change_handle, release_all, face_at}
+use Rattle.ash_slots.specs.Store.{Placed, change_at}
+use Rattle.ash_objects.specs.Counting.{fields_in, release_all, face_at}
+use Rattle.ash_slots.specs.Counting.{counted, once_less, change_handle}
 use Rattle.ash_objects.specs.Collecting.{mark_of}
 use Rattle.ash_objects.proofs.Fields.{hits, handle_face, handle_fields, handle_order, handle_length, handle_each, less_handle}
 use Rattle.ash_objects.proofs.Referring.{handles-cons}

@@ -5,23 +5,22 @@ use Rattle.std.specs.Option.{option_map}
 use Rattle.std.specs.Map.{keys_of}
 use Rattle.std.proofs.lemmas.Bool.{eqb-true, eq-eqb}
 use Rattle.std.proofs.lemmas.List.Elements.{All-nil, All-cons, All-weaker}
-use Rattle.slab.specs.Slab.{Slab, get}
 use Rattle.ash_host.specs.Objects.{object_at, IsInOrder, Lives}
 use Rattle.ash_host.specs.Reach.{is_among}
 use Rattle.ash_host.proofs.Membership.{is_among-numbers}
 use Rattle.ash_host.proofs.Order.{same_in_order, object_here, in_order_behind}
-use Rattle.ash_objects.specs.declared.entry.Item.{Item}
-use Rattle.ash_objects.specs.declared.entry.Entry.{Entry}
-use Rattle.ash_objects.specs.Bodies.{words_of}
-use Rattle.ash_objects.specs.Store.{Placed, placed, placed_in, with_entry, AreStored, IsIn, change_in, with_item, marked_in, unmarked}
-use Rattle.ash_objects.specs.Table.{Living, change_at}
-use Rattle.ash_objects.specs.Counting.{holding, fields_in, counted, living, living_among, living_in, IsTable}
+use Rattle.ash_slots.specs.declared.entry.Item.{Item}
+use Rattle.ash_slots.specs.Bodies.{words_of}
+use Rattle.ash_slots.specs.Store.{Placed, AreStored, IsIn, change_in, with_item, marked_in, unmarked, change_at}
+use Rattle.ash_objects.specs.Table.{Living}
+use Rattle.ash_objects.specs.Counting.{holding, fields_in, living, living_among, living_in, IsTable}
+use Rattle.ash_slots.specs.Counting.{counted}
 use Rattle.ash_objects.specs.Marking.{settled_object, unmark_all}
-use Rattle.ash_objects.proofs.Changing.{object_at-change, length-change, in_order-change, change_in_is, sum_same-change, none_later}
+use Rattle.ash_slots.proofs.Changing.{object_at-change, length-change, in_order-change, change_in_is, sum_same-change, none_later}
 use Rattle.ash_objects.proofs.Counts.{object_at-living, numbers-living, each-change, given-change}
 use Rattle.ash_objects.proofs.Fields.{counted_same}
-use Rattle.ash_objects.proofs.Marks.{appended, object_at-mapped, in_order-mapped}
-use Rattle.ash_objects.proofs.Steps.{change_same}
+use Rattle.ash_objects.proofs.Marks.{object_at-mapped, in_order-mapped}
+use Rattle.ash_slots.proofs.Steps.{change_same}
 
 same_test : (a b : ℕ) → nat_eq a b ≡ nat_eq b a
 same_test a b = go (nat_eq a b) (nat_eq b a) refl refl
@@ -39,20 +38,6 @@ module _ {B : Type 0} where
       go : (b : Bool) → keys_of (cond b ((n, p) ∷ filter (λ e. (e.1.item).touched) rest) (filter (λ e. (e.1.item).touched) rest)) ≡ cond b (n ∷ marked_in rest) (marked_in rest)
       go true = refl
       go false = refl
-
-  -- one entry more of the index
-  pub marked_more : (entries : Slab (Entry B)) (n s : ℕ) (index : List (ℕ × ℕ)) (entry : Entry B) (done : List ℕ) → get entries s ≡ Some entry → (entry.item).touched ≡ true → (done ++ n ∷ []) ++ marked_in (placed_in entries index) ≡ done ++ marked_in (placed_in entries ((n, s) ∷ index))
-  marked_more entries n s index entry done there is =
-      appended done (marked_in (placed_in entries index)) n
-      ∙ ap (λ (b : Bool). done ++ cond b (n ∷ marked_in (placed_in entries index)) (marked_in (placed_in entries index))) (sym is)
-      ∙ ap (λ (l : List ℕ). done ++ l) (sym (cons_marked n (placed s entry) (placed_in entries index)))
-      ∙ ap (λ (v : Option (Entry B)). done ++ marked_in (with_entry n s v (placed_in entries index))) (sym there)
-
-  pub marked_same : (entries : Slab (Entry B)) (n s : ℕ) (index : List (ℕ × ℕ)) (entry : Entry B) (done : List ℕ) → get entries s ≡ Some entry → (entry.item).touched ≡ false → done ++ marked_in (placed_in entries index) ≡ done ++ marked_in (placed_in entries ((n, s) ∷ index))
-  marked_same entries n s index entry done there is =
-      ap (λ (b : Bool). done ++ cond b (n ∷ marked_in (placed_in entries index)) (marked_in (placed_in entries index))) (sym is)
-      ∙ ap (λ (l : List ℕ). done ++ l) (sym (cons_marked n (placed s entry) (placed_in entries index)))
-      ∙ ap (λ (v : Option (Entry B)). done ++ marked_in (with_entry n s v (placed_in entries index))) (sym there)
 
   -- what is written in a slot is a change at a number
   pub unmarked_at : (slot n : ℕ) (l : List (ℕ × Placed B)) (it : Item B) → AreStored l → IsIn n slot l → IsSomeAnd (object_at n l) (λ object. object.item ≡ it) → change_in slot (with_item (record { count = it.count; touched = false; body = it.body })) l ≡ change_at n unmarked l

@@ -4,15 +4,16 @@ use Rattle.std.specs.Prelude.{IsSomeAnd, IsSome, IfSome, slice_get}
 use Rattle.std.specs.Option.{option_map, option_map_or, option_and_then}
 use Rattle.ash_host.specs.declared.word.Word.{Word}
 use Rattle.ash_host.specs.Objects.{object_at, Lives, handle}
-use Rattle.ash_objects.specs.declared.entry.Item.{Item}
-use Rattle.ash_objects.specs.Bodies.{words_of}
-use Rattle.ash_objects.specs.Store.{Placed, IsIn}
-use Rattle.ash_objects.specs.Table.{Living, change_at, fields_holding}
-use Rattle.ash_objects.specs.Counting.{fields_in, counted, living, living_in, AreGiven, IsTable, once_more, once_less, change_handle, written}
-use Rattle.ash_objects.proofs.Changing.{in_order-change}
+use Rattle.ash_slots.specs.declared.entry.Item.{Item}
+use Rattle.ash_slots.specs.Bodies.{words_of}
+use Rattle.ash_slots.specs.Store.{Placed, IsIn, change_at}
+use Rattle.ash_objects.specs.Table.{Living, fields_holding}
+use Rattle.ash_objects.specs.Counting.{fields_in, living, living_in, AreGiven, IsTable}
+use Rattle.ash_slots.specs.Counting.{counted, once_more, once_less, change_handle, written}
+use Rattle.ash_slots.proofs.Changing.{in_order-change}
 use Rattle.ash_objects.proofs.Counts.{object_at-living, count_is, counted_fits, sound_more, sound_less, given-change}
 use Rattle.ash_objects.proofs.Fields.{after_all, sound_field, order_write, handle_order}
-use Rattle.ash_objects.proofs.Steps.{is_in_from}
+use Rattle.ash_slots.proofs.Steps.{is_in_from}
 
 some_within : {A : Type 0} (ws : List A) (i : ℕ) → IsSome (slice_get ws i) → i < length ws
 some_within [] i h = cc

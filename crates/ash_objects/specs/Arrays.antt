@@ -1,22 +1,14 @@
 -- Arrays.
-use Rattle.std.specs.Prelude.{ℕ, ◌-◌, ◌++◌, true, List, length, replicate, Option, None, Some}
+use Rattle.std.specs.Prelude.{ℕ, true, List, Option, None, Some}
 use Rattle.std.specs.Option.{option_and_then}
 use Rattle.ash_host.specs.declared.word.Word.{Word}
-use Rattle.ash_host.specs.Objects.{object_at}
-use Rattle.ash_objects.specs.declared.body.Array as arrays
-use Rattle.ash_objects.specs.declared.body.Body.{Body}
-use Rattle.ash_objects.specs.declared.body.Body.TheVariants.{Script, Array, Host}
-use Rattle.ash_objects.specs.Bodies.{initial_of}
-use Rattle.ash_objects.specs.Store.{Placed, with_item}
+use Rattle.ash_slots.specs.declared.body.Array as arrays
+use Rattle.ash_slots.specs.declared.body.Body.{Body}
+use Rattle.ash_slots.specs.declared.body.Body.TheVariants.{Script, Array, Host}
+use Rattle.ash_slots.specs.Arrays.{array_of, with_words}
 use Rattle.ash_objects.specs.Table.{Living, Table, body_of}
 
 module _ {B : Type 0} where
-  -- the array that an object is; what is none has none
-  abbrev pub array_of : Body B → Option arrays.Array
-  array_of (Script _) = None
-  array_of (Array array) = Some array
-  array_of (Host _) = None
-
   -- the elements of an array; what is none has none
   abbrev pub elements_of : Body B → Option (List Word)
   elements_of (Script _) = None
@@ -31,23 +23,6 @@ module _ {B : Type 0} where
   abbrev pub array_at : ℕ → Table B → Option arrays.Array
   array_at number table = option_and_then array_of (body_of number table)
 
-  -- an array with other elements
-  abbrev pub with_words : List Word → Body B → Body B
-  with_words words (Script script) = Script script
-  with_words words (Array array) = Array (record array { elements = words })
-  with_words words (Host box) = Host box
-
   -- an array with other elements, which touches it
   abbrev pub with_elements : List Word → Living B → Living B
   with_elements words object = record object { touched = true; body = with_words words object.body }
-
-  -- the same of what the code keeps
-  abbrev pub stored_array : ℕ → List (ℕ × Placed B) → Option arrays.Array
-  stored_array number objects = option_and_then (λ object. array_of (object.item).body) (object_at number objects)
-
-  abbrev pub refilled : List Word → Placed B → Placed B
-  refilled words object = with_item (record { count = (object.item).count; touched = true; body = with_words words (object.item).body }) object
-
--- the elements of an array, and then as many initial values of their type as make it so long
-abbrev pub lengthened : ℕ → arrays.Array → List Word
-lengthened many array = array.elements ++ replicate (many - length array.elements) (initial_of array.element)

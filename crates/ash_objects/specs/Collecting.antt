@@ -4,10 +4,11 @@ use Rattle.std.specs.Map.{keys_of}
 use Rattle.ash_host.specs.declared.event.Event.{Event}
 use Rattle.ash_host.specs.declared.event.Event.TheVariants.{Dropped}
 use Rattle.ash_host.specs.Objects.{object_at, Lives, IsInOrder}
-use Rattle.ash_objects.specs.declared.entry.Entry.{Entry}
-use Rattle.ash_objects.specs.Bodies.{is_boxed}
-use Rattle.ash_objects.specs.Store.{Placed}
-use Rattle.ash_objects.specs.Counting.{fields_in, counted, face_at}
+use Rattle.ash_slots.specs.declared.entry.Entry.{Entry}
+use Rattle.ash_slots.specs.Bodies.{is_boxed}
+use Rattle.ash_slots.specs.Store.{Placed}
+use Rattle.ash_objects.specs.Counting.{fields_in, face_at}
+use Rattle.ash_slots.specs.Counting.{counted}
 
 module _ {B : Type 0} where
   -- the number of an object, and whether it is a host object

@@ -4,10 +4,10 @@ use Rattle.std.specs.Option.{option_map, option_map_or}
 use Rattle.std.specs.Map.{values_of}
 use Rattle.ash_host.specs.declared.word.Word.{Word}
 use Rattle.ash_host.specs.Objects.{object_at, Lives, IsInOrder, handle, handles_to}
-use Rattle.ash_objects.specs.declared.entry.Item.{Item}
-use Rattle.ash_objects.specs.Bodies.{words_of, with_word}
-use Rattle.ash_objects.specs.Store.{Placed, with_item}
-use Rattle.ash_objects.specs.Table.{Living, change_at}
+use Rattle.ash_slots.specs.declared.entry.Item.{Item}
+use Rattle.ash_slots.specs.Bodies.{words_of, with_word}
+use Rattle.ash_slots.specs.Store.{Placed, with_item, change_at}
+use Rattle.ash_objects.specs.Table.{Living}
 
 module _ {B : Type 0} where
   -- how many handles to an object another one holds
@@ -17,10 +17,6 @@ module _ {B : Type 0} where
   -- how many handles to an object these hold
   abbrev pub fields_in : ℕ → List (ℕ × Placed B) → ℕ
   fields_in number objects = sum_by (holding number) (values_of objects)
-
-  -- the count that is kept of an object; none where none lives
-  abbrev pub counted : ℕ → List (ℕ × Placed B) → ℕ
-  counted number objects = option_map_or (λ object. (object.item).count) (object_at number objects) 0
 
   -- what a contract sees of an object to which there are so many handles in fields
   abbrev pub living : ℕ → Placed B → Living B
@@ -55,23 +51,6 @@ module _ {B : Type 0} where
   abbrev pub AreGiven : ℕ → List (ℕ × Placed B) → Type 0
   AreGiven last objects = (number : ℕ) → Lives objects number → (0 < number) × (number ≤ last)
 
-  -- an object with another count
-  abbrev pub with_count : ℕ → Item B → Item B
-  with_count count item = record item { count = count }
-
-  -- an object that is counted once more
-  abbrev pub once_more : Placed B → Placed B
-  once_more object = with_item (with_count ((object.item).count + 1) object.item) object
-
-  -- an object that is counted once less; where nothing is left it waits for the sweep
-  abbrev pub once_less : Placed B → Placed B
-  once_less object = record { slot = object.slot; waiting = if (object.item).count == 1 then true else object.waiting; item = with_count ((object.item).count - 1) object.item }
-
-  -- the objects, with the one that a word is a handle to changed, if it is one
-  abbrev pub change_handle : (Placed B → Placed B) → Option ℕ → List (ℕ × Placed B) → List (ℕ × Placed B)
-  change_handle change None objects = objects
-  change_handle change (Some number) objects = change_at number change objects
-
   -- the words of an object; none where none lives
   abbrev pub words_at : ℕ → List (ℕ × Placed B) → List Word
   words_at number objects = option_map_or (λ object. words_of (object.item).body) (object_at number objects) []
@@ -89,10 +68,6 @@ module _ {B : Type 0} where
   abbrev pub release_all : List Word → List (ℕ × Placed B) → List (ℕ × Placed B)
   release_all [] objects = objects
   release_all (word ∷ words) objects = release_all words (change_handle once_less (handle word) objects)
-
-  -- an object with a word at a place, which touches it
-  abbrev pub written : ℕ → Word → Placed B → Placed B
-  written place word object = with_item (record { count = (object.item).count; touched = true; body = with_word place word (object.item).body }) object
 
   -- what holds of the objects of a table
   pub record IsTable (objects : List (ℕ × Placed B)) (last settled : ℕ) : Type 0 where

@@ -3,7 +3,7 @@ use Rattle.std.specs.Prelude.{ℕ, ◌+◌, ◌≤◌, ◌^◌, ◌-◌, true, l
 use Rattle.std.specs.List.{position}
 use Rattle.ash_host.specs.declared.host_object.HostObject.{Ghosts}
 use Rattle.ash_host.specs.Objects.{with_at}
-use Rattle.ash_objects.specs.declared.body.Body.{Body}
+use Rattle.ash_slots.specs.declared.body.Body.{Body}
 use Rattle.ash_objects.specs.Table.{Living, Table}
 
 module _ {B : Type 0} where

@@ -1,8 +1,8 @@
 -- The marks of objects that were made or changed.
 use Rattle.std.specs.Prelude.{ℕ, false, List, [], ◌∷◌, filter, map}
 use Rattle.std.specs.Map.{keys_of}
-use Rattle.ash_objects.specs.Store.{Placed, unmarked}
-use Rattle.ash_objects.specs.Table.{Living, Table, change_at}
+use Rattle.ash_slots.specs.Store.{Placed, unmarked, change_at}
+use Rattle.ash_objects.specs.Table.{Living, Table}
 
 module _ {B : Type 0} where
   -- the objects that were made or changed since the marks were cleared, by ascending number

@@ -1,5 +1,5 @@
 -- What host objects do at calls.
-use Rattle.std.specs.Prelude.{◌≡◌, ℕ, ◌≤◌, true, List, [], ◌∷◌, length, Option, Some, None, slice_get, slice_set}
+use Rattle.std.specs.Prelude.{◌≡◌, ℕ, true, List, [], ◌∷◌, Option, Some, slice_get, slice_set}
 use Rattle.std.specs.Option.{option_and_then}
 use Rattle.ash_host.specs.declared.answer.HostAnswer.{HostAnswer}
 use Rattle.ash_host.specs.declared.answer.HostAnswer.TheVariants.{NoMemory}
@@ -7,26 +7,11 @@ use Rattle.ash_host.specs.declared.event.Event.{Event}
 use Rattle.ash_host.specs.declared.event.Event.TheVariants.{Called}
 use Rattle.ash_host.specs.declared.event.Target.{Target}
 use Rattle.ash_host.specs.declared.host_object.HostObject.{Ghosts}
-use Rattle.ash_host.specs.Calls.{HostCall, SameRelation}
+use Rattle.ash_host.specs.Calls.{HostCall}
 use Rattle.ash_host.specs.Objects.{object_at}
-use Rattle.ash_objects.specs.declared.body.Body.{Body}
-use Rattle.ash_objects.specs.declared.body.Body.TheVariants.{Script, Array, Host}
-use Rattle.ash_objects.specs.Store.{Placed, with_item}
-use Rattle.ash_objects.specs.Table.{Living, Table, change_at, with_object}
-
--- the box of a host object
-abbrev pub box_of : {B : Type 0} → Body B → Option B
-box_of (Script _) = None
-box_of (Array _) = None
-box_of (Host box) = Some box
-
--- A host object answers a call within its relation, at its state before and after, and keeps its kind and its
--- relation. Its state has at most 1,024 bytes.
-pub record Responds {B : Type 0} (G : Ghosts B) (before : B) (call : HostCall) (answer : HostAnswer) (after : B) : Type 0 where
-  pub allowed : G.allows before call (G.state before) answer (G.state after)
-  pub same_kind : G.kind_of after ≡ G.kind_of before
-  pub same_relation : SameRelation (G.allows before) (G.allows after)
-  pub bounded : length (G.state after) ≤ 1024
+use Rattle.ash_slots.specs.declared.body.Body.TheVariants.{Host}
+use Rattle.ash_slots.specs.Responses.{Responds, box_of}
+use Rattle.ash_objects.specs.Table.{Living, Table, with_object}
 
 module _ {B : Type 0} where
   -- the box of the host object of a number
@@ -52,20 +37,6 @@ module _ {B : Type 0} where
     pub was : slice_get old.services place ≡ Some before
     pub responds : Responds G before call answer after
     pub becomes : new ≡ record old { services = slice_set old.services place after }
-
-  -- the same of what the code keeps
-  abbrev pub stored_box : ℕ → List (ℕ × Placed B) → Option B
-  stored_box number objects = option_and_then (λ object. box_of (object.item).body) (object_at number objects)
-
-  abbrev pub boxed : B → Placed B → Placed B
-  boxed box object = with_item (record { count = (object.item).count; touched = true; body = Host box }) object
-
-  pub record AnswersIn (G : Ghosts B) (number : ℕ) (call : HostCall) (answer : HostAnswer) (old new : List (ℕ × Placed B)) : Type 0 where
-    pub before : B
-    pub after : B
-    pub was : stored_box number old ≡ Some before
-    pub responds : Responds G before call answer after
-    pub becomes : new ≡ change_at number (boxed after) old
 
 -- the event of a call, unless the object ran out of memory
 abbrev pub called : Target → ℕ → HostAnswer → List Event

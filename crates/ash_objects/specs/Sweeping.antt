@@ -6,7 +6,7 @@ use Rattle.ash_host.specs.declared.event.Event.{Event}
 use Rattle.ash_host.specs.declared.event.Event.TheVariants.{Dropped}
 use Rattle.ash_host.specs.Objects.{object_at, Lives, handles}
 use Rattle.ash_host.specs.Reach.{Reachable}
-use Rattle.ash_objects.specs.Bodies.{words_of, is_boxed}
+use Rattle.ash_slots.specs.Bodies.{words_of, is_boxed}
 use Rattle.ash_objects.specs.Table.{Living, Table, holds_of, count_of}
 
 module _ {B : Type 0} where

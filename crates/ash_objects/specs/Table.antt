@@ -4,8 +4,8 @@ use Rattle.std.specs.Option.{option_map, option_map_or, option_and_then}
 use Rattle.std.specs.Map.{values_of}
 use Rattle.ash_host.specs.declared.word.Word.{Word}
 use Rattle.ash_host.specs.Objects.{object_at, Lives, handle, handles_to}
-use Rattle.ash_objects.specs.declared.body.Body.{Body}
-use Rattle.ash_objects.specs.Bodies.{words_of, with_word}
+use Rattle.ash_slots.specs.declared.body.Body.{Body}
+use Rattle.ash_slots.specs.Bodies.{words_of, with_word}
 
 -- An object: the slot that it is in, how many holds of it were not undone, whether it was made or changed since the
 -- marks were cleared, and what it is.
@@ -24,11 +24,6 @@ pub record Table (B : Type 0) : Type 0 where
   pub last : ℕ
   pub settled : ℕ
   pub gone : List ℕ
-
--- the entries, with the value at a number changed
-abbrev pub change_at : {A : Type 0} → ℕ → (A → A) → List (ℕ × A) → List (ℕ × A)
-change_at number change [] = []
-change_at number change (e ∷ entries) = (e.0, if nat_eq number e.0 then change e.1 else e.1) ∷ change_at number change entries
 
 module _ {B : Type 0} where
   -- how many fields of these objects hold an object

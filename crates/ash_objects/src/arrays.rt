@@ -2,14 +2,14 @@
 ghost use Rattle.std.specs.Prelude.{◌≡◌, ◌<◌, ◌≤◌, ◌-◌, ◌++◌, ◌∷◌, ◌↔◌, [], take, length, slice_get, Some, IsSome, IfSome, OnOk, OnErr, IsErrOf};
 ghost use Rattle.ash_objects.specs.declared.arrays.LengthFault.{LengthFault};
 ghost use Rattle.ash_objects.specs.Table.{IsAlive, with_object, with_field};
-ghost use Rattle.ash_objects.specs.Arrays.{elements_at, array_at, with_elements, lengthened};
+ghost use Rattle.ash_objects.specs.Arrays.{elements_at, array_at, with_elements};
+ghost use Rattle.ash_slots.specs.Arrays.{lengthened};
 
-use crate::body::Body;
 use crate::counting::release_words;
-use crate::elements::{grow_elements, put_elements, take_elements};
 use crate::making::MAX_ELEMENTS;
 use crate::objects::Objects;
 use ash_host::{NoMemory, Word};
+use ash_slots::{Body, grow_elements, put_elements, take_elements};
 
 /// An index is not below the length of an array.
 #[derive(Clone, Copy, Debug, PartialEq, Eq)]

@@ -6,9 +6,9 @@ ghost use Rattle.ash_host.specs.Calls.{Start, Invoke, Get, Set};
 ghost use Rattle.ash_objects.specs.Table.{slot_of};
 ghost use Rattle.ash_objects.specs.Responses.{Answers, ServiceAnswers, box_at, called};
 
-use crate::calling::{box_in, invoke_in, set_in, start_in};
 use crate::objects::Objects;
 use ash_host::{Event, HostAnswer, HostObject, NoMemory, Target, Word};
+use ash_slots::{box_in, invoke_in, set_in, start_in};
 
 impl<B: HostObject> Objects<B> {
     /// Begins the life of a host object with the arguments of a factory.

@@ -3,17 +3,15 @@ ghost use Rattle.std.specs.Prelude.{All, ◌≡◌, ◌≢◌, ◌<◌, ◌≤�
 ghost use Rattle.std.specs.List.{remove, position};
 ghost use Rattle.ash_host.specs.declared.event.Event.{Event};
 ghost use Rattle.ash_objects.specs.declared.making.MakeFault.{MakeFault};
-ghost use Rattle.ash_objects.specs.declared.body.Body.{Body};
-ghost use Rattle.ash_objects.specs.Bodies.{words_of, initial_of};
+ghost use Rattle.ash_slots.specs.declared.body.Body.{Body};
+ghost use Rattle.ash_slots.specs.Bodies.{words_of, initial_of};
 ghost use Rattle.ash_objects.specs.Table.{slot_of, IsAlive};
 ghost use Rattle.ash_objects.specs.Making.{IsFull, IsSpent, first_of_kind, with_made};
 
-use crate::body::{Array, Body, Element, Script};
 use crate::counting::refer_words;
-use crate::entry::Item;
 use crate::objects::Objects;
-use crate::words::Words;
 use ash_host::{Event, HostObject, NoMemory};
+use ash_slots::{Array, Body, Element, Item, Script, Words};
 
 /// How many objects may live at once.
 pub const MAX_OBJECTS: usize = 4096;

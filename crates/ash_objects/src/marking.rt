@@ -1,13 +1,12 @@
 //! The marks of objects that were made, changed or taken away.
 ghost use Rattle.std.specs.Prelude.{◌≡◌, ℕ, All, IfOk, OnOk, OnErr};
 ghost use Rattle.ash_host.specs.Objects.{Lives};
-ghost use Rattle.ash_objects.specs.Store.{unmarked};
-ghost use Rattle.ash_objects.specs.Table.{change_at};
+ghost use Rattle.ash_slots.specs.Store.{unmarked, change_at};
 ghost use Rattle.ash_objects.specs.Marking.{marked_of, unmark_all, without_marks};
 
 use crate::objects::Objects;
-use crate::store::Store;
 use ash_host::{HostObject, NoMemory};
+use ash_slots::Store;
 use std::mem;
 
 /// The numbers of the objects that a change concerns.

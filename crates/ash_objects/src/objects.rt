@@ -4,10 +4,8 @@ ghost use Rattle.std.specs.Option.{option_copied};
 ghost use Rattle.ash_host.specs.Objects.{Lives};
 ghost use Rattle.ash_objects.specs.Table.{slot_of, body_of, count_of, holds_of, field_of, IsInUse, IsAlive, held, unheld, with_object, with_field};
 
-use crate::body::Body;
-use crate::counting::{count_less, count_more, read_word, refer, release, write_word};
-use crate::store::Store;
 use ash_host::{HostObject, Word};
+use ash_slots::{Body, Store, count_less, count_more, read_word, refer, release, write_word};
 use std::alloc::Global;
 use std::marker::Model;
 

@@ -2,17 +2,17 @@
 ghost use Rattle.std.specs.Prelude.{◌≡◌, ◌<◌, ◌≤◌, ◌+◌, ◌++◌, ℕ, Bool, List, [], length, map, nat_eq, IsSomeAnd, OnOk, OnErr, vec_len, vec_capacity};
 ghost use Rattle.std.specs.Map.{remove_entry};
 ghost use Rattle.ash_host.specs.Objects.{object_at, IsInOrder};
-ghost use Rattle.ash_objects.specs.Bodies.{words_of};
-ghost use Rattle.ash_objects.specs.Store.{IsIn, IsIdle, AreStored, NoneWaits};
-ghost use Rattle.ash_objects.specs.Counting.{fields_in, counted, release_all, AreCounted};
+ghost use Rattle.ash_slots.specs.Bodies.{words_of};
+ghost use Rattle.ash_slots.specs.Store.{IsIn, IsIdle, AreStored, NoneWaits};
+ghost use Rattle.ash_objects.specs.Counting.{fields_in, release_all, AreCounted};
+ghost use Rattle.ash_slots.specs.Counting.{counted};
 ghost use Rattle.ash_objects.specs.Collecting.{HaveGone, AreInOrder, entry_mark, marked_since, marked_drops};
 ghost use Rattle.ash_objects.specs.Sweeping.{Collects, RanksFall, LeavesReachable, gone_from, drops};
 
 use crate::counting::release_words;
-use crate::entry::Entry;
 use crate::objects::Objects;
-use crate::store::Store;
 use ash_host::{Event, HostObject, NoMemory};
+use ash_slots::{Entry, Store};
 
 // Takes an object that is counted nowhere out of its slot, and the handles among its words out of the counts.
 fn take_idle<B>(store: &mut Store<B>, slot: usize) -> Entry<B>

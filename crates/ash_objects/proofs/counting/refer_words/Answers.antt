@@ -2,8 +2,9 @@ use Rattle.std.proofs.Common.{◌≡◌, ◌+◌, ℕ, List, ap, sym, ◌∙◌,
 use Rattle.std.specs.Prelude.{slice_get, IfSome}
 use Rattle.ash_host.specs.declared.word.Word.{Word}
 use Rattle.ash_host.specs.Objects.{Lives, handle}
-use Rattle.ash_objects.specs.Store.{Placed}
-use Rattle.ash_objects.specs.Counting.{counted, refer_all, words_at, change_handle, once_more}
+use Rattle.ash_slots.specs.Store.{Placed}
+use Rattle.ash_slots.specs.Counting.{counted, change_handle, once_more}
+use Rattle.ash_objects.specs.Counting.{refer_all, words_at}
 use Rattle.ash_objects.proofs.Fields.{face_more, in_face}
 use Rattle.ash_objects.proofs.Referring.{rest_at, rest_none, word_alive, alive_face, more_most, words_item, word_within, word_got, words_at_face}
 use Rattle.ash_objects.proofs.counting.refer_words.Goals as goal

@@ -1,7 +1,7 @@
 use Rattle.std.proofs.Common.{ℕ, List, ◌+◌, ap, sym, ◌∙◌, drop, get_or, false}
 use Rattle.ash_host.specs.declared.word.Word.{Word}
 use Rattle.ash_host.specs.declared.word.Word.TheVariants.{Bool}
-use Rattle.ash_objects.specs.Store.{Placed}
+use Rattle.ash_slots.specs.Store.{Placed}
 use Rattle.ash_objects.specs.Counting.{release_all}
 use Rattle.ash_objects.proofs.Referring.{rest_got, rest_over}
 use Rattle.ash_objects.proofs.Releasing.{covers_first, covers_rest}

@@ -1,5 +1,5 @@
 use Rattle.std.proofs.Common.{sym, ◌∙◌}
-use Rattle.ash_objects.proofs.Steps.{is_in_from}
+use Rattle.ash_slots.proofs.Steps.{is_in_from}
 use Rattle.ash_objects.proofs.Touching.{unmarked_at}
 use Rattle.ash_objects.proofs.marking.unmark.Goals as goal
 

@@ -1,7 +1,7 @@
 use Rattle.std.proofs.Common.{◌+◌, ℕ, List, sym, ap, ◌∙◌, drop, get_or}
 use Rattle.std.proofs.lemmas.List.Elements.{All-tail}
 use Rattle.ash_host.specs.Objects.{Lives}
-use Rattle.ash_objects.specs.Store.{Placed}
+use Rattle.ash_slots.specs.Store.{Placed}
 use Rattle.ash_objects.specs.Marking.{unmark_all}
 use Rattle.ash_objects.proofs.Referring.{rest_got}
 use Rattle.ash_objects.proofs.Touching.{all_unmarked}

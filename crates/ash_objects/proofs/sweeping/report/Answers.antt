@@ -1,5 +1,5 @@
 use Rattle.std.proofs.Common.{◌≡◌, ◌++◌, ◌∷◌, ◌+◌, List, map, drop, sym, ap, ◌∙◌, arith}
-use Rattle.ash_objects.specs.declared.entry.Entry.{Entry}
+use Rattle.ash_slots.specs.declared.entry.Entry.{Entry}
 use Rattle.ash_objects.specs.Collecting.{entry_mark, marked_since, marked_drops}
 use Rattle.ash_objects.proofs.Referring.{rest_got, rest_over}
 use Rattle.ash_objects.proofs.Marks.{since_more, since_same, drops_more, drops_same, nothing_more}

@@ -1,6 +1,6 @@
 use Rattle.std.proofs.Common.{map, ◌∙◌, rules}
 use Rattle.std.proofs.lemmas.List.Sorted.{IsNonDecreasingBy-from_sort_by_key, sum_by-IsPermutation}
-use Rattle.ash_objects.specs.declared.entry.Entry.{Entry}
+use Rattle.ash_slots.specs.declared.entry.Entry.{Entry}
 use Rattle.ash_objects.specs.Collecting.{entry_mark}
 use Rattle.ash_objects.proofs.Sorting.{sorted_same}
 use Rattle.ash_objects.proofs.Marks.{non_decreasing-marks, sum-marks}

@@ -1,7 +1,7 @@
 use Rattle.std.proofs.Common.{sym, ap, ◌∙◌, Option}
 use Rattle.std.specs.Option.{option_map}
-use Rattle.ash_objects.specs.Store.{Placed}
-use Rattle.ash_objects.proofs.Steps.{is_in_from, none_from}
+use Rattle.ash_slots.specs.Store.{Placed}
+use Rattle.ash_slots.proofs.Steps.{is_in_from, none_from}
 use Rattle.ash_objects.proofs.Views.{body_view, body_item}
 use Rattle.ash_objects.proofs.objects.Objects.body.Goals as goal
 

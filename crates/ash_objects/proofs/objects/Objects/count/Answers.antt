@@ -1,8 +1,8 @@
 use Rattle.std.proofs.Common.{sym, ap, ◌∙◌, Option}
 use Rattle.std.specs.Option.{option_map_or}
-use Rattle.ash_objects.specs.Store.{Placed}
+use Rattle.ash_slots.specs.Store.{Placed}
 use Rattle.ash_objects.proofs.Counts.{count_is}
-use Rattle.ash_objects.proofs.Steps.{is_in_from, counted_item, none_from}
+use Rattle.ash_slots.proofs.Steps.{is_in_from, counted_item, none_from}
 use Rattle.ash_objects.proofs.objects.Objects.count.Goals as goal
 
 pub item-requires : goal.item-requires

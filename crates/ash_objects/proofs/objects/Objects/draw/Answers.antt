@@ -2,7 +2,7 @@ use Rattle.std.proofs.Common.{rules, ◌≡◌, refl, arith, sym, ap, ◌∙◌,
 use Rattle.std.specs.Prelude.{IfSome}
 use Rattle.std.proofs.lemmas.List.Elements.{All-nil}
 use Rattle.ash_host.specs.Objects.{with_at, handle, Lives}
-use Rattle.ash_objects.specs.declared.body.Body.TheVariants.{Host}
+use Rattle.ash_slots.specs.declared.body.Body.TheVariants.{Host}
 use Rattle.ash_objects.specs.Counting.{living_in}
 use Rattle.ash_objects.specs.Making.{made}
 use Rattle.ash_objects.proofs.Newcomers.{length-living, got, drawn_is, view_new, table_new, absent}

@@ -3,13 +3,15 @@ use Rattle.std.specs.Prelude.{IsSome, IfSome}
 use Rattle.std.specs.Option.{option_and_then}
 use Rattle.ash_host.specs.declared.word.Word.{Word}
 use Rattle.ash_host.specs.Objects.{IsInOrder, Lives, handle}
-use Rattle.ash_objects.specs.Bodies.{initial_of}
-use Rattle.ash_objects.specs.Arrays.{array_at, array_of, with_elements}
-use Rattle.ash_objects.specs.Store.{Placed}
+use Rattle.ash_slots.specs.Bodies.{initial_of}
+use Rattle.ash_objects.specs.Arrays.{array_at, with_elements}
+use Rattle.ash_slots.specs.Arrays.{array_of}
+use Rattle.ash_slots.specs.Store.{Placed}
 use Rattle.ash_objects.specs.Table.{Table, with_object, with_field, slot_of, field_of}
 use Rattle.ash_objects.proofs.Views.{slot_seen}
-use Rattle.ash_objects.proofs.Steps.{none_from}
-use Rattle.ash_objects.proofs.Refilling.{found_array, some_of, some_if, if_some, elements_array, order_view, one_longer, field_there, slot_there, alive_there, written_there}
+use Rattle.ash_slots.proofs.Steps.{none_from}
+use Rattle.ash_objects.proofs.Refilling.{found_array, elements_array, order_view, one_longer, field_there, slot_there, alive_there, written_there}
+use Rattle.ash_slots.proofs.Options.{some_of, some_if, if_some}
 use Rattle.ash_objects.proofs.objects.Objects.insert_last.Goals as goal
 
 pub unreachable-requires : goal.unreachable-requires

@@ -1,7 +1,8 @@
 use Rattle.std.proofs.Common.{refl, sym, subst, ◌∙◌}
 use Rattle.std.specs.Prelude.{IsSome}
 use Rattle.ash_objects.proofs.Views.{in_view}
-use Rattle.ash_objects.proofs.Refilling.{found_array, some_if, if_some, array_view, view_longer, table_longer}
+use Rattle.ash_objects.proofs.Refilling.{found_array, array_view, view_longer, table_longer}
+use Rattle.ash_slots.proofs.Options.{some_if, if_some}
 use Rattle.ash_objects.proofs.objects.Objects.lengthen.Goals as goal
 
 pub grow_elements-requires : goal.grow_elements-requires

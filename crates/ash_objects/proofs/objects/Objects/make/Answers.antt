@@ -1,7 +1,7 @@
 use Rattle.std.proofs.Common.{◌≡◌, refl, arith, ap, ◌∙◌, ◌<◌, ◌+◌, length, true}
 use Rattle.ash_host.specs.Objects.{with_at}
-use Rattle.ash_objects.specs.Bodies.{words_of}
-use Rattle.ash_objects.specs.Store.{Placed}
+use Rattle.ash_slots.specs.Bodies.{words_of}
+use Rattle.ash_slots.specs.Store.{Placed}
 use Rattle.ash_objects.specs.Counting.{living_in, refer_all}
 use Rattle.ash_objects.specs.Making.{made}
 use Rattle.ash_objects.proofs.Referring.{all_alive_view}

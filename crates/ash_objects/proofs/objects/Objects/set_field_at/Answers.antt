@@ -1,9 +1,8 @@
 use Rattle.std.proofs.Common.{◌≡◌, ◌<◌, refl, sym, ap, ◌∙◌, List, length, Some, subst, ℕ}
 use Rattle.std.specs.Prelude.{slice_get, IfSome}
 use Rattle.ash_host.specs.Objects.{handle}
-use Rattle.ash_objects.specs.Store.{Placed}
-use Rattle.ash_objects.specs.Table.{change_at}
-use Rattle.ash_objects.specs.Counting.{counted, change_handle, once_more, written}
+use Rattle.ash_slots.specs.Store.{Placed, change_at}
+use Rattle.ash_slots.specs.Counting.{counted, change_handle, once_more, written}
 use Rattle.ash_objects.proofs.Fields.{before_counted, view_field, face_more, in_face, words_face}
 use Rattle.ash_objects.proofs.Views.{in_view, place_view, alive_view, fits_view, table_field}
 use Rattle.ash_objects.proofs.objects.Objects.set_field_at.Goals as goal

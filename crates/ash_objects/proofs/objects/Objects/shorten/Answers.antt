@@ -1,12 +1,12 @@
 use Rattle.std.proofs.Common.{◌≡◌, ℕ, List, [], refl, sym, ap, ◌∙◌, subst, take, drop}
 use Rattle.std.specs.Prelude.{IsSome}
 use Rattle.ash_host.specs.declared.word.Word.{Word}
-use Rattle.ash_objects.specs.Arrays.{stored_array, refilled}
-use Rattle.ash_objects.specs.Store.{Placed, IsIn}
-use Rattle.ash_objects.specs.Table.{change_at}
+use Rattle.ash_slots.specs.Arrays.{stored_array, refilled}
+use Rattle.ash_slots.specs.Store.{Placed, IsIn, change_at}
 use Rattle.ash_objects.specs.Counting.{release_all}
 use Rattle.ash_objects.proofs.Views.{in_view}
-use Rattle.ash_objects.proofs.Refilling.{found_array, some_if, if_some, array_view, covers_shorter, in_shorter, array_shorter, view_shorter, table_shorter}
+use Rattle.ash_objects.proofs.Refilling.{found_array, array_view, covers_shorter, in_shorter, array_shorter, view_shorter, table_shorter}
+use Rattle.ash_slots.proofs.Options.{some_if, if_some}
 use Rattle.ash_objects.proofs.objects.Objects.shorten.Goals as goal
 
 pub take_elements-words-requires : goal.take_elements-words-requires

@@ -1,6 +1,6 @@
 use Rattle.std.proofs.Common.{◌≡◌, ◌++◌, ℕ, Bool, List, map, ap, ◌∙◌}
 use Rattle.ash_host.specs.declared.event.Event.{Event}
-use Rattle.ash_objects.specs.declared.entry.Entry.{Entry}
+use Rattle.ash_slots.specs.declared.entry.Entry.{Entry}
 use Rattle.ash_objects.specs.Counting.{living_in}
 use Rattle.ash_objects.specs.Collecting.{entry_mark, marked_since, marked_drops}
 use Rattle.ash_objects.specs.Sweeping.{gone_from}

@@ -1,5 +1,5 @@
 use Rattle.std.proofs.Common.{◌≡◌, ◌++◌, ℕ, List, sym, ap, ◌∙◌, refl}
-use Rattle.ash_objects.specs.Store.{marked_in}
+use Rattle.ash_slots.specs.Store.{marked_in}
 use Rattle.ash_objects.specs.Marking.{unmark_all}
 use Rattle.ash_objects.proofs.Touching.{marked_live, marked_is, cleared_table, cleared_view}
 use Rattle.ash_objects.proofs.objects.Objects.touched.Goals as goal

@@ -1,0 +1,35 @@
+-- The elements of the array in a slot.
+use Rattle.std.specs.Prelude.{ℕ, ◌-◌, ◌++◌, true, List, length, replicate, Option, None, Some}
+use Rattle.std.specs.Option.{option_and_then}
+use Rattle.ash_host.specs.declared.word.Word.{Word}
+use Rattle.ash_host.specs.Objects.{object_at}
+use Rattle.ash_slots.specs.declared.body.Array as arrays
+use Rattle.ash_slots.specs.declared.body.Body.{Body}
+use Rattle.ash_slots.specs.declared.body.Body.TheVariants.{Script, Array, Host}
+use Rattle.ash_slots.specs.Bodies.{initial_of}
+use Rattle.ash_slots.specs.Store.{Placed, with_item}
+
+module _ {B : Type 0} where
+  -- the array that an object is; what is none has none
+  abbrev pub array_of : Body B → Option arrays.Array
+  array_of (Script _) = None
+  array_of (Array array) = Some array
+  array_of (Host _) = None
+
+  -- the array of a number
+  abbrev pub stored_array : ℕ → List (ℕ × Placed B) → Option arrays.Array
+  stored_array number objects = option_and_then (λ object. array_of (object.item).body) (object_at number objects)
+
+  -- an array with other elements
+  abbrev pub with_words : List Word → Body B → Body B
+  with_words words (Script script) = Script script
+  with_words words (Array array) = Array (record array { elements = words })
+  with_words words (Host box) = Host box
+
+  -- an array with other elements, which touches it
+  abbrev pub refilled : List Word → Placed B → Placed B
+  refilled words object = with_item (record { count = (object.item).count; touched = true; body = with_words words (object.item).body }) object
+
+-- the elements of an array, and then as many initial values of their type as make it so long
+abbrev pub lengthened : ℕ → arrays.Array → List Word
+lengthened many array = array.elements ++ replicate (many - length array.elements) (initial_of array.element)

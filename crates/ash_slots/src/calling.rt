@@ -1,0 +1,73 @@
+//! Calls of the host object in a slot.
+ghost use Rattle.std.specs.Prelude.{◌≡◌, ℕ, IsSome, Some};
+ghost use Rattle.ash_host.specs.declared.answer.HostAnswer.{HostAnswer};
+ghost use Rattle.ash_host.specs.Calls.{Start, Invoke, Get, Set};
+ghost use Rattle.ash_slots.specs.Store.{IsIn, IsOccupied, AreStored};
+ghost use Rattle.ash_slots.specs.Responses.{AnswersIn, stored_box};
+
+use crate::body::Body;
+use crate::store::Store;
+use ash_host::{HostAnswer, HostObject, Word};
+
+/// Begins the life of the host object in a slot.
+pub fn start_in<B: HostObject>(store: &mut Store<B>, slot: usize, args: &[Word]) -> HostAnswer
+    requires { (number : ℕ) × IsIn number slot store.old.objects × IsSome (stored_box number store.old.objects) }
+    ensures { (number : ℕ) → IsIn number slot store.old.objects
+        → AnswersIn B.HostObject number (Start args.now) result store.old.objects store.new.objects }
+{
+    let item = store.item_mut(slot);
+    item.touched = true;
+    match &mut item.body {
+        Body::Host(object) => object.start(args),
+        Body::Script(_) => unreachable!(),
+        Body::Array(_) => unreachable!(),
+    }
+}
+
+/// Runs a method of the host object in a slot.
+pub fn invoke_in<B: HostObject>(
+    store: &mut Store<B>,
+    slot: usize,
+    method: u16,
+    args: &[Word],
+) -> HostAnswer
+    requires { (number : ℕ) × IsIn number slot store.old.objects × IsSome (stored_box number store.old.objects) }
+    ensures { (number : ℕ) → IsIn number slot store.old.objects
+        → AnswersIn B.HostObject number (Invoke method args.now) result store.old.objects store.new.objects }
+{
+    let item = store.item_mut(slot);
+    item.touched = true;
+    match &mut item.body {
+        Body::Host(object) => object.invoke(method, args),
+        Body::Script(_) => unreachable!(),
+        Body::Array(_) => unreachable!(),
+    }
+}
+
+/// Writes a property of the host object in a slot.
+pub fn set_in<B: HostObject>(store: &mut Store<B>, slot: usize, prop: u16, value: Word)
+    requires { (number : ℕ) × IsIn number slot store.old.objects × IsSome (stored_box number store.old.objects) }
+    ensures { (number : ℕ) → IsIn number slot store.old.objects
+        → AnswersIn B.HostObject number (Set prop value) HostAnswer.Nothing store.old.objects store.new.objects }
+{
+    let item = store.item_mut(slot);
+    item.touched = true;
+    match &mut item.body {
+        Body::Host(object) => object.set(prop, value),
+        Body::Script(_) => unreachable!(),
+        Body::Array(_) => unreachable!(),
+    }
+}
+
+/// The box of the host object in a slot.
+pub fn box_in<B>(store: &Store<B>, slot: usize) -> &B
+    requires { (number : ℕ) × IsIn number slot store.now.objects × IsSome (stored_box number store.now.objects) }
+    ensures { (number : ℕ) → IsIn number slot store.now.objects
+        → stored_box number store.now.objects ≡ Some result.now }
+{
+    match &store.item(slot).body {
+        Body::Host(object) => object,
+        Body::Script(_) => unreachable!(),
+        Body::Array(_) => unreachable!(),
+    }
+}

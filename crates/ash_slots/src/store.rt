@@ -1,0 +1,216 @@
+//! Objects in slots, found by their numbers.
+ghost use Rattle.std.specs.Prelude.{◌≡◌, ◌≤◌, ◌+◌, ◌↔◌, ◌++◌, vec_len, vec_capacity, IsTrue, ℕ, [], true, false, length, option_map, nat_eq, IsSomeAnd, IfSome, IfNone, OnSome, IfOk, IfErr, OnErr, Some, None};
+ghost use Rattle.std.specs.Map.{remove_entry};
+ghost use Rattle.ash_host.specs.Objects.{object_at, with_at, IsInOrder};
+ghost use Rattle.std.specs.Borrow.{sem};
+ghost use Rattle.ash_slots.specs.Store.{IsIn, IsOccupied, AreStored, IsIdle, NoneWaits, marked_in, change_in, with_waiting};
+
+use crate::entry::{Entry, Item};
+use slab::Slab;
+use std::alloc::{AllocFailed, Global};
+use std::collections::BTreeMap;
+use std::marker::Model;
+
+/// Objects in slots, found by their numbers, and a list of those that the next sweep looks at.
+#[derive(Drop)]
+pub struct Store<B> {
+    entries: Slab<Entry<B>>,
+    /// The slot of each number.
+    index: BTreeMap<u64, usize>,
+    /// The slots that the next sweep looks at. Each entry has room in it.
+    idle: Vec<usize>,
+}
+
+impl<B> Model for Store<B> {
+    ghost use Rattle.std.specs.Prelude.{length, vec_capacity};
+    ghost use Rattle.ash_slots.specs.Store.{Store as Shelf, placed_in, IsStored};
+
+    ghost Value = { Shelf B };
+
+    ghost view = { λ s. record {
+      objects = placed_in s.entries s.index.entries;
+      pending = length s.idle.items;
+      room = vec_capacity s.idle;
+    } };
+
+    ghost invariant = { λ s. IsStored s.entries s.index.entries s.idle.items (vec_capacity s.idle) };
+}
+
+impl<B> Store<B> {
+    ghost use Rattle.ash_slots.specs.Lending.{lends_item};
+
+    /// No objects.
+    pub fn new(alloc: Global) -> Store<B>
+        ensures objects { result.objects ≡ [] }
+    {
+        Store {
+            entries: Slab::new(alloc),
+            index: BTreeMap::new(alloc),
+            idle: Vec::new(alloc),
+        }
+    }
+
+    /// The slot of the object of a number.
+    pub fn slot(&self, number: u64) -> Option<usize>
+        ensures { result ≡ option_map (λ object. object.slot) (object_at number self.now.objects) }
+    {
+        self.index.get(&number).copied()
+    }
+
+    /// The object in a slot.
+    pub fn item(&self, slot: usize) -> &Item<B>
+        requires { IsOccupied slot self.now.objects }
+        ensures { (number : ℕ) → IsIn number slot self.now.objects
+            → IsSomeAnd (object_at number self.now.objects) (λ object. object.item ≡ result.now) }
+    {
+        let Some(entry) = self.entries.get(slot) else {
+            unreachable!()
+        };
+        &entry.item
+    }
+
+    /// The object in a slot, to change it.
+    pub fn item_mut(&mut self, slot: usize) -> &mut Item<B>
+        requires { IsOccupied slot self.old.objects }
+        ensures* writes_back { sem 𝓛 (lends_item B.row self.entry slot result) }
+        ensures value { (number : ℕ) → IsIn number slot self.old.objects
+            → IsSomeAnd (object_at number self.old.objects) (λ object. object.item ≡ result.now) }
+        ensures stored { AreStored self.old.objects }
+    {
+        let Some(entry) = self.entries.get_mut(slot) else {
+            unreachable!()
+        };
+        &mut entry.item
+    }
+
+    /// How many objects there are.
+    pub fn len(&self) -> usize
+        ensures len { result ≡ length self.now.objects }
+        ensures stored { AreStored self.now.objects }
+    {
+        self.index.len()
+    }
+
+    /// The number of the object in a slot.
+    pub fn number(&self, slot: usize) -> u64
+        requires { IsOccupied slot self.now.objects }
+        ensures { (number : ℕ) → IsIn number slot self.now.objects → result ≡ number }
+    {
+        let Some(entry) = self.entries.get(slot) else {
+            unreachable!()
+        };
+        entry.number
+    }
+
+    /// Whether the object in a slot is counted nowhere. The slot may be empty.
+    pub fn is_idle(&self, slot: usize) -> bool
+        ensures { IsTrue result ↔ IsIdle slot self.now.objects }
+    {
+        match self.entries.get(slot) {
+            Some(entry) => entry.item.count == 0,
+            None => false,
+        }
+    }
+
+    /// Appends the numbers of the objects that were made or changed since the marks were cleared.
+    pub fn append_marked(&self, numbers: &mut Vec<u64>)
+        requires { vec_len numbers.old + length self.now.objects ≤ vec_capacity numbers.old }
+        ensures { numbers.new.items ≡ numbers.old.items ++ marked_in self.now.objects }
+    {
+        for (number, slot) in &self.index {
+            let Some(entry) = self.entries.get(*slot) else {
+                unreachable!()
+            };
+            if entry.item.touched {
+                numbers.push_reserved(*number);
+            }
+        }
+    }
+
+    /// Has the next sweep look at a slot.
+    pub fn await_sweep(&mut self, slot: usize)
+        requires { IsOccupied slot self.old.objects }
+        ensures objects { self.new.objects ≡ change_in slot (with_waiting true) self.old.objects }
+        ensures room { self.new.room ≡ self.old.room }
+        ensures fits { self.new.pending ≤ self.new.room }
+        ensures stored { AreStored self.old.objects }
+    {
+        let Some(entry) = self.entries.get_mut(slot) else {
+            unreachable!()
+        };
+        if !entry.waiting {
+            entry.waiting = true;
+            self.idle.push_reserved(slot);
+        }
+    }
+
+    /// Whether no slot is listed for the next sweep.
+    pub fn none_waits(&self) -> bool
+        ensures { IsTrue result → NoneWaits self.now.objects }
+    {
+        self.idle.is_empty()
+    }
+
+    /// Takes a slot from the list of those that the next sweep looks at. The slot may be empty.
+    pub fn next_waiting(&mut self) -> Option<usize>
+        ensures objects { IfSome result (λ slot. self.new.objects ≡ change_in slot (with_waiting false) self.old.objects) }
+        ensures fewer { OnSome result (self.new.pending + 1 ≡ self.old.pending) }
+        ensures room { self.new.room ≡ self.old.room }
+        ensures same { IfNone result (self.new ≡ self.old) }
+        ensures none { IfNone result (NoneWaits self.old.objects) }
+        ensures fits { self.old.pending ≤ self.old.room }
+        ensures stored { AreStored self.old.objects }
+    {
+        let Some(slot) = self.idle.pop() else {
+            return None;
+        };
+        let Some(entry) = self.entries.get_mut(slot) else {
+            return Some(slot);
+        };
+        entry.waiting = false;
+        Some(slot)
+    }
+
+    /// Puts an object of a new number into a slot. The next sweep looks at it.
+    pub fn insert(&mut self, number: u64, item: Item<B>) -> Result<usize, AllocFailed<Item<B>>>
+        requires { object_at number self.old.objects ≡ None }
+        ensures objects { IfOk result (λ slot. self.new.objects
+            ≡ with_at number (record { slot = slot; waiting = true; item = item }) self.old.objects) }
+        ensures unchanged { OnErr result (self.new.objects ≡ self.old.objects) }
+        ensures given_back { IfErr result (λ failed. failed.value ≡ item) }
+    {
+        if self.entries.reserve(1).is_err() {
+            return Err(AllocFailed { value: item });
+        }
+        let room = self.entries.capacity();
+        if self.idle.reserve(room).is_err() {
+            return Err(AllocFailed { value: item });
+        }
+        let slot = self.entries.vacant_key();
+        if self.index.insert(number, slot).is_err() {
+            return Err(AllocFailed { value: item });
+        }
+        self.entries.insert_reserved(Entry {
+            number,
+            waiting: true,
+            item,
+        });
+        self.idle.push_reserved(slot);
+        Ok(slot)
+    }
+
+    /// Takes the object out of a slot.
+    pub fn remove(&mut self, slot: usize) -> Entry<B>
+        requires { IsOccupied slot self.old.objects }
+        ensures number { IsIn result.number slot self.old.objects }
+        ensures item { IsSomeAnd (object_at result.number self.old.objects) (λ object. object.item ≡ result.item) }
+        ensures objects { self.new.objects ≡ remove_entry (nat_eq result.number) self.old.objects }
+        ensures in_order { IsInOrder self.new.objects }
+        ensures room { self.new.room ≡ self.old.room }
+        ensures pending { self.new.pending ≡ self.old.pending }
+    {
+        let entry = self.entries.remove(slot);
+        self.index.remove(&entry.number);
+        entry
+    }
+}
