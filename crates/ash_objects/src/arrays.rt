@@ -108,20 +108,22 @@ impl<B> Objects<B> {
     }
 
     /// Gives an array a length: what is beyond it goes, and what it holds is counted once less for each element that
-    /// held it; what is added is zero or null.
+    /// held it; what is added is zero or null. It takes memory only where the array has fewer elements.
     pub fn resize(&mut self, number: u64, len: usize) -> Result<(), LengthFault>
         requires { IsSome (array_at number self.old) }
         ensures long { IsErrOf result LengthFault.TooLong ↔ (4096 < len) }
-        ensures shorter { OnOk result (IfSome (array_at number self.old) (λ array. len < length array.elements
+        ensures shorter { OnOk result (IfSome (array_at number self.old) (λ array. len ≤ length array.elements
             → self.new ≡ with_object number (with_elements (take len array.elements)) self.old)) }
-        ensures longer { OnOk result (IfSome (array_at number self.old) (λ array. length array.elements ≤ len
+        ensures longer { OnOk result (IfSome (array_at number self.old) (λ array. length array.elements < len
             → self.new ≡ with_object number (with_elements (lengthened len array)) self.old)) }
+        ensures memory { IsErrOf result LengthFault.NoMemory
+            → IfSome (array_at number self.old) (λ array. length array.elements < len) }
         ensures unchanged { OnErr result (self.new ≡ self.old) }
     {
         if len > MAX_ELEMENTS {
             return Err(LengthFault::TooLong);
         }
-        if len < self.length(number) {
+        if len <= self.length(number) {
             self.shorten(number, len);
             return Ok(());
         }

@@ -1,5 +1,5 @@
 //! Calls of host objects and services.
-ghost use Rattle.std.specs.Prelude.{◌≡◌, ◌<◌, ◌++◌, ℕ, length, Some, IsSome, IsSomeAnd, IfOk, OnErr};
+ghost use Rattle.std.specs.Prelude.{◌≡◌, ◌<◌, ◌≤◌, ◌++◌, ℕ, length, Some, IsSome, IsSomeAnd, IfOk, OnErr, vec_len, vec_capacity};
 ghost use Rattle.ash_host.specs.declared.answer.HostAnswer.{HostAnswer};
 ghost use Rattle.ash_host.specs.declared.event.Target.{Target};
 ghost use Rattle.ash_host.specs.Calls.{Start, Invoke, Get, Set};
@@ -86,6 +86,7 @@ impl<B: HostObject> Objects<B> {
             → events.new.items ≡ events.old.items ++ called (Target.Object number) method answer) }
         ensures unchanged { OnErr result (self.new ≡ self.old) }
         ensures no_event { OnErr result (events.new.items ≡ events.old.items) }
+        ensures no_room { OnErr result (vec_capacity events.old ≤ vec_len events.old) }
     {
         if events.reserve(1).is_err() {
             return Err(NoMemory);
@@ -113,6 +114,7 @@ impl<B: HostObject> Objects<B> {
         ensures called { IfOk result (λ answer. events.new.items ≡ events.old.items ++ called (Target.Object number) method answer) }
         ensures unchanged { OnErr result (self.new ≡ self.old) }
         ensures no_event { OnErr result (events.new.items ≡ events.old.items) }
+        ensures no_room { OnErr result (vec_capacity events.old ≤ vec_len events.old) }
     {
         let Some(slot) = self.slot(number) else {
             unreachable!()
@@ -134,6 +136,7 @@ impl<B: HostObject> Objects<B> {
         ensures called { IfOk result (λ answer. events.new.items ≡ events.old.items ++ called (Target.Service service) function answer) }
         ensures unchanged { OnErr result (self.new ≡ self.old) }
         ensures no_event { OnErr result (events.new.items ≡ events.old.items) }
+        ensures no_room { OnErr result (vec_capacity events.old ≤ vec_len events.old) }
     {
         if events.reserve(1).is_err() {
             return Err(NoMemory);
