@@ -11,3 +11,5 @@ pub mod Collecting
 pub mod Collected
 pub mod Newcomers
 pub mod Refilling
+pub mod Drawing
+pub mod Stocking

@@ -1,0 +1,106 @@
+-- What objects take from a pool, one after the other.
+use Rattle.std.proofs.Common.{◌≡◌, ℕ, List, [], ◌∷◌, ◌++◌, refl, sym, subst, ap, ◌∙◌, arith, Option, Some, None, length, zero, suc}
+use Rattle.std.specs.Prelude.{IsSome, slice_get, map}
+use Rattle.std.specs.Option.{option_map}
+use Rattle.ash_host.specs.declared.host_object.HostObject.{Ghosts}
+use Rattle.ash_slots.specs.declared.body.Body.{Body}
+use Rattle.ash_slots.specs.declared.body.Body.TheVariants.{Script, Array, Host}
+use Rattle.ash_slots.specs.Responses.{box_of}
+use Rattle.ash_slots.specs.Store.{Placed}
+use Rattle.ash_objects.specs.declared.restoring.Stored.{Stored}
+use Rattle.ash_objects.specs.declared.restoring.Saved.{Saved}
+use Rattle.ash_objects.specs.Restoring.{Drawn, Short, Enough, kind_wanted, draw_box, draw_others, draw_then, draw_boxes, with_box_first, IsBack, IsBody, AreBodies, with_taken, AreFit, ArePut}
+use Rattle.ash_objects.proofs.Marks.{appended}
+
+module _ {B : Type 0} where
+  -- what some objects took before the others
+  abbrev pub with_boxes : List (Option B) → Drawn B → Drawn B
+  with_boxes boxes (Short kind) = Short kind
+  with_boxes boxes (Enough others left) = Enough (boxes ++ others) left
+
+  pub boxes_more : (boxes : List (Option B)) (box : Option B) (d : Drawn B) → with_boxes boxes (with_box_first box d) ≡ with_boxes (boxes ++ box ∷ []) d
+  boxes_more boxes box (Short kind) = refl
+  boxes_more boxes box (Enough others left) = ap (λ (l : List (Option B)). Enough l left) (sym (appended boxes others box))
+
+  pub no_boxes : (d : Drawn B) → with_boxes [] d ≡ d
+  no_boxes (Short kind) = refl
+  no_boxes (Enough others left) = refl
+
+  -- each host object took a box
+  pub fit_drawn : (G : Ghosts B) (objects : List Stored) (pool : List B) (boxes : List (Option B)) (left : List B) → draw_boxes G objects pool ≡ Enough boxes left → AreFit objects boxes
+  fit_drawn G [] pool boxes left h = let none : [] ≡ boxes = cc in subst (λ (bs : List (Option B)). AreFit [] bs) none tt
+  fit_drawn G (object ∷ objects) pool boxes left h =
+      go object.body refl h
+    where
+      step : (box : Option B) (d : Drawn B) → IsSome (with_taken object.body box) → ((bs : List (Option B)) (l : List B) → d ≡ Enough bs l → AreFit objects bs) → with_box_first box d ≡ Enough boxes left → AreFit (object ∷ objects) boxes
+      step box (Short kind) some later h = absurd (cc)
+      step box (Enough bs l) some later h = let is : box ∷ bs ≡ boxes = cc in subst (λ (ys : List (Option B)). AreFit (object ∷ objects) ys) is (some, later bs l refl)
+
+      taking : (kind : ℕ) (t : Option (B × List B)) → ((box : B) → IsSome (with_taken object.body (Some box))) → draw_others kind t (λ rest. draw_boxes G objects rest) ≡ Enough boxes left → AreFit (object ∷ objects) boxes
+      taking kind None some h = absurd (cc)
+      taking kind (Some t) some h = step (Some t.0) (draw_boxes G objects t.1) (some t.0) (λ bs l is. fit_drawn G objects t.1 bs l is) h
+
+      wanted : (body : Body Saved) → object.body ≡ body → kind_wanted object ≡ option_map (λ saved. saved.kind) (box_of body)
+      wanted body is = ap (λ (b : Body Saved). option_map (λ saved. saved.kind) (box_of b)) is
+
+      at : (body : Body Saved) → object.body ≡ body → draw_boxes G (object ∷ objects) pool ≡ Enough boxes left → draw_then G (option_map (λ saved. saved.kind) (box_of body)) pool (λ rest. draw_boxes G objects rest) ≡ Enough boxes left
+      at body is h = sym (ap (λ (k : Option ℕ). draw_then G k pool (λ rest. draw_boxes G objects rest)) (wanted body is)) ∙ h
+
+      go : (body : Body Saved) → object.body ≡ body → draw_boxes G (object ∷ objects) pool ≡ Enough boxes left → AreFit (object ∷ objects) boxes
+      go (Script script) is h = step None (draw_boxes G objects pool) (subst (λ (b : Body Saved). IsSome (with_taken {B} b None)) (sym is) refl) (λ bs l same. fit_drawn G objects pool bs l same) (at (Script script) is h)
+      go (Array array) is h = step None (draw_boxes G objects pool) (subst (λ (b : Body Saved). IsSome (with_taken {B} b None)) (sym is) refl) (λ bs l same. fit_drawn G objects pool bs l same) (at (Array array) is h)
+      go (Host saved) is h = taking saved.kind (draw_box G saved.kind pool) (λ box. subst (λ (b : Body Saved). IsSome (with_taken b (Some box))) (sym is) refl) (at (Host saved) is h)
+
+  pub fit_length : (objects : List Stored) (boxes : List (Option B)) → AreFit objects boxes → length boxes ≡ length objects
+  fit_length [] [] fit = refl
+  fit_length [] (box ∷ boxes) fit = absurd fit
+  fit_length (object ∷ objects) [] fit = absurd fit
+  fit_length (object ∷ objects) (box ∷ boxes) fit = ap suc (fit_length objects boxes fit.1)
+
+  -- what a box became is something where the box was
+  back_fit : (G : Ghosts B) (body : Body Saved) (one other : Option B) → IsBack G body one other → IsSome (with_taken body one) → IsSome (with_taken body other)
+  back_fit G (Script script) one other back some = refl
+  back_fit G (Array array) one other back some = refl
+  back_fit G (Host saved) None other back some = absurd (cc)
+  back_fit G (Host saved) (Some box) other back some = subst (λ (o : Option B). IsSome (with_taken (Host saved) o)) (sym back.1) refl
+
+  -- an object and what became of what it took
+  body_joined : (G : Ghosts B) (body : Body Saved) (one other : Option B) (out : Body B) → IsBack G body one other → with_taken body other ≡ Some out → IsBody G body one out
+  body_joined G (Script script) one other out back is = cc
+  body_joined G (Array array) one other out back is = cc
+  body_joined G (Host saved) None other out back is =
+      let none : with_taken (Host saved) other ≡ None = ap (λ (o : Option B). with_taken (Host saved) o) back in absurd (cc)
+  body_joined G (Host saved) (Some box) other out back is =
+      let some : with_taken (Host saved) other ≡ Some (Host back.0) = ap (λ (o : Option B). with_taken (Host saved) o) back.1 in
+      let same : out ≡ Host back.0 = cc in
+      (back.0, same, back.2)
+
+  abbrev pub AllBack : Ghosts B → List Stored → List (Option B) → List (Option B) → Type 0
+  AllBack G objects before after = (place : ℕ) (object : Stored) (one other : Option B) → slice_get objects place ≡ Some object → slice_get before place ≡ Some one → slice_get after place ≡ Some other → IsBack G object.body one other
+
+  -- the boxes still fit once they are back
+  pub fit_back : (G : Ghosts B) (objects : List Stored) (before after : List (Option B)) → AreFit objects before → length after ≡ length before → AllBack G objects before after → AreFit objects after
+  fit_back G [] [] [] fit many back = tt
+  fit_back G [] [] (other ∷ after) fit many back = absurd (cc)
+  fit_back G [] (one ∷ before) after fit many back = absurd fit
+  fit_back G (object ∷ objects) [] after fit many back = absurd fit
+  fit_back G (object ∷ objects) (one ∷ before) [] fit many back = absurd (cc)
+  fit_back G (object ∷ objects) (one ∷ before) (other ∷ after) fit many back = (
+    back_fit G object.body one other (back zero object one other refl refl refl) fit.0,
+    fit_back G objects before after fit.1 (omega (arith, many)) (λ place. back (suc place)),
+  )
+
+  -- what the objects are in the table is what they were stored as
+  pub bodies_put : (G : Ghosts B) (objects : List Stored) (before after : List (Option B)) (entries : List (ℕ × Placed B)) → AreFit objects before → AllBack G objects before after → ArePut objects after entries → AreBodies G objects before (map (λ e. (e.0, (e.1.item).body)) entries)
+  bodies_put G [] [] [] [] fit back put = tt
+  bodies_put G [] (one ∷ before) after entries fit back put = absurd fit
+  bodies_put G [] [] [] (e ∷ entries) fit back put = absurd put
+  bodies_put G [] [] (other ∷ after) entries fit back put = absurd put
+  bodies_put G (object ∷ objects) [] after entries fit back put = absurd fit
+  bodies_put G (object ∷ objects) (one ∷ before) [] entries fit back put = absurd put
+  bodies_put G (object ∷ objects) (one ∷ before) (other ∷ after) [] fit back put = absurd put
+  bodies_put G (object ∷ objects) (one ∷ before) (other ∷ after) (e ∷ entries) fit back put = (
+    put.0,
+    body_joined G object.body one other (e.1.item).body (back zero object one other refl refl refl) put.1,
+    bodies_put G objects before after entries fit.1 (λ place. back (suc place)) put.3,
+  )
