@@ -44,6 +44,13 @@ impl Timing {
         nanoseconds.unwrap_or(0) / 1000
     }
 
+    /// How many picoseconds one thing took, with so many in each round.
+    pub fn picoseconds(&self, things: u64) -> u128 {
+        let all = u128::from(self.rounds).wrapping_mul(u128::from(things));
+        let picoseconds = self.nanoseconds.wrapping_mul(1000).checked_div(all);
+        picoseconds.unwrap_or(0)
+    }
+
     /// How many things were done in a second, with so many in each round.
     pub fn per_second(&self, things: u64) -> u128 {
         u128::from(self.rounds)
