@@ -16,3 +16,8 @@ some_if P v x is h = subst (λ v. IfSome v P) is h
 pub on_err : {T E : Type 0} (P : Type 0) (r : Result T E) → P → OnErr r P
 on_err P (Ok x) h = tt
 on_err P (Err e) h = h
+
+-- where it is enough to know what is there
+pub each_some : {A : Type 0} (P : A → Type 0) (v : Option A) → ((x : A) → v ≡ Some x → P x) → IfSome v P
+each_some P None h = tt
+each_some P (Some x) h = h x refl
