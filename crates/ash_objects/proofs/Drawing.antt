@@ -1,7 +1,8 @@
 -- What objects take from a pool, one after the other.
-use Rattle.std.proofs.Common.{◌≡◌, ℕ, List, [], ◌∷◌, ◌++◌, refl, sym, subst, ap, ◌∙◌, arith, Option, Some, None, length, zero, suc}
+use Rattle.std.proofs.Common.{◌≡◌, ℕ, List, [], ◌∷◌, ◌++◌, refl, sym, subst, ap, ◌∙◌, arith, Option, Some, None, length, zero, suc, nat_eq}
 use Rattle.std.specs.Prelude.{IsSome, slice_get, map}
-use Rattle.std.specs.Option.{option_map}
+use Rattle.std.specs.Option.{option_map, option_and_then}
+use Rattle.std.specs.List.{remove, position}
 use Rattle.ash_host.specs.declared.host_object.HostObject.{Ghosts}
 use Rattle.ash_slots.specs.declared.body.Body.{Body}
 use Rattle.ash_slots.specs.declared.body.Body.TheVariants.{Script, Array, Host}
@@ -25,6 +26,22 @@ module _ {B : Type 0} where
   pub no_boxes : (d : Drawn B) → with_boxes [] d ≡ d
   no_boxes (Short kind) = refl
   no_boxes (Enough others left) = refl
+
+  -- one object's turn
+  pub then_none : (G : Ghosts B) (wanted : Option ℕ) (pool : List B) (others : List B → Drawn B) → wanted ≡ None → draw_then G wanted pool others ≡ with_box_first None (others pool)
+  then_none G wanted pool others is = ap (λ (k : Option ℕ). draw_then G k pool others) is
+
+  pub then_short : (G : Ghosts B) (wanted : Option ℕ) (kind : ℕ) (pool : List B) (others : List B → Drawn B) → wanted ≡ Some kind → position (λ box. nat_eq (G.kind_of box) kind) pool ≡ None → draw_then G wanted pool others ≡ Short kind
+  then_short G wanted kind pool others is none =
+      ap (λ (k : Option ℕ). draw_then G k pool others) is
+      ∙ ap (λ (p : Option ℕ). draw_others kind (option_and_then (λ place. option_map (λ box. (box, remove pool place)) (slice_get pool place)) p) others) none
+
+  pub then_found : (G : Ghosts B) (wanted : Option ℕ) (kind place : ℕ) (box : B) (pool left : List B) (others : List B → Drawn B) → wanted ≡ Some kind → position (λ box. nat_eq (G.kind_of box) kind) pool ≡ Some place → slice_get pool place ≡ Some box → left ≡ remove pool place → draw_then G wanted pool others ≡ with_box_first (Some box) (others left)
+  then_found G wanted kind place box pool left others is first there rest =
+      ap (λ (k : Option ℕ). draw_then G k pool others) is
+      ∙ ap (λ (p : Option ℕ). draw_others kind (option_and_then (λ place. option_map (λ box. (box, remove pool place)) (slice_get pool place)) p) others) first
+      ∙ ap (λ (o : Option B). draw_others kind (option_map (λ box. (box, remove pool place)) o) others) there
+      ∙ ap (λ (l : List B). with_box_first (Some box) (others l)) (sym rest)
 
   -- each host object took a box
   pub fit_drawn : (G : Ghosts B) (objects : List Stored) (pool : List B) (boxes : List (Option B)) (left : List B) → draw_boxes G objects pool ≡ Enough boxes left → AreFit objects boxes

@@ -11,5 +11,6 @@ pub mod Collecting
 pub mod Collected
 pub mod Newcomers
 pub mod Refilling
+pub mod Pointwise
 pub mod Drawing
 pub mod Stocking
