@@ -64,7 +64,7 @@ fn read(objects: &Table, number: u64, times: u64) -> u64 {
         return 0;
     }
     let mut nulls = 0_u64;
-    for _ in 0..times {
+    for _time in 0..times {
         if let Word::Null = objects.field_at(slot, 0) {
             nulls = nulls.wrapping_add(1);
         }
@@ -90,7 +90,7 @@ fn hold(objects: &mut Table, number: u64, times: u64) {
     if objects.count(number) > 4096 {
         return;
     }
-    for _ in 0..times {
+    for _time in 0..times {
         hold_once(objects, number, slot);
     }
 }
