@@ -183,3 +183,23 @@ fn a_slot_is_used_again_and_a_number_is_not(rt: HostRuntime) -> Result<(), Fail>
     assert_eq!(rt; events.as_slice(), expected.as_slice());
     Ok(())
 }
+
+#[test]
+fn a_handle_that_is_written_over_itself_stays(rt: HostRuntime) -> Result<(), Fail> {
+    let (mut objects, _log) = new_table(rt.alloc(), 1)?;
+    let mut events = Vec::new(rt.alloc());
+    make(rt.alloc(), &mut objects, 1)?.ok();
+    draw(&mut objects, 1, &mut events)?;
+    set_field(&mut objects, 1, 0, Word::Object(2))?;
+    set_field(&mut objects, 1, 0, Word::Object(2))?;
+    assert_eq!(rt; objects.count(2), 1);
+    sweep_but(&mut objects, 1, &mut events)?;
+    assert_eq!(rt; objects.count(2), 1);
+    set_field(&mut objects, 1, 0, Word::Null)?;
+    sweep_but(&mut objects, 1, &mut events)?;
+    assert_eq!(rt;
+        events.as_slice(),
+        [Event::Drew(2), Event::Dropped(2)].as_slice()
+    );
+    Ok(())
+}
