@@ -1,11 +1,12 @@
 -- Objects that are put into their slots all at once, and their counts.
 use Rattle.std.proofs.Common.{◌≡◌, ℕ, Bool, true, false, cond, List, [], ◌∷◌, refl, sym, subst, ap, ◌∙◌, nat_eq, arith, Option, Some, None, length, zero, suc, ◌+◌, ◌-◌, ◌*◌, ◌≤◌, ◌<◌, ◌^◌, drop, get_or, map}
-use Rattle.std.specs.Prelude.{IsSome, IfSome, All, sum_by}
+use Rattle.std.specs.Prelude.{IsSome, IfSome, All, sum_by, slice_get}
 use Rattle.std.specs.Option.{option_map, option_map_or}
 use Rattle.std.specs.Map.{values_of}
 use Rattle.std.specs.Ordering.{nat_cmp, match_ordering}
 use Rattle.std.specs.List.Sorted.{IsStrictlyIncreasing, IsStrictlySortedBy}
 use Rattle.std.proofs.lemmas.Bool.{eqb-true, eq-eqb}
+use Rattle.std.proofs.lemmas.List.{drop-map}
 use Rattle.std.proofs.lemmas.List.Sums.{sum_by-cons, count_by-le-length}
 use Rattle.std.proofs.lemmas.Map.Keys.{sorted_from_strictly_increasing}
 use Rattle.ash_host.specs.declared.word.Word.{Word}
@@ -20,7 +21,7 @@ use Rattle.ash_objects.specs.declared.restoring.Stored.{Stored}
 use Rattle.ash_objects.specs.declared.restoring.Saved.{Saved}
 use Rattle.ash_objects.specs.Table.{Living}
 use Rattle.ash_objects.specs.Counting.{holding, fields_in, living, living_in, words_at, AllLive, refer_all, AreCounted, AreGiven, IsTable, face, face_at}
-use Rattle.ash_objects.specs.Restoring.{stored_in, with_taken, IsFresh, ArePut, refer_objects, bodies_of}
+use Rattle.ash_objects.specs.Restoring.{stored_in, with_taken, AreFit, IsFresh, ArePut, refer_objects, bodies_of}
 use Rattle.ash_objects.proofs.Counts.{object_at-living, numbers-living}
 use Rattle.ash_objects.proofs.Fields.{living_face, with_holds}
 use Rattle.ash_objects.proofs.Marks.{object_at-mapped, in_order-mapped}
@@ -174,6 +175,27 @@ module _ {B : Type 0} where
       go : (b : Bool) → IfSome (object_at m l) IsFresh → IfSome (cond b (Some e.1) (object_at m l)) IsFresh
       go true later = put.2
       go false later = later
+
+  -- an object that is put in front of those behind it
+  pub put_front : (objects : List Stored) (boxes : List (Option B)) (k : ℕ) (object : Stored) (box : Option B) (p : Placed B) (l : List (ℕ × Placed B)) → IsInOrder (stored_in objects) → drop k objects ≡ object ∷ drop (k + 1) objects → drop k boxes ≡ box ∷ drop (k + 1) boxes → ArePut (drop (k + 1) objects) (drop (k + 1) boxes) l → with_taken object.body box ≡ Some (p.item).body → IsFresh p → ArePut (drop k objects) (drop k boxes) (with_at object.number p l)
+  put_front objects boxes k object box p l order os bs put is fresh =
+      subst (λ (es : List (ℕ × Placed B)). ArePut (drop k objects) (drop k boxes) es) (sym (with_at_front object.number p l sorted)) (rw (os, bs) (refl, is, fresh, put))
+    where
+      ordered : IsInOrder (stored_in (object ∷ drop (k + 1) objects))
+      ordered = subst (λ (xs : List Stored). IsInOrder (stored_in xs)) os (subst (λ (es : List (ℕ × Body Saved)). IsInOrder es) (drop-map k objects) (order_drop k (stored_in objects) order))
+
+      sorted : IsStrictlySortedBy nat_cmp (object.number ∷ numbers l)
+      sorted = subst (λ (ns : List ℕ). IsStrictlySortedBy nat_cmp (object.number ∷ ns)) (sym (put_numbers (drop (k + 1) objects) (drop (k + 1) boxes) l put)) (sorted_from_strictly_increasing (numbers (stored_in (object ∷ drop (k + 1) objects))) ordered)
+
+  pub fit_at : (objects : List Stored) (boxes : List (Option B)) (k : ℕ) (object : Stored) (box : Option B) → AreFit objects boxes → slice_get objects k ≡ Some object → slice_get boxes k ≡ Some box → IsSome (with_taken object.body box)
+  fit_at [] [] k object box fit one two = absurd (cc)
+  fit_at [] (b ∷ boxes) k object box fit one two = absurd fit
+  fit_at (o ∷ objects) [] k object box fit one two = absurd fit
+  fit_at (o ∷ objects) (b ∷ boxes) zero object box fit one two =
+      let first : o ≡ object = cc in
+      let second : b ≡ box = cc in
+      rw (← first, ← second) fit.0
+  fit_at (o ∷ objects) (b ∷ boxes) (suc k) object box fit one two = fit_at objects boxes k object box fit.1 one two
 
   -- All objects of a state, put into slots.
   module _ (objects : List Stored) (boxes : List (Option B)) (l : List (ℕ × Placed B)) (last : ℕ) (put : ArePut objects boxes l) (numbered : AreNumbered last (stored_in objects)) (few : length objects ≤ 4096) (short : (m : ℕ) → IfSome (object_at m (stored_in objects)) (λ body. length (words_of body) ≤ 4096)) (alive : (m : ℕ) → IfSome (object_at m (stored_in objects)) (λ body. All (λ word. IfSome (handle word) (Lives (stored_in objects))) (words_of body))) where
