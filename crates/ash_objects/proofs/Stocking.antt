@@ -182,7 +182,7 @@ module _ {B : Type 0} where
       subst (λ (es : List (ℕ × Placed B)). ArePut (drop k objects) (drop k boxes) es) (sym (with_at_front object.number p l sorted)) (rw (os, bs) (refl, is, fresh, put))
     where
       ordered : IsInOrder (stored_in (object ∷ drop (k + 1) objects))
-      ordered = subst (λ (xs : List Stored). IsInOrder (stored_in xs)) os (subst (λ (es : List (ℕ × Body Saved)). IsInOrder es) (drop-map k objects) (order_drop k (stored_in objects) order))
+      ordered = subst (λ (xs : List Stored). IsInOrder (stored_in xs)) os (subst (λ (es : List (ℕ × Body Saved)). IsInOrder es) (drop-map (λ object. (object.number, object.body)) k objects) (order_drop k (stored_in objects) order))
 
       sorted : IsStrictlySortedBy nat_cmp (object.number ∷ numbers l)
       sorted = subst (λ (ns : List ℕ). IsStrictlySortedBy nat_cmp (object.number ∷ ns)) (sym (put_numbers (drop (k + 1) objects) (drop (k + 1) boxes) l put)) (sorted_from_strictly_increasing (numbers (stored_in (object ∷ drop (k + 1) objects))) ordered)
