@@ -1,7 +1,8 @@
 //! The marks of objects that were made, changed or taken away.
-ghost use Rattle.std.specs.Prelude.{◌≡◌, ℕ, All, IfOk, OnOk, OnErr};
-ghost use Rattle.ash_host.specs.Objects.{Lives};
-ghost use Rattle.ash_slots.specs.Store.{unmarked, change_at};
+ghost use Rattle.std.specs.Prelude.{◌≡◌, ◌≤◌, ◌+◌, ℕ, List, [], IfOk, OnOk, OnErr, sum_by, vec_len, vec_capacity};
+ghost use Rattle.std.specs.List.Sorted.{IsStrictlyIncreasing};
+ghost use Rattle.ash_host.specs.Objects.{IsInOrder};
+ghost use Rattle.ash_slots.specs.Store.{marked_in};
 ghost use Rattle.ash_objects.specs.Marking.{marked_of, unmark_all, without_marks};
 
 use crate::objects::Objects;
@@ -18,26 +19,27 @@ pub struct Touched {
     pub gone: Vec<u64>,
 }
 
-// Clears the mark of an object.
-fn unmark<B>(store: &mut Store<B>, number: u64)
-    requires { Lives store.old.objects number }
-    ensures { store.new.objects ≡ change_at number unmarked store.old.objects }
+// Clears all marks, and appends the numbers of the objects that had one.
+fn take_marked<B>(store: &mut Store<B>, numbers: &mut Vec<u64>)
+    requires in_order { IsInOrder store.old.objects }
+    requires empty { numbers.old.items ≡ [] }
+    requires room { vec_len numbers.old + store.old.listed ≤ vec_capacity numbers.old }
+    ensures cleared { store.new.objects ≡ unmark_all (marked_in store.old.objects) store.old.objects }
+    ensures marked { (measure : ℕ → ℕ) → sum_by measure numbers.new.items ≡ sum_by measure (marked_in store.old.objects) }
 {
-    let Some(slot) = store.slot(number) else {
-        unreachable!()
-    };
-    let item = store.item_mut(slot);
-    item.touched = false;
+    while let Some(found) = store.next_marked() {
+        if let Some(number) = found {
+            numbers.push_reserved(number);
+        }
+    }
 }
 
-// Clears the marks of objects.
-fn unmark_these<B>(store: &mut Store<B>, numbers: &[u64])
-    requires { All (λ number. Lives store.old.objects number) numbers.now }
-    ensures { store.new.objects ≡ unmark_all numbers.now store.old.objects }
+// Sorts numbers.
+fn sort_numbers(numbers: &mut Vec<u64>)
+    ensures { (list : List ℕ) → IsStrictlyIncreasing list → ((measure : ℕ → ℕ) → sum_by measure numbers.old.items ≡ sum_by measure list)
+        → numbers.new.items ≡ list }
 {
-    for number in numbers {
-        unmark(store, *number);
-    }
+    numbers.sort_unstable_by_key(|number| *number);
 }
 
 impl<B: HostObject> Objects<B> {
@@ -51,11 +53,11 @@ impl<B: HostObject> Objects<B> {
     {
         let alloc = *self.gone.allocator();
         let mut living = Vec::new(alloc);
-        if living.reserve(self.store.len()).is_err() {
+        if living.reserve(self.store.listed()).is_err() {
             return Err(NoMemory);
         }
-        self.store.append_marked(&mut living);
-        unmark_these(&mut self.store, &living);
+        take_marked(&mut self.store, &mut living);
+        sort_numbers(&mut living);
         self.settled = self.last;
         let gone = mem::replace(&mut self.gone, Vec::new(alloc));
         Ok(Touched { living, gone })

@@ -17,7 +17,7 @@ use Rattle.slab.proofs.SlabLemmas.{ContainsKey-within}
 use Rattle.ash_host.specs.Objects.{object_at, with_at, IsInOrder}
 use Rattle.ash_host.proofs.Order.{none_behind, in_order_behind, in_order-with_at, object_at-with_at}
 use Rattle.ash_slots.specs.declared.entry.Entry.{Entry}
-use Rattle.ash_slots.specs.Store.{Placed, placed, with_entry, placed_in, ArePlaced, IsStored, is_unlisted}
+use Rattle.ash_slots.specs.Store.{Placed, placed, with_entry, placed_in, ArePlaced, AreListed, IsStored, is_unlisted}
 
 apart_from : (x y : ℕ) → nat_eq x y ≡ false → y ≢ x
 apart_from x y h = λ same. let yes = eq-eqb x y (sym same) in cc
@@ -94,22 +94,22 @@ count_same p none (x ∷ xs) (y ∷ ys) h =
     omega (arith, count_same p none xs ys (λ k. h (suc k)), sum_by-cons (λ o. cond {A = ℕ} (p o) 1 0) x xs, sum_by-cons (λ o. cond {A = ℕ} (p o) 1 0) y ys, one)
 
 module _ {B : Type 0} where
-  -- those that aren't listed are some of all
-  pub unlisted_some : (xs : List (Option (Entry B))) → count_by is_unlisted xs ≤ count_by is_some xs
-  unlisted_some [] = omega arith
-  unlisted_some (x ∷ xs) =
-      let a = sum_by-cons (λ (o : Option (Entry B)). cond {A = ℕ} (is_unlisted o) 1 0) x xs in
+  -- those without a flag are some of all
+  unlisted_some : (flag : Entry B → Bool) (xs : List (Option (Entry B))) → count_by (is_unlisted flag) xs ≤ count_by is_some xs
+  unlisted_some flag [] = omega arith
+  unlisted_some flag (x ∷ xs) =
+      let a = sum_by-cons (λ (o : Option (Entry B)). cond {A = ℕ} (is_unlisted flag o) 1 0) x xs in
       let b = sum_by-cons (λ (o : Option (Entry B)). cond {A = ℕ} (is_some o) 1 0) x xs in
       let c = at_most x in
-      omega (arith, a, b, c, unlisted_some xs)
+      omega (arith, a, b, c, unlisted_some flag xs)
     where
-      flag : (w : Bool) → cond {A = ℕ} (not w) 1 0 ≤ 1
-      flag true = omega arith
-      flag false = omega arith
+      one : (w : Bool) → cond {A = ℕ} (not w) 1 0 ≤ 1
+      one true = omega arith
+      one false = omega arith
 
-      at_most : (o : Option (Entry B)) → cond {A = ℕ} (is_unlisted o) 1 0 ≤ cond {A = ℕ} (is_some o) 1 0
+      at_most : (o : Option (Entry B)) → cond {A = ℕ} (is_unlisted flag o) 1 0 ≤ cond {A = ℕ} (is_some o) 1 0
       at_most None = omega arith
-      at_most (Some entry) = flag entry.waiting
+      at_most (Some entry) = one (flag entry)
 
   -- the slabs differ in one slot alone
   pub record SameBut (old new : Slab (Entry B)) (slot : ℕ) : Type 0 where
@@ -219,29 +219,78 @@ module _ {B : Type 0} where
                 (here.1, later.1),
               )
 
+  -- A list of the entries with a flag.
+  module _ (flag : Entry B → Bool) where
+    -- an entry with the flag came into an empty slot
+    pub inserted_listed : (entries new : Slab (Entry B)) (list : List ℕ) (small room slot : ℕ) (entry : Entry B) → get entries slot ≡ None → Updates entries new slot (Some entry) → flag entry ≡ true → length list + slab_len entries + 1 ≤ room → AreListed flag entries list small → AreListed flag new (list ++ slot ∷ []) room
+    inserted_listed entries new list small room slot entry was u named fits a =
+        let same = count_same (is_unlisted flag) refl new.slots entries.slots (λ k. alike k (nat_eq slot k) refl) in
+        let longer = length-append list (slot ∷ []) in
+        let some = unlisted_some flag entries.slots in
+        record {
+          listed = λ k. each k (nat_eq slot k) refl;
+          fits = omega (arith, same, longer, some, fits);
+        }
+      where
+        alike : (k : ℕ) (b : Bool) → nat_eq slot k ≡ b → is_unlisted flag (get new k) ≡ is_unlisted flag (get entries k)
+        alike k true is =
+            let slot_is : slot ≡ k = eqb-true slot k is in
+            let then : get entries k ≡ None = ap (λ (j : ℕ). get entries j) (sym slot_is) ∙ was in
+            let now : get new k ≡ Some entry = ap (λ (j : ℕ). get new j) (sym slot_is) ∙ u.changed in
+            ap (is_unlisted flag) now ∙ ap not named ∙ sym (ap (is_unlisted flag) then)
+        alike k false is = ap (is_unlisted flag) (u.others k (apart_from slot k is))
+
+        more : (k : ℕ) (o : Option (Entry B)) → IfSome o (λ x. flag x ≡ true → Contains list k) → IfSome o (λ x. flag x ≡ true → Contains (list ++ slot ∷ []) k)
+        more k None h = tt
+        more k (Some x) h = λ yes. Contains-append_left list (slot ∷ []) k (h yes)
+
+        each : (k : ℕ) (b : Bool) → nat_eq slot k ≡ b → IfSome (get new k) (λ x. flag x ≡ true → Contains (list ++ slot ∷ []) k)
+        each k true is =
+            let slot_is : slot ≡ k = eqb-true slot k is in
+            subst (λ (j : ℕ). IfSome (get new j) (λ x. flag x ≡ true → Contains (list ++ slot ∷ []) j)) slot_is
+            (subst (λ (o : Option (Entry B)). IfSome o (λ x. flag x ≡ true → Contains (list ++ slot ∷ []) slot)) (sym u.changed) (λ yes. Contains-append_right list (slot ∷ []) slot (0, omega arith, refl)))
+        each k false is = subst (λ (o : Option (Entry B)). IfSome o (λ x. flag x ≡ true → Contains (list ++ slot ∷ []) k)) (sym (u.others k (apart_from slot k is))) (more k (get entries k) (a.listed k))
+
+    -- an entry went
+    pub removed_listed : (entries new : Slab (Entry B)) (list : List ℕ) (room slot : ℕ) (entry : Entry B) → get entries slot ≡ Some entry → Updates entries new slot None → new.slots ≡ set entries.slots slot None → AreListed flag entries list room → AreListed flag new list room
+    removed_listed entries new list room slot entry was u slots a =
+        let within = ContainsKey-within entries slot (subst (λ (v : Option (Entry B)). IsSome v) (sym was) refl) in
+        let sums = sum_by-set (λ (v : Option (Entry B)). cond {A = ℕ} (is_unlisted flag v) 1 0) entries.slots slot None None within in
+        let count = ap (λ (l : List (Option (Entry B))). count_by (is_unlisted flag) l) slots in
+        let fits = a.fits in
+        record {
+          listed = λ k. each k (nat_eq slot k) refl;
+          fits = omega (arith, sums, count, fits);
+        }
+      where
+        each : (k : ℕ) (b : Bool) → nat_eq slot k ≡ b → IfSome (get new k) (λ x. flag x ≡ true → Contains list k)
+        each k true is =
+            let slot_is : slot ≡ k = eqb-true slot k is in
+            subst (λ (j : ℕ). IfSome (get new j) (λ x. flag x ≡ true → Contains list j)) slot_is
+            (subst (λ (v : Option (Entry B)). IfSome v (λ x. flag x ≡ true → Contains list slot)) (sym u.changed) tt)
+        each k false is = subst (λ (v : Option (Entry B)). IfSome v (λ x. flag x ≡ true → Contains list k)) (sym (u.others k (apart_from slot k is))) (a.listed k)
+
+  -- what holds of each entry, once one came or went
+  updated_each : (P : Entry B → Type 0) (entries new : Slab (Entry B)) (slot : ℕ) (o : Option (Entry B)) → Updates entries new slot o → IfSome o P → ((k : ℕ) → IfSome (get entries k) P) → (k : ℕ) → IfSome (get new k) P
+  updated_each P entries new slot o u here each k = go (nat_eq slot k) refl
+    where
+      go : (b : Bool) → nat_eq slot k ≡ b → IfSome (get new k) P
+      go true is = subst (λ (j : ℕ). IfSome (get new j) P) (eqb-true slot k is) (subst (λ (v : Option (Entry B)). IfSome v P) (sym u.changed) here)
+      go false is = subst (λ (v : Option (Entry B)). IfSome v P) (sym (u.others k (apart_from slot k is))) (each k)
+
   -- an object that came leaves all in order
-  pub inserted_stored : (entries new : Slab (Entry B)) (index : List (ℕ × ℕ)) (idle : List ℕ) (small room slot n : ℕ) (entry : Entry B) → get entries slot ≡ None → Updates entries new slot (Some entry) → entry.number ≡ n → entry.waiting ≡ true → object_at n index ≡ None → length idle + slab_len entries + 1 ≤ room → IsStored entries index idle small → IsStored new (with_at n slot index) (idle ++ slot ∷ []) room
-  inserted_stored entries new index idle small room slot n entry was u number waits none fits s =
+  pub inserted_stored : (entries new : Slab (Entry B)) (index : List (ℕ × ℕ)) (idle : List ℕ) (small room : ℕ) (marks : List ℕ) (small_marks marks_room slot n : ℕ) (entry : Entry B) → get entries slot ≡ None → Updates entries new slot (Some entry) → entry.number ≡ n → entry.waiting ≡ true → entry.listed ≡ true → object_at n index ≡ None → length idle + slab_len entries + 1 ≤ room → length marks + slab_len entries + 1 ≤ marks_room → IsStored entries index idle small marks small_marks → IsStored new (with_at n slot index) (idle ++ slot ∷ []) room (marks ++ slot ∷ []) marks_room
+  inserted_stored entries new index idle small room marks small_marks marks_room slot n entry was u number waits listed none fits marks_fit s =
       let others : SameBut entries new slot = record { same = u.others } in
-      let same = count_same is_unlisted refl new.slots entries.slots (λ k. alike k (nat_eq slot k) refl) in
-      let longer = length-append idle (slot ∷ []) in
-      let some = unlisted_some entries.slots in
       record {
         in_order = in_order-with_at n slot index s.in_order;
         placed = (inserted_in others n entry was u.changed number index s.placed none).1;
         whole = λ k. led k (nat_eq slot k) refl;
-        listed = λ k. each k (nat_eq slot k) refl;
-        fits = omega (arith, same, longer, some, fits);
+        waits = inserted_listed (λ entry. entry.waiting) entries new idle small room slot entry was u waits fits s.waits;
+        marks = inserted_listed (λ entry. entry.listed) entries new marks small_marks marks_room slot entry was u listed marks_fit s.marks;
+        marked = updated_each (λ x. (x.item).touched ≡ true → x.listed ≡ true) entries new slot (Some entry) u (λ yes. listed) s.marked;
       }
     where
-      alike : (k : ℕ) (b : Bool) → nat_eq slot k ≡ b → is_unlisted (get new k) ≡ is_unlisted (get entries k)
-      alike k true is =
-          let slot_is : slot ≡ k = eqb-true slot k is in
-          let then : get entries k ≡ None = ap (λ (j : ℕ). get entries j) (sym slot_is) ∙ was in
-          let now : get new k ≡ Some entry = ap (λ (j : ℕ). get new j) (sym slot_is) ∙ u.changed in
-          ap is_unlisted now ∙ ap not waits ∙ sym (ap is_unlisted then)
-      alike k false is = ap is_unlisted (u.others k (apart_from slot k is))
-
       led_to : (k : ℕ) (o : Option (Entry B)) → IfSome o (λ x. object_at x.number index ≡ Some k) → IfSome o (λ x. object_at x.number (with_at n slot index) ≡ Some k)
       led_to k None h = tt
       led_to k (Some x) h = object_at-with_at n slot x.number index ∙ go (nat_eq x.number n) refl
@@ -259,31 +308,17 @@ module _ {B : Type 0} where
           (subst (λ (o : Option (Entry B)). IfSome o (λ x. object_at x.number (with_at n slot index) ≡ Some slot)) (sym u.changed) here)
       led k false is = subst (λ (o : Option (Entry B)). IfSome o (λ x. object_at x.number (with_at n slot index) ≡ Some k)) (sym (u.others k (apart_from slot k is))) (led_to k (get entries k) (s.whole k))
 
-      more : (k : ℕ) (o : Option (Entry B)) → IfSome o (λ x. x.waiting ≡ true → Contains idle k) → IfSome o (λ x. x.waiting ≡ true → Contains (idle ++ slot ∷ []) k)
-      more k None h = tt
-      more k (Some x) h = λ yes. Contains-append_left idle (slot ∷ []) k (h yes)
-
-      each : (k : ℕ) (b : Bool) → nat_eq slot k ≡ b → IfSome (get new k) (λ x. x.waiting ≡ true → Contains (idle ++ slot ∷ []) k)
-      each k true is =
-          let slot_is : slot ≡ k = eqb-true slot k is in
-          subst (λ (j : ℕ). IfSome (get new j) (λ x. x.waiting ≡ true → Contains (idle ++ slot ∷ []) j)) slot_is
-          (subst (λ (o : Option (Entry B)). IfSome o (λ x. x.waiting ≡ true → Contains (idle ++ slot ∷ []) slot)) (sym u.changed) (λ yes. Contains-append_right idle (slot ∷ []) slot (0, omega arith, refl)))
-      each k false is = subst (λ (o : Option (Entry B)). IfSome o (λ x. x.waiting ≡ true → Contains (idle ++ slot ∷ []) k)) (sym (u.others k (apart_from slot k is))) (more k (get entries k) (s.listed k))
-
   -- an object that went leaves all in order
-  pub removed_stored : (entries new : Slab (Entry B)) (index index' : List (ℕ × ℕ)) (idle : List ℕ) (room slot : ℕ) (entry : Entry B) → get entries slot ≡ Some entry → Updates entries new slot None → new.slots ≡ set entries.slots slot None → IsInOrder index' → index' ≡ remove_entry (nat_eq entry.number) index → IsStored entries index idle room → IsStored new index' idle room
-  removed_stored entries new index index' idle room slot entry was u slots o is s =
+  pub removed_stored : (entries new : Slab (Entry B)) (index index' : List (ℕ × ℕ)) (idle : List ℕ) (room : ℕ) (marks : List ℕ) (marks_room slot : ℕ) (entry : Entry B) → get entries slot ≡ Some entry → Updates entries new slot None → new.slots ≡ set entries.slots slot None → IsInOrder index' → index' ≡ remove_entry (nat_eq entry.number) index → IsStored entries index idle room marks marks_room → IsStored new index' idle room marks marks_room
+  removed_stored entries new index index' idle room marks marks_room slot entry was u slots o is s =
       let others : SameBut entries new slot = record { same = u.others } in
-      let within = ContainsKey-within entries slot (subst (λ (v : Option (Entry B)). IsSome v) (sym was) refl) in
-      let sums = sum_by-set (λ (v : Option (Entry B)). cond {A = ℕ} (is_unlisted v) 1 0) entries.slots slot None None within in
-      let count = ap (λ (l : List (Option (Entry B))). count_by is_unlisted l) slots in
-      let fits = s.fits in
       record {
         in_order = o;
         placed = subst (λ (l : List (ℕ × ℕ)). ArePlaced new l) (sym is) (removed_in others entry.number entry was refl index s.in_order s.placed).1;
         whole = λ k. led k (nat_eq slot k) refl;
-        listed = λ k. each k (nat_eq slot k) refl;
-        fits = omega (arith, sums, count, fits);
+        waits = removed_listed (λ entry. entry.waiting) entries new idle room slot entry was u slots s.waits;
+        marks = removed_listed (λ entry. entry.listed) entries new marks marks_room slot entry was u slots s.marks;
+        marked = updated_each (λ x. (x.item).touched ≡ true → x.listed ≡ true) entries new slot None u tt s.marked;
       }
     where
       mine : object_at entry.number index ≡ Some slot
@@ -308,13 +343,6 @@ module _ {B : Type 0} where
           (subst (λ (v : Option (Entry B)). IfSome v (λ x. object_at x.number index' ≡ Some slot)) (sym u.changed) tt)
       led k false same = subst (λ (v : Option (Entry B)). IfSome v (λ x. object_at x.number index' ≡ Some k)) (sym (u.others k (apart_from slot k same))) (led_to k same (get entries k) (s.whole k))
 
-      each : (k : ℕ) (b : Bool) → nat_eq slot k ≡ b → IfSome (get new k) (λ x. x.waiting ≡ true → Contains idle k)
-      each k true is =
-          let slot_is : slot ≡ k = eqb-true slot k is in
-          subst (λ (j : ℕ). IfSome (get new j) (λ x. x.waiting ≡ true → Contains idle j)) slot_is
-          (subst (λ (v : Option (Entry B)). IfSome v (λ x. x.waiting ≡ true → Contains idle slot)) (sym u.changed) tt)
-      each k false is = subst (λ (v : Option (Entry B)). IfSome v (λ x. x.waiting ≡ true → Contains idle k)) (sym (u.others k (apart_from slot k is))) (s.listed k)
-
 -- a list of no items
 pub nothing_in : {A : Type 0} (l : List A) → length l ≡ 0 → l ≡ []
 nothing_in [] h = refl
@@ -330,13 +358,19 @@ module _ {B : Type 0} where
   still_placed_regrown entries capacity [] a = tt
   still_placed_regrown entries capacity (e ∷ index) a = (a.0, still_placed_regrown entries capacity index a.1)
 
-  pub stored_regrown : (entries new : Slab (Entry B)) (capacity : ℕ) (index : List (ℕ × ℕ)) (idle : List ℕ) (small room : ℕ) → new ≡ record entries { capacity = capacity } → small ≤ room → IsStored entries index idle small → IsStored new index idle room
-  stored_regrown entries new capacity index idle small room is more s =
-      subst (λ (k : Slab (Entry B)). IsStored k index idle room) (sym is)
-      (let fits = s.fits in record {
+  listed_regrown : (flag : Entry B → Bool) (entries : Slab (Entry B)) (capacity : ℕ) (list : List ℕ) (small room : ℕ) → small ≤ room → AreListed flag entries list small → AreListed flag (record entries { capacity = capacity }) list room
+  listed_regrown flag entries capacity list small room more a = let fits = a.fits in record {
+    listed = a.listed;
+    fits = omega (arith, fits, more);
+  }
+
+  pub stored_regrown : (entries new : Slab (Entry B)) (capacity : ℕ) (index : List (ℕ × ℕ)) (idle : List ℕ) (small room : ℕ) (marks : List ℕ) (small_marks marks_room : ℕ) → new ≡ record entries { capacity = capacity } → small ≤ room → small_marks ≤ marks_room → IsStored entries index idle small marks small_marks → IsStored new index idle room marks marks_room
+  stored_regrown entries new capacity index idle small room marks small_marks marks_room is more more_marks s =
+      subst (λ (k : Slab (Entry B)). IsStored k index idle room marks marks_room) (sym is) (record {
         in_order = s.in_order;
         placed = still_placed_regrown entries capacity index s.placed;
         whole = s.whole;
-        listed = s.listed;
-        fits = omega (arith, fits, more);
+        waits = listed_regrown (λ entry. entry.waiting) entries capacity idle small room more s.waits;
+        marks = listed_regrown (λ entry. entry.listed) entries capacity marks small_marks marks_room more_marks s.marks;
+        marked = s.marked;
       })

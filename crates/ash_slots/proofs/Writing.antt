@@ -10,7 +10,7 @@ use Rattle.slab.proofs.SlabLemmas.{Updates-with_value, ContainsKey-within}
 use Rattle.std.proofs.lemmas.List.{length-append}
 use Rattle.ash_host.specs.Objects.{object_at}
 use Rattle.ash_slots.specs.declared.entry.Entry.{Entry}
-use Rattle.ash_slots.specs.Store.{Placed, placed, with_entry, placed_in, ArePlaced, IsStored, is_unlisted, change_in}
+use Rattle.ash_slots.specs.Store.{Placed, placed, with_entry, placed_in, ArePlaced, AreListed, AreMarksListed, IsStored, is_unlisted, change_in}
 
 apart_from : (x y : ℕ) → nat_eq x y ≡ false → y ≢ x
 apart_from x y h = λ same. let yes = eq-eqb x y (sym same) in cc
@@ -93,111 +93,118 @@ module _ {B : Type 0} where
             subst (λ (k : ℕ). IfSome (get new k) (P k)) slot_is (subst (λ (o : Option (Entry B)). IfSome o (P slot)) (sym w.updates.changed) here)
         go false is = subst (λ (o : Option (Entry B)). IfSome o (P s)) (sym (w.updates.others s (apart_from slot s is))) (each s)
 
-  -- the number of entries that aren't listed, after one was written
-  pub unlisted-written : (entries : Slab (Entry B)) (slot : ℕ) (before after : Entry B) → get entries slot ≡ Some before → count_by is_unlisted ((with_value entries slot after).slots) + cond {A = ℕ} (not before.waiting) 1 0 ≡ count_by is_unlisted entries.slots + cond {A = ℕ} (not after.waiting) 1 0
-  unlisted-written entries slot before after was =
-      let within = ContainsKey-within entries slot (subst (λ (o : Option (Entry B)). IsSome o) (sym was) refl) in
-      let sums = sum_by-set (λ (o : Option (Entry B)). cond {A = ℕ} (is_unlisted o) 1 0) entries.slots slot (Some after) None within in
-      let there = ap (λ (o : Option (Entry B)). cond {A = ℕ} (is_unlisted o) 1 0) was in
-      omega (arith, sums, there)
-
   -- the index leads to each entry still
   still_whole : {old new : Slab (Entry B)} {slot : ℕ} {before after : Entry B} (w : Writes old new slot before after) (index : List (ℕ × ℕ)) → ((s : ℕ) → IfSome (get old s) (λ entry. object_at entry.number index ≡ Some s)) → (s : ℕ) → IfSome (get new s) (λ entry. object_at entry.number index ≡ Some s)
   still_whole {old} {new} {slot} {before} {after} w index whole =
       let mine : object_at before.number index ≡ Some slot = subst (λ (o : Option (Entry B)). IfSome o (λ entry. object_at entry.number index ≡ Some slot)) w.was (whole slot) in
       still_each w (λ k entry. object_at entry.number index ≡ Some k) (ap (λ (k : ℕ). object_at k index) w.number ∙ mine) whole
 
-  -- a write that leaves the flag leaves all in order
-  pub still_stored : (entries : Slab (Entry B)) (index : List (ℕ × ℕ)) (idle : List ℕ) (room slot : ℕ) (before after : Entry B) → get entries slot ≡ Some before → after.number ≡ before.number → after.waiting ≡ before.waiting → IsStored entries index idle room → IsStored (with_value entries slot after) index idle room
-  still_stored entries index idle room slot before after was number flag s =
+  -- A list of the entries with a flag.
+  module _ (flag : Entry B → Bool) where
+    -- the number of entries without the flag, after one was written
+    unlisted-written : (entries : Slab (Entry B)) (slot : ℕ) (before after : Entry B) → get entries slot ≡ Some before → count_by (is_unlisted flag) ((with_value entries slot after).slots) + cond {A = ℕ} (not (flag before)) 1 0 ≡ count_by (is_unlisted flag) entries.slots + cond {A = ℕ} (not (flag after)) 1 0
+    unlisted-written entries slot before after was =
+        let within = ContainsKey-within entries slot (subst (λ (o : Option (Entry B)). IsSome o) (sym was) refl) in
+        let sums = sum_by-set (λ (o : Option (Entry B)). cond {A = ℕ} (is_unlisted flag o) 1 0) entries.slots slot (Some after) None within in
+        let there = ap (λ (o : Option (Entry B)). cond {A = ℕ} (is_unlisted flag o) 1 0) was in
+        omega (arith, sums, there)
+
+    -- a write that leaves the flag leaves the list right
+    pub still_listed : (entries : Slab (Entry B)) (list : List ℕ) (room slot : ℕ) (before after : Entry B) → get entries slot ≡ Some before → after.number ≡ before.number → flag after ≡ flag before → AreListed flag entries list room → AreListed flag (with_value entries slot after) list room
+    still_listed entries list room slot before after was number same a =
+        let w = writes_value entries slot before after was number in
+        let mine : flag before ≡ true → Contains list slot = subst (λ (o : Option (Entry B)). IfSome o (λ entry. flag entry ≡ true → Contains list slot)) was (a.listed slot) in
+        let count = unlisted-written entries slot before after was in
+        let alike = ap (λ (b : Bool). cond {A = ℕ} (not b) 1 0) same in
+        let fits = a.fits in
+        record {
+          listed = still_each w (λ k entry. flag entry ≡ true → Contains list k) (λ yes. mine (sym same ∙ yes)) a.listed;
+          fits = omega (arith, count, alike, fits);
+        }
+
+    -- an entry that gets the flag is listed
+    pub newly_listed : (entries : Slab (Entry B)) (list : List ℕ) (room slot : ℕ) (before after : Entry B) → get entries slot ≡ Some before → after.number ≡ before.number → flag before ≡ false → flag after ≡ true → AreListed flag entries list room → AreListed flag (with_value entries slot after) (list ++ slot ∷ []) room
+    newly_listed entries list room slot before after was number then now a =
+        let w = writes_value entries slot before after was number in
+        let count = unlisted-written entries slot before after was in
+        let one = ap (λ (b : Bool). cond {A = ℕ} (not b) 1 0) then in
+        let none = ap (λ (b : Bool). cond {A = ℕ} (not b) 1 0) now in
+        let fits = a.fits in
+        let longer = length-append list (slot ∷ []) in
+        record {
+          listed = still_each w (λ k entry. flag entry ≡ true → Contains (list ++ slot ∷ []) k) (λ yes. Contains-append_right list (slot ∷ []) slot (0, omega arith, refl)) (λ k. more k (get entries k) (a.listed k));
+          fits = omega (arith, count, one, none, fits, longer);
+        }
+      where
+        more : (k : ℕ) (o : Option (Entry B)) → IfSome o (λ entry. flag entry ≡ true → Contains list k) → IfSome o (λ entry. flag entry ≡ true → Contains (list ++ slot ∷ []) k)
+        more k None h = tt
+        more k (Some x) h = λ yes. Contains-append_left list (slot ∷ []) k (h yes)
+
+    -- who is listed still once the last of the list was taken from it
+    left_listed : (old new : Slab (Entry B)) (slot : ℕ) (list rest : List ℕ) → list ≡ rest ++ slot ∷ [] → ((s : ℕ) → s ≢ slot → get new s ≡ get old s) → IfSome (get new slot) (λ entry. flag entry ≡ false) → ((s : ℕ) → IfSome (get old s) (λ entry. flag entry ≡ true → Contains list s)) → (s : ℕ) → IfSome (get new s) (λ entry. flag entry ≡ true → Contains rest s)
+    left_listed old new slot list rest is others unflagged each s =
+        go (nat_eq slot s) refl
+      where
+        none : (o : Option (Entry B)) → IfSome o (λ entry. flag entry ≡ false) → IfSome o (λ entry. flag entry ≡ true → Contains rest s)
+        none None h = tt
+        none (Some x) h = λ yes. let both : true ≡ false = sym yes ∙ h in absurd (cc)
+
+        some : slot ≢ s → (o : Option (Entry B)) → IfSome o (λ entry. flag entry ≡ true → Contains list s) → IfSome o (λ entry. flag entry ≡ true → Contains rest s)
+        some apart None h = tt
+        some apart (Some x) h = λ yes.
+            let there : Contains (rest ++ slot ∷ []) s = subst (λ (l : List ℕ). Contains l s) is (h yes) in
+            elim (Contains-append_cases rest (slot ∷ []) s there) [
+              | inl here ↦ here
+              | inr last ↦ absurd (apart (one_in slot s last))
+            ]
+
+        go : (b : Bool) → nat_eq slot s ≡ b → IfSome (get new s) (λ entry. flag entry ≡ true → Contains rest s)
+        go true same =
+            let slot_is : slot ≡ s = eqb-true slot s same in
+            none (get new s) (subst (λ (k : ℕ). IfSome (get new k) (λ entry. flag entry ≡ false)) slot_is unflagged)
+        go false same =
+            let apart = apart_from slot s same in
+            subst (λ (o : Option (Entry B)). IfSome o (λ entry. flag entry ≡ true → Contains rest s)) (sym (others s apart)) (some (λ e. apart (sym e)) (get old s) (each s))
+
+    -- an entry without the flag that was taken from the list
+    pub popped_listed : (entries : Slab (Entry B)) (list rest : List ℕ) (room slot : ℕ) (before after : Entry B) → list ≡ rest ++ slot ∷ [] → get entries slot ≡ Some before → after.number ≡ before.number → flag after ≡ false → AreListed flag entries list room → AreListed flag (with_value entries slot after) rest room
+    popped_listed entries list rest room slot before after is was number now a =
+        let w = writes_value entries slot before after was number in
+        let count = unlisted-written entries slot before after was in
+        let none = ap (λ (b : Bool). cond {A = ℕ} (not b) 1 0) now in
+        let fits = a.fits in
+        let longer = ap length is ∙ length-append rest (slot ∷ []) in
+        record {
+          listed = left_listed entries (with_value entries slot after) slot list rest is w.updates.others (subst (λ (o : Option (Entry B)). IfSome o (λ entry. flag entry ≡ false)) (sym w.updates.changed) now) a.listed;
+          fits = omega (arith, count, none, fits, longer);
+        }
+
+    -- the same where the slot was empty
+    pub popped_none : (entries : Slab (Entry B)) (list rest : List ℕ) (room slot : ℕ) → list ≡ rest ++ slot ∷ [] → get entries slot ≡ None → AreListed flag entries list room → AreListed flag entries rest room
+    popped_none entries list rest room slot is none a =
+        let fits = a.fits in
+        let longer = ap length is ∙ length-append rest (slot ∷ []) in
+        record {
+          listed = left_listed entries entries slot list rest is (λ k apart. refl) (subst (λ (o : Option (Entry B)). IfSome o (λ entry. flag entry ≡ false)) (sym none) tt) a.listed;
+          fits = omega (arith, fits, longer);
+        }
+
+  -- a write after which the lists are right leaves all in order
+  pub written_stored : (entries : Slab (Entry B)) (index : List (ℕ × ℕ)) (idle idle' : List ℕ) (room : ℕ) (marks marks' : List ℕ) (marks_room slot : ℕ) (before after : Entry B) → get entries slot ≡ Some before → after.number ≡ before.number → AreListed (λ entry. entry.waiting) (with_value entries slot after) idle' room → AreListed (λ entry. entry.listed) (with_value entries slot after) marks' marks_room → ((after.item).touched ≡ true → after.listed ≡ true) → IsStored entries index idle room marks marks_room → IsStored (with_value entries slot after) index idle' room marks' marks_room
+  written_stored entries index idle idle' room marks marks' marks_room slot before after was number waits listed mark s =
       let w = writes_value entries slot before after was number in
-      let mine : before.waiting ≡ true → Contains idle slot = subst (λ (o : Option (Entry B)). IfSome o (λ entry. entry.waiting ≡ true → Contains idle slot)) was (s.listed slot) in
-      let count = unlisted-written entries slot before after was in
-      let same = ap (λ (b : Bool). cond {A = ℕ} (not b) 1 0) flag in
-      let fits = s.fits in
       record {
         in_order = s.in_order;
         placed = still_placed w index s.placed;
         whole = still_whole w index s.whole;
-        listed = still_each w (λ k entry. entry.waiting ≡ true → Contains idle k) (λ yes. mine (sym flag ∙ yes)) s.listed;
-        fits = omega (arith, count, same, fits);
+        waits = waits;
+        marks = listed;
+        marked = still_each w (λ k entry. (entry.item).touched ≡ true → entry.listed ≡ true) mark s.marked;
       }
 
-  -- an entry that is listed now leaves all in order
-  pub listed_stored : (entries : Slab (Entry B)) (index : List (ℕ × ℕ)) (idle : List ℕ) (room slot : ℕ) (before after : Entry B) → get entries slot ≡ Some before → after.number ≡ before.number → before.waiting ≡ false → after.waiting ≡ true → IsStored entries index idle room → IsStored (with_value entries slot after) index (idle ++ slot ∷ []) room
-  listed_stored entries index idle room slot before after was number then now s =
-      let w = writes_value entries slot before after was number in
-      let count = unlisted-written entries slot before after was in
-      let one = ap (λ (b : Bool). cond {A = ℕ} (not b) 1 0) then in
-      let none = ap (λ (b : Bool). cond {A = ℕ} (not b) 1 0) now in
-      let fits = s.fits in
-      let longer = length-append idle (slot ∷ []) in
-      record {
-        in_order = s.in_order;
-        placed = still_placed w index s.placed;
-        whole = still_whole w index s.whole;
-        listed = still_each w (λ k entry. entry.waiting ≡ true → Contains (idle ++ slot ∷ []) k) (λ yes. Contains-append_right idle (slot ∷ []) slot (0, omega arith, refl)) (λ k. more k (get entries k) (s.listed k));
-        fits = omega (arith, count, one, none, fits, longer);
-      }
-    where
-      more : (k : ℕ) (o : Option (Entry B)) → IfSome o (λ entry. entry.waiting ≡ true → Contains idle k) → IfSome o (λ entry. entry.waiting ≡ true → Contains (idle ++ slot ∷ []) k)
-      more k None h = tt
-      more k (Some x) h = λ yes. Contains-append_left idle (slot ∷ []) k (h yes)
-
-  -- who is listed still once the last of the list was taken from it
-  pub popped_listed : (old new : Slab (Entry B)) (slot : ℕ) (idle rest : List ℕ) → idle ≡ rest ++ slot ∷ [] → ((s : ℕ) → s ≢ slot → get new s ≡ get old s) → IfSome (get new slot) (λ entry. entry.waiting ≡ false) → ((s : ℕ) → IfSome (get old s) (λ entry. entry.waiting ≡ true → Contains idle s)) → (s : ℕ) → IfSome (get new s) (λ entry. entry.waiting ≡ true → Contains rest s)
-  popped_listed old new slot idle rest is others unflagged each s =
-      go (nat_eq slot s) refl
-    where
-      none : (o : Option (Entry B)) → IfSome o (λ entry. entry.waiting ≡ false) → IfSome o (λ entry. entry.waiting ≡ true → Contains rest s)
-      none None h = tt
-      none (Some x) h = λ yes. absurd (cc)
-
-      some : slot ≢ s → (o : Option (Entry B)) → IfSome o (λ entry. entry.waiting ≡ true → Contains idle s) → IfSome o (λ entry. entry.waiting ≡ true → Contains rest s)
-      some apart None h = tt
-      some apart (Some x) h = λ yes.
-          let there : Contains (rest ++ slot ∷ []) s = subst (λ (l : List ℕ). Contains l s) is (h yes) in
-          elim (Contains-append_cases rest (slot ∷ []) s there) [
-            | inl here ↦ here
-            | inr last ↦ absurd (apart (one_in slot s last))
-          ]
-
-      go : (b : Bool) → nat_eq slot s ≡ b → IfSome (get new s) (λ entry. entry.waiting ≡ true → Contains rest s)
-      go true same =
-          let slot_is : slot ≡ s = eqb-true slot s same in
-          none (get new s) (subst (λ (k : ℕ). IfSome (get new k) (λ entry. entry.waiting ≡ false)) slot_is unflagged)
-      go false same =
-          let apart = apart_from slot s same in
-          subst (λ (o : Option (Entry B)). IfSome o (λ entry. entry.waiting ≡ true → Contains rest s)) (sym (others s apart)) (some (λ e. apart (sym e)) (get old s) (each s))
-
-  -- an entry that was taken from the list leaves all in order
-  pub popped_stored : (entries : Slab (Entry B)) (index : List (ℕ × ℕ)) (idle rest : List ℕ) (room slot : ℕ) (before after : Entry B) → idle ≡ rest ++ slot ∷ [] → get entries slot ≡ Some before → after.number ≡ before.number → after.waiting ≡ false → IsStored entries index idle room → IsStored (with_value entries slot after) index rest room
-  popped_stored entries index idle rest room slot before after is was number now s =
-      let w = writes_value entries slot before after was number in
-      let count = unlisted-written entries slot before after was in
-      let none = ap (λ (b : Bool). cond {A = ℕ} (not b) 1 0) now in
-      let fits = s.fits in
-      let longer = ap length is ∙ length-append rest (slot ∷ []) in
-      record {
-        in_order = s.in_order;
-        placed = still_placed w index s.placed;
-        whole = still_whole w index s.whole;
-        listed = popped_listed entries (with_value entries slot after) slot idle rest is w.updates.others (subst (λ (o : Option (Entry B)). IfSome o (λ entry. entry.waiting ≡ false)) (sym w.updates.changed) now) s.listed;
-        fits = omega (arith, count, none, fits, longer);
-      }
-
-  -- the same where the slot was empty
-  pub popped_empty : (entries : Slab (Entry B)) (index : List (ℕ × ℕ)) (idle rest : List ℕ) (room slot : ℕ) → idle ≡ rest ++ slot ∷ [] → get entries slot ≡ None → IsStored entries index idle room → IsStored entries index rest room
-  popped_empty entries index idle rest room slot is none s =
-      let fits = s.fits in
-      let longer = ap length is ∙ length-append rest (slot ∷ []) in
-      record {
-        in_order = s.in_order;
-        placed = s.placed;
-        whole = s.whole;
-        listed = popped_listed entries entries slot idle rest is (λ k apart. refl) (subst (λ (o : Option (Entry B)). IfSome o (λ entry. entry.waiting ≡ false)) (sym none) tt) s.listed;
-        fits = omega (arith, fits, longer);
-      }
+  -- an entry with a mark is listed
+  pub mark_of_entry : (entries : Slab (Entry B)) (slot : ℕ) (entry : Entry B) → get entries slot ≡ Some entry → AreMarksListed entries → (entry.item).touched ≡ true → entry.listed ≡ true
+  mark_of_entry entries slot entry was marked = subst (λ (o : Option (Entry B)). IfSome o (λ x. (x.item).touched ≡ true → x.listed ≡ true)) was (marked slot)
 
   -- no object is in an empty slot
   pub change_empty : (change : Placed B → Placed B) (entries : Slab (Entry B)) (slot : ℕ) → get entries slot ≡ None → (index : List (ℕ × ℕ)) → ArePlaced entries index → change_in slot change (placed_in entries index) ≡ placed_in entries index

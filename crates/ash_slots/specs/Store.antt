@@ -12,11 +12,13 @@ pub record Placed (B : Type 0) : Type 0 where
   pub waiting : Bool
   pub item : Item B
 
--- the objects by ascending number, how many slots wait for the sweep, and how many can
+-- the objects by ascending number, how many slots wait for the sweep, and how many can, and how many are listed as those of
+-- objects that may have a mark
 pub record Store (B : Type 0) : Type 0 where
   pub objects : List (ℕ × Placed B)
   pub pending : ℕ
   pub room : ℕ
+  pub listed : ℕ
 
 module _ {B : Type 0} where
   -- an entry in a slot
@@ -38,19 +40,29 @@ module _ {B : Type 0} where
   ArePlaced entries [] = Unit {0}
   ArePlaced entries (e ∷ index) = IsSomeAnd (get entries e.1) (λ entry. entry.number ≡ e.0) × ArePlaced entries index
 
-  -- whether a slot has an object that doesn't wait for the sweep
-  abbrev pub is_unlisted : Option (Entry B) → Bool
-  is_unlisted None = false
-  is_unlisted (Some entry) = not entry.waiting
+  -- whether a slot has an object without a flag
+  abbrev pub is_unlisted : (Entry B → Bool) → Option (Entry B) → Bool
+  is_unlisted flag None = false
+  is_unlisted flag (Some entry) = not (flag entry)
 
-  -- The index leads from each number to its entry and to every entry, each waiting entry is listed, and the list has
-  -- room for all others.
-  pub record IsStored (entries : Slab (Entry B)) (index : List (ℕ × ℕ)) (idle : List ℕ) (room : ℕ) : Type 0 where
+  -- Each entry with a flag is listed, and the list has room for all others.
+  pub record AreListed (flag : Entry B → Bool) (entries : Slab (Entry B)) (list : List ℕ) (room : ℕ) : Type 0 where
+    pub listed : (slot : ℕ) → IfSome (get entries slot) (λ entry. flag entry ≡ true → Contains list slot)
+    pub fits : count_by (is_unlisted flag) entries.slots + length list ≤ room
+
+  -- an entry with a mark is listed as one that may have it
+  abbrev pub AreMarksListed : Slab (Entry B) → Type 0
+  AreMarksListed entries = (slot : ℕ) → IfSome (get entries slot) (λ entry. (entry.item).touched ≡ true → entry.listed ≡ true)
+
+  -- The index leads from each number to its entry and to every entry; each waiting entry is in the one list, and each that
+  -- may have a mark in the other.
+  pub record IsStored (entries : Slab (Entry B)) (index : List (ℕ × ℕ)) (idle : List ℕ) (room : ℕ) (marks : List ℕ) (marks_room : ℕ) : Type 0 where
     pub in_order : IsInOrder index
     pub placed : ArePlaced entries index
     pub whole : (slot : ℕ) → IfSome (get entries slot) (λ entry. object_at entry.number index ≡ Some slot)
-    pub listed : (slot : ℕ) → IfSome (get entries slot) (λ entry. entry.waiting ≡ true → Contains idle slot)
-    pub fits : count_by is_unlisted entries.slots + length idle ≤ room
+    pub waits : AreListed (λ entry. entry.waiting) entries idle room
+    pub marks : AreListed (λ entry. entry.listed) entries marks marks_room
+    pub marked : AreMarksListed entries
 
   -- the object of a number is in a slot
   abbrev pub IsIn : ℕ → ℕ → List (ℕ × Placed B) → Type 0
@@ -72,6 +84,10 @@ module _ {B : Type 0} where
   -- no object waits for the sweep
   abbrev pub NoneWaits : List (ℕ × Placed B) → Type 0
   NoneWaits objects = (number : ℕ) → IfSome (object_at number objects) (λ object. object.waiting ≡ false)
+
+  -- no object has a mark
+  abbrev pub NoneMarked : List (ℕ × Placed B) → Type 0
+  NoneMarked objects = (number : ℕ) → IfSome (object_at number objects) (λ object. (object.item).touched ≡ false)
 
   -- the objects, with the one in a slot changed
   abbrev pub change_in : ℕ → (Placed B → Placed B) → List (ℕ × Placed B) → List (ℕ × Placed B)

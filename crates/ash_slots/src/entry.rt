@@ -18,5 +18,7 @@ pub struct Entry<B> {
     pub number: u64,
     /// Whether the next sweep looks at it.
     pub waiting: bool,
+    /// Whether its slot is listed as that of an object that may have a mark.
+    pub listed: bool,
     pub item: Item<B>,
 }

@@ -3,7 +3,7 @@ ghost use Rattle.std.specs.Prelude.{◌≡◌, ◌≤◌, ◌+◌, ◌↔◌, �
 ghost use Rattle.std.specs.Map.{remove_entry};
 ghost use Rattle.ash_host.specs.Objects.{object_at, with_at, IsInOrder};
 ghost use Rattle.std.specs.Borrow.{sem};
-ghost use Rattle.ash_slots.specs.Store.{IsIn, IsOccupied, AreStored, IsIdle, NoneWaits, marked_in, change_in, with_waiting};
+ghost use Rattle.ash_slots.specs.Store.{IsIn, IsOccupied, AreStored, IsIdle, NoneWaits, NoneMarked, change_in, change_at, with_waiting, unmarked};
 
 use crate::entry::{Entry, Item};
 use slab::Slab;
@@ -19,6 +19,8 @@ pub struct Store<B> {
     index: BTreeMap<u64, usize>,
     /// The slots that the next sweep looks at. Each entry has room in it.
     idle: Vec<usize>,
+    /// The slots of objects that were handed out to be changed since the marks were cleared. Each entry has room in it.
+    marks: Vec<usize>,
 }
 
 impl<B> Model for Store<B> {
@@ -31,9 +33,10 @@ impl<B> Model for Store<B> {
       objects = placed_in s.entries s.index.entries;
       pending = length s.idle.items;
       room = vec_capacity s.idle;
+      listed = length s.marks.items;
     } };
 
-    ghost invariant = { λ s. IsStored s.entries s.index.entries s.idle.items (vec_capacity s.idle) };
+    ghost invariant = { λ s. IsStored s.entries s.index.entries s.idle.items (vec_capacity s.idle) s.marks.items (vec_capacity s.marks) };
 }
 
 impl<B> Store<B> {
@@ -47,6 +50,7 @@ impl<B> Store<B> {
             entries: Slab::new(alloc),
             index: BTreeMap::new(alloc),
             idle: Vec::new(alloc),
+            marks: Vec::new(alloc),
         }
     }
 
@@ -80,6 +84,11 @@ impl<B> Store<B> {
         let Some(entry) = self.entries.get_mut(slot) else {
             unreachable!()
         };
+        if entry.listed {
+            return &mut entry.item;
+        }
+        entry.listed = true;
+        self.marks.push_reserved(slot);
         &mut entry.item
     }
 
@@ -112,19 +121,37 @@ impl<B> Store<B> {
         }
     }
 
-    /// Appends the numbers of the objects that were made or changed since the marks were cleared.
-    pub fn append_marked(&self, numbers: &mut Vec<u64>)
-        requires { vec_len numbers.old + length self.now.objects ≤ vec_capacity numbers.old }
-        ensures { numbers.new.items ≡ numbers.old.items ++ marked_in self.now.objects }
+    /// How many slots are listed as those of objects that may have a mark.
+    pub fn listed(&self) -> usize
+        ensures { result ≡ self.now.listed }
     {
-        for (number, slot) in &self.index {
-            let Some(entry) = self.entries.get(*slot) else {
-                unreachable!()
-            };
-            if entry.item.touched {
-                numbers.push_reserved(*number);
-            }
+        self.marks.len()
+    }
+
+    /// Takes a slot from the list of those of objects that may have a mark, and clears the mark. Gives the object's
+    /// number where it had one.
+    pub fn next_marked(&mut self) -> Option<Option<u64>>
+        ensures unmarked { IfSome result (λ found. IfNone found (self.new.objects ≡ self.old.objects)) }
+        ensures marked { IfSome result (λ found. IfSome found (λ number.
+            IsSomeAnd (object_at number self.old.objects) (λ object. (object.item).touched ≡ true)
+            × (self.new.objects ≡ change_at number unmarked self.old.objects))) }
+        ensures fewer { OnSome result (self.new.listed + 1 ≡ self.old.listed) }
+        ensures same { IfNone result (self.new ≡ self.old) }
+        ensures none { IfNone result (NoneMarked self.old.objects) }
+        ensures in_order { IsInOrder self.old.objects }
+    {
+        let Some(slot) = self.marks.pop() else {
+            return None;
+        };
+        let Some(entry) = self.entries.get_mut(slot) else {
+            return Some(None);
+        };
+        entry.listed = false;
+        if !entry.item.touched {
+            return Some(None);
         }
+        entry.item.touched = false;
+        Some(Some(entry.number))
     }
 
     /// Has the next sweep look at a slot.
@@ -183,7 +210,7 @@ impl<B> Store<B> {
             return Err(AllocFailed { value: item });
         }
         let room = self.entries.capacity();
-        if self.idle.reserve(room).is_err() {
+        if self.idle.reserve(room).is_err() || self.marks.reserve(room).is_err() {
             return Err(AllocFailed { value: item });
         }
         let slot = self.entries.vacant_key();
@@ -193,9 +220,11 @@ impl<B> Store<B> {
         self.entries.insert_reserved(Entry {
             number,
             waiting: true,
+            listed: true,
             item,
         });
         self.idle.push_reserved(slot);
+        self.marks.push_reserved(slot);
         Ok(slot)
     }
 
