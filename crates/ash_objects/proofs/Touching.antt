@@ -216,3 +216,7 @@ module _ {B : Type 0} where
       go : (v : Option (Placed B)) → IfSome v (λ object. (object.item).touched ≡ false) → v ≡ option_map unmarked v
       go None h = refl
       go (Some x) h = ap (λ (t : Bool). Some (record { slot = x.slot; waiting = x.waiting; item = record { count = (x.item).count; touched = t; body = (x.item).body } })) h
+
+  -- the numbers that are named rise
+  pub marked_rise : (l : List (ℕ × Placed B)) → IsInOrder l → IsStrictlyIncreasing (marked_in l)
+  marked_rise l o = subst (λ (ns : List ℕ). IsStrictlyIncreasing ns) (sym (numbers-filter (λ e. (e.1.item).touched) l)) (IsStrictlyIncreasing-filter _ (numbers l) o)
