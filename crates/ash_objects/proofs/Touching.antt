@@ -3,9 +3,14 @@ use Rattle.std.proofs.Common.{◌≡◌, ℕ, Bool, true, false, cond, List, [],
 use Rattle.std.specs.Prelude.{IsSomeAnd, IsSome, IfSome, filter, is_some, sum_by}
 use Rattle.std.specs.Option.{option_map}
 use Rattle.std.specs.Map.{keys_of}
+use Rattle.std.specs.List.{AllByRecursion}
+use Rattle.std.specs.List.Sorted.{IsStrictlyIncreasing, IsStrictlySortedBy}
+use Rattle.std.specs.Ordering.{nat_cmp}
+use Rattle.std.proofs.Common.{Less}
+use Rattle.std.proofs.lemmas.Map.Keys.{sorted_from_strictly_increasing, IsStrictlyIncreasing-from_sorted}
 use Rattle.std.proofs.lemmas.Bool.{eqb-true, eq-eqb}
 use Rattle.std.proofs.lemmas.List.Sums.{sum_by-cons}
-use Rattle.ash_host.specs.Objects.{object_at, IsInOrder, Lives}
+use Rattle.ash_host.specs.Objects.{object_at, numbers, IsInOrder}
 use Rattle.ash_host.specs.Reach.{is_among}
 use Rattle.ash_host.proofs.Membership.{is_among-numbers}
 use Rattle.ash_host.proofs.Order.{same_in_order, object_here, object_later, none_behind, in_order_behind}
@@ -217,6 +222,25 @@ module _ {B : Type 0} where
       go None h = refl
       go (Some x) h = ap (λ (t : Bool). Some (record { slot = x.slot; waiting = x.waiting; item = record { count = (x.item).count; touched = t; body = (x.item).body } })) h
 
+  above_kept : (x : ℕ) (l : List (ℕ × Placed B)) → AllByRecursion (λ y. nat_cmp x y ≡ Less) (numbers l) → AllByRecursion (λ y. nat_cmp x y ≡ Less) (marked_in l)
+  above_kept x [] h = tt
+  above_kept x (e ∷ l) h =
+      subst (λ (ns : List ℕ). AllByRecursion (λ y. nat_cmp x y ≡ Less) ns) (sym (cons_marked e.0 e.1 l)) (go (e.1.item).touched (above_kept x l h.1))
+    where
+      go : (b : Bool) → AllByRecursion (λ y. nat_cmp x y ≡ Less) (marked_in l) → AllByRecursion (λ y. nat_cmp x y ≡ Less) (cond b (e.0 ∷ marked_in l) (marked_in l))
+      go true later = (h.0, later)
+      go false later = later
+
+  sorted_kept : (l : List (ℕ × Placed B)) → IsStrictlySortedBy nat_cmp (numbers l) → IsStrictlySortedBy nat_cmp (marked_in l)
+  unfolding IsStrictlySortedBy
+  sorted_kept [] h = tt
+  sorted_kept (e ∷ l) h =
+      subst (λ (ns : List ℕ). IsStrictlySortedBy nat_cmp ns) (sym (cons_marked e.0 e.1 l)) (go (e.1.item).touched (sorted_kept l h.1))
+    where
+      go : (b : Bool) → IsStrictlySortedBy nat_cmp (marked_in l) → IsStrictlySortedBy nat_cmp (cond b (e.0 ∷ marked_in l) (marked_in l))
+      go true later = (above_kept e.0 l h.0, later)
+      go false later = later
+
   -- the numbers that are named rise
   pub marked_rise : (l : List (ℕ × Placed B)) → IsInOrder l → IsStrictlyIncreasing (marked_in l)
-  marked_rise l o = subst (λ (ns : List ℕ). IsStrictlyIncreasing ns) (sym (numbers-filter (λ e. (e.1.item).touched) l)) (IsStrictlyIncreasing-filter _ (numbers l) o)
+  marked_rise l o = IsStrictlyIncreasing-from_sorted (marked_in l) (sorted_kept l (sorted_from_strictly_increasing (numbers l) o))
