@@ -1,10 +1,12 @@
 -- What a file holds before, while and after a gate is written.
 use Rattle.std.proofs.Common.{◌≡◌, inl, inr, ℕ, ◌+◌, ◌≤◌, List, [], ◌∷◌, ◌++◌, length, drop, refl, sym, ◌∙◌, ap, subst, arith, append_assoc, length-append, length-drop, Result, Ok, Err, OnOk, Bool, true, false}
-use Rattle.ash_disk.specs.Image.{after_write, Torn, TornFrom, Only}
+use Rattle.ash_disk.specs.Device.{Device, IsDurable, Throughout}
+use Rattle.ash_disk.specs.Image.{after_write, Torn, TornFrom, Only, torn_not}
 use Rattle.ash_disk.specs.Moments.{During}
-use Rattle.ash_disk.proofs.MomentLaws.{weaker}
+use Rattle.ash_disk.proofs.MomentLaws.{at_start, weaker}
 use Rattle.ash_disk.proofs.TornLaws.{front_stays, byte_torn, written_behind, torn_from_only}
-use Rattle.ash_journal.specs.Writes.{WhileShut, WhileCommitted, IsIdle, AreIdle, repaired}
+use Rattle.ash_journal.specs.Beside.{first_of, second_of}
+use Rattle.ash_journal.specs.Writes.{IsSplit, WritesByte, WhileShut, WhileCommitted, IsIdle, AreIdle, repaired}
 use Rattle.ash_journal.specs.Layout.{IsShut}
 
 pub within : (front behind : List ℕ) (at : ℕ) (file : List ℕ) → length front ≡ at → file ≡ front ++ behind → at ≤ length file
@@ -67,3 +69,28 @@ repaired_shut false (gate ∷ rest) shut = ap (λ (g : ℕ). g ∷ rest) (shut r
 pub torn_idle : (images : List ℕ → Type 0) (seen : List ℕ) → images seen → (IsShut seen → ⊥) → AreIdle images → (image : List ℕ) → TornFrom 0 1 images image → IsIdle image
 torn_idle images seen left not_shut (inl tiny) image (old, old_left, torn) = let was : length old ≤ 1 = tiny old old_left in inl (omega (arith, was, torn.no_longer))
 torn_idle images seen left not_shut (inr shut) image torn = absurd (not_shut (shut seen left))
+
+-- ---- the bytes that are written
+
+-- of a file that is all on the device, where nothing is written
+pub none_written : {D : Type 0} (device : Device D) (at : ℕ) (disk : D) → IsDurable device disk → WritesByte device at disk disk
+none_written device at disk durable = record {
+  seen = torn_not at 1 (device.seen disk);
+  moments = at_start (device.clock disk) (device.leaves disk) (Torn at 1 (device.seen disk)) (λ image left. subst (λ (l : List ℕ). Torn at 1 (device.seen disk) l) (sym (durable image left)) (torn_not at 1 (device.seen disk)));
+}
+
+-- the same of a disk whose file is in two parts
+pub unwritten : {D : Type 0} (device : Device D) (at : ℕ) (disk : D) (front behind : List ℕ) → IsSplit device disk at front behind → WritesByte device at disk disk
+unwritten device at disk front behind split = none_written device at disk split.durable
+
+-- where one byte is
+pub one_written : {D : Type 0} (device : Device D) (at : ℕ) (old new : D) → IsDurable device old → Torn at 1 (device.seen old) (device.seen new) → Throughout device old new (TornFrom at 1 (device.leaves old (device.clock old))) → WritesByte device at old new
+one_written device at old new durable seen moments = record {
+  seen = seen;
+  moments = weaker (device.clock old) (device.clock new) (device.leaves old) (device.leaves new) (TornFrom at 1 (device.leaves old (device.clock old))) (Torn at 1 (device.seen old)) (λ image from. torn_from_only (device.seen old) (device.leaves old (device.clock old)) at 1 image durable from) moments;
+}
+
+-- of the current disk and the other, by which was handed over first
+pub both_written : {D : Type 0} (device : Device D) (swapped : Bool) (end : ℕ) (current current' other other' : D) → WritesByte device end current current' → WritesByte device 0 other other' → WritesByte device (first_of swapped end 0) (first_of swapped current other) (first_of swapped current' other') × WritesByte device (second_of swapped end 0) (second_of swapped current other) (second_of swapped current' other')
+both_written device false end current current' other other' one two = (one, two)
+both_written device true end current current' other other' one two = (two, one)

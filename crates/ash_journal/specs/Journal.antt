@@ -8,6 +8,7 @@ use Rattle.ash_journal.specs.Layout.{solid, records, Fits}
 use Rattle.ash_journal.specs.Current.{Is}
 use Rattle.ash_journal.specs.Beside.{first_of, second_of, is_stray, OtherIs}
 use Rattle.ash_journal.specs.Runs.{Run}
+use Rattle.ash_journal.specs.Writes.{WritesByte}
 
 -- the disk that was handed over first
 abbrev pub first_disk : {D : Type 0} → Journal D → D
@@ -102,3 +103,9 @@ KeepsOther old new = KeepsOtherOf old.swapped (first_disk old) (second_disk old)
 -- a disk of which no gate is to be written over stays as it was
 abbrev pub KeepsUnowed : {D : Type 0} → Journal D → Journal D → Type 0
 KeepsUnowed old new = (old.stray ≡ false → KeepsOne old new) × (is_stray old.beside ≡ false → KeepsOther old new)
+
+-- Nothing was written to a journal's disks but the gates that a repair writes over: of the current file the one behind its
+-- last open record, and of the other its first.
+pub record WritesGates {D : Type 0} (device : Device D) (old new : Journal D) : Type 0 where
+  pub in_first : WritesByte device (first_of old.swapped old.end 0) (first_disk old) (first_disk new)
+  pub in_second : WritesByte device (second_of old.swapped old.end 0) (second_disk old) (second_disk new)

@@ -1,6 +1,7 @@
 -- What one disk holds before and while a gate is written.
 use Rattle.std.specs.Prelude.{◌≡◌, ◌⊎◌, ℕ, ◌≤◌, Bool, true, false, IsTrue, List, [], ◌∷◌, ◌++◌, length, drop}
-use Rattle.ash_disk.specs.Device.{Device, IsDurable}
+use Rattle.ash_disk.specs.Device.{Device, IsDurable, Throughout}
+use Rattle.ash_disk.specs.Image.{Torn}
 use Rattle.ash_journal.specs.Layout.{mark, block, IsShut}
 
 -- An honest disk whose file is all on the device, and has these bytes before an offset and these from it on.
@@ -14,6 +15,12 @@ pub record IsSplit {D : Type 0} (device : Device D) (disk : D) (at : ℕ) (front
 pub record IsOn {D : Type 0} (device : Device D) (disk : D) (file : List ℕ) : Type 0 where
   pub bytes : device.seen disk ≡ file
   pub durable : IsDurable device disk
+
+-- Of a disk nothing was written but the byte at an offset: every other byte reads as before, and at each moment a crash
+-- leaves it as it was.
+pub record WritesByte {D : Type 0} (device : Device D) (at : ℕ) (old new : D) : Type 0 where
+  pub seen : Torn at 1 (device.seen old) (device.seen new)
+  pub moments : Throughout device old new (Torn at 1 (device.seen old))
 
 -- what a crash may leave while 0 is written over a gate
 abbrev pub WhileShut : List ℕ → List ℕ → List ℕ → Type 0

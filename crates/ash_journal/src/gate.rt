@@ -3,7 +3,7 @@ ghost use Rattle.std.specs.Prelude.{◌≡◌, false, IsTrue, ◌+◌, ◌<◌, 
 ghost use Rattle.ash_disk.specs.Failures.{CountsFailure};
 ghost use Rattle.ash_disk.specs.Device.{IsDurable, Throughout};
 ghost use Rattle.ash_journal.specs.Layout.{IsShut};
-ghost use Rattle.ash_journal.specs.Writes.{IsSplit, IsOn, WhileShut, WhileCommitted, WhileRepaired, WhileReplaced, repaired};
+ghost use Rattle.ash_journal.specs.Writes.{IsSplit, IsOn, WritesByte, WhileShut, WhileCommitted, WhileRepaired, WhileReplaced, repaired};
 
 use ash_disk::{DeviceFailed, Disk, write_durably};
 
@@ -16,6 +16,9 @@ pub(crate) fn shut_gate<D: Disk>(disk: &mut D, gate: u64) -> Result<(), DeviceFa
         → IsSplit D.Disk disk.old gate front behind
         → Throughout D.Disk disk.old disk.new
         (WhileShut front behind) }
+    ensures only_gate { (front behind : List ℕ)
+        → IsSplit D.Disk disk.old gate front behind
+        → WritesByte D.Disk gate disk.old disk.new }
     ensures honesty { D.honest disk.new ≡ D.honest disk.old }
     ensures cause { CountsFailure result (D.failures disk.old) (D.failures disk.new) }
 {
@@ -42,6 +45,7 @@ pub(crate) fn commit<D: Disk>(disk: &mut D, gate: u64, bytes: &[u8]) -> Result<(
 }
 
 /// Writes 0 over a gate where it is owed, and syncs.
+#[tactic(auto, using(crate::proofs::GateLaws::unwritten))]
 pub(crate) fn repair<D: Disk>(disk: &mut D, owed: bool, gate: u64) -> Result<(), DeviceFailed>
     ensures repaired { OnOk result ((front behind : List ℕ)
         → IsSplit D.Disk disk.old gate front behind
@@ -50,6 +54,9 @@ pub(crate) fn repair<D: Disk>(disk: &mut D, owed: bool, gate: u64) -> Result<(),
         → IsSplit D.Disk disk.old gate front behind
         → Throughout D.Disk disk.old disk.new
         (WhileRepaired owed front behind) }
+    ensures only_gate { (front behind : List ℕ)
+        → IsSplit D.Disk disk.old gate front behind
+        → WritesByte D.Disk gate disk.old disk.new }
     ensures only_owed { owed ≡ false → disk.new ≡ disk.old }
     ensures honesty { D.honest disk.new ≡ D.honest disk.old }
     ensures cause { CountsFailure result (D.failures disk.old) (D.failures disk.new) }

@@ -61,7 +61,7 @@ pub struct CreateRefused<D> {
 impl<D: Disk> Journal<D> {
     ghost use Rattle.std.specs.Prelude.{◌≡◌, ◌<◌, ◌-◌, ◌↔◌, ◌∷◌, ◌++◌, [], ℕ, List, length, IsTrue, IfOk, IfErr, OnOk, OnErr, IsErr, IsErrOf, MatchResult};
     ghost use Rattle.ash_journal.specs.Failures.{CountsFailures};
-    ghost use Rattle.ash_journal.specs.Journal.{first_disk, second_disk, generation, record_bytes, current_disk, IsReady, IsRepaired, HasFailed, Finds, Holds, KeepsOne, KeepsOther, KeepsUnowed};
+    ghost use Rattle.ash_journal.specs.Journal.{first_disk, second_disk, generation, record_bytes, current_disk, IsReady, IsRepaired, HasFailed, Finds, Holds, KeepsOne, KeepsOther, KeepsUnowed, WritesGates};
     ghost use Rattle.ash_journal.specs.Current.{Is, Either, Represent};
     ghost use Rattle.ash_disk.specs.Device.{IsOnlyRead, EveryMomentSince};
     ghost use Rattle.ash_journal.specs.Layout.{IsClosed};
@@ -312,6 +312,9 @@ impl<D: Disk> Journal<D> {
         ensures only_owed { IsRepaired self.old
             → (first_disk self.new ≡ first_disk self.old) × (second_disk self.new ≡ second_disk self.old) }
         ensures each_owed { KeepsUnowed self.old self.new }
+        ensures gates { (image : List ℕ) (bodies : List (List ℕ))
+            → Finds D.Disk self.old image bodies
+            → WritesGates D.Disk self.old self.new }
         ensures number { generation self.new ≡ generation self.old }
         ensures size { record_bytes self.new ≡ record_bytes self.old }
         ensures cause { CountsFailures (IsErr result)

@@ -1,7 +1,7 @@
 use Rattle.std.proofs.Common.{◌∙◌, ◌∷◌, [], ap}
 use Rattle.ash_disk.specs.Image.{after_write}
 use Rattle.ash_journal.specs.Writes.{WhileShut}
-use Rattle.ash_journal.proofs.GateLaws.{within, shut_written, shut_torn, while_written, on_ok_both}
+use Rattle.ash_journal.proofs.GateLaws.{within, shut_written, shut_torn, while_written, on_ok_both, one_written}
 use Rattle.ash_journal.proofs.gate.shut_gate.Goals as goal
 
 pub returns-clause-shut : goal.returns-clause-shut
@@ -18,3 +18,8 @@ returns-clause-shut g c =
 pub returns-clause-moments : goal.returns-clause-moments
 returns-clause-moments g c front behind split =
     while_written _ _ _ _ _ _ c.args.gate 1 (WhileShut front behind) split.durable split.bytes (shut_torn front behind c.args.gate split.long) (c.write_durably.ensures.moments split.honest_disk (within front behind c.args.gate _ split.long split.bytes))
+
+pub returns-clause-only_gate : goal.returns-clause-only_gate
+returns-clause-only_gate g c front behind split =
+    let fits = within front behind c.args.gate _ split.long split.bytes in
+    one_written g.D.Disk c.args.gate c.args.disk.now c.write_durably.new.disk split.durable (c.write_durably.ensures.in_part split.honest_disk fits) (c.write_durably.ensures.moments split.honest_disk fits)

@@ -6,6 +6,7 @@ use Rattle.ash_journal.specs.Writes.{IsOn, WhileRepaired, repaired}
 use Rattle.ash_journal.specs.Beside.{is_stray}
 use Rattle.ash_journal.specs.Journal.{FilesAre, NothingIsOwed}
 use Rattle.ash_journal.proofs.FilesLaws.{repaired_ready, settle_files, settle_extends, ready_run}
+use Rattle.ash_journal.proofs.GateLaws.{none_written, both_written}
 use Rattle.ash_journal.proofs.journal.Journal.settle.Goals as goal
 
 pub returns-in-Err-clause-extends : goal.returns-in-Err-clause-extends
@@ -52,3 +53,30 @@ returns-clause-extends g c image bodies f =
     settle_extends d j.generation j.end j.record_bytes j.stray j.beside j.current c.repair.new.disk j.other c.repair-2.new.disk image bodies f j.swapped
     (g.met.D.Disk.seen_may_stay j.current f.current_honest) (g.met.D.Disk.seen_may_stay j.other f.other_honest) one
     (subst (λ owed. Throughout d j.other c.repair-2.new.disk (WhileRepaired owed [] (d.seen j.other))) c.is_stray.ensures two)
+
+pub returns-in-Err-clause-gates : goal.returns-in-Err-clause-gates
+returns-in-Err-clause-gates g c image bodies f =
+    let d = g.D.Disk in
+    let j = c.args.self.now in
+    let one = c.repair.ensures.only_gate (solid j.generation image bodies) (f.gate ∷ f.behind) (record { honest_disk = f.current_honest; long = sym f.end_is; bytes = f.bytes; durable = f.current_durable }) in
+    let two = none_written d 0 j.other f.other_durable in
+    let both = both_written d j.swapped j.end j.current c.repair.new.disk j.other j.other one two in
+    record { in_first = both.0; in_second = both.1 }
+
+pub returns-in-Err-repair-clause-gates : goal.returns-in-Err-repair-clause-gates
+returns-in-Err-repair-clause-gates g c image bodies f =
+    let d = g.D.Disk in
+    let j = c.args.self.now in
+    let one = c.repair.ensures.only_gate (solid j.generation image bodies) (f.gate ∷ f.behind) (record { honest_disk = f.current_honest; long = sym f.end_is; bytes = f.bytes; durable = f.current_durable }) in
+    let two = c.repair-2.ensures.only_gate [] (d.seen j.other) (record { honest_disk = f.other_honest; long = refl; bytes = refl; durable = f.other_durable }) in
+    let both = both_written d j.swapped j.end j.current c.repair.new.disk j.other c.repair-2.new.disk one two in
+    record { in_first = both.0; in_second = both.1 }
+
+pub returns-clause-gates : goal.returns-clause-gates
+returns-clause-gates g c image bodies f =
+    let d = g.D.Disk in
+    let j = c.args.self.now in
+    let one = c.repair.ensures.only_gate (solid j.generation image bodies) (f.gate ∷ f.behind) (record { honest_disk = f.current_honest; long = sym f.end_is; bytes = f.bytes; durable = f.current_durable }) in
+    let two = c.repair-2.ensures.only_gate [] (d.seen j.other) (record { honest_disk = f.other_honest; long = refl; bytes = refl; durable = f.other_durable }) in
+    let both = both_written d j.swapped j.end j.current c.repair.new.disk j.other c.repair-2.new.disk one two in
+    record { in_first = both.0; in_second = both.1 }
