@@ -142,7 +142,7 @@ module _ {D : Type 0} (device : Device D) where
       }
 
   -- as a state, and the gates are written over
-  pub settled_on : (registered : List Call) (opened : Opened D) (state : State) (journal : Journal D) (failed : Type 0) → (failed → ⊥) → state.registered ≡ registered → (AreInPlace opened → ReadsAs registered (contents_of opened) (Ok state)) → ((HasFailed opened.journal → ⊥) → IsReady journal) → OnlySettled opened.journal journal → (HoldsRead device opened → Holds device journal opened.image.items (bodies_of opened.records.items)) → (HoldsRead device opened → Extends device (first_disk opened.journal) (second_disk opened.journal) (first_disk journal) (second_disk journal) Nothing) → CountsFailures failed (device.failures (first_disk opened.journal)) (device.failures (second_disk opened.journal)) (device.failures (first_disk journal)) (device.failures (second_disk journal)) → device.honest (first_disk journal) ≡ device.honest (first_disk opened.journal) → device.honest (second_disk journal) ≡ device.honest (second_disk opened.journal) → WasSettled device registered opened state journal
+  pub settled_on : (registered : List Call) (opened : Opened D) (state : State) (journal : Journal D) (failed : Type 0) → (failed → ⊥) → state.registered ≡ registered → (AreInPlace opened → ReadsAs registered (contents_of opened) (Ok state)) → ((HasFailed opened.journal → ⊥) → IsReady journal) → OnlySettled device opened.journal journal → (HoldsRead device opened → Holds device journal opened.image.items (bodies_of opened.records.items)) → (HoldsRead device opened → Extends device (first_disk opened.journal) (second_disk opened.journal) (first_disk journal) (second_disk journal) Nothing) → CountsFailures failed (device.failures (first_disk opened.journal)) (device.failures (second_disk opened.journal)) (device.failures (first_disk journal)) (device.failures (second_disk journal)) → device.honest (first_disk journal) ≡ device.honest (first_disk opened.journal) → device.honest (second_disk journal) ≡ device.honest (second_disk opened.journal) → WasSettled device registered opened state journal
   settled_on registered opened state journal failed not with_it reads ready only holds extends counts honesty_first honesty_second = record {
     registered_is = with_it;
     reads = λ placed. (reads placed).1;
@@ -158,7 +158,7 @@ module _ {D : Type 0} (device : Device D) where
   }
 
   -- as a state, and a device failed then
-  pub not_settled : (registered : List Call) (opened : Opened D) (journal : Journal D) (refused : OpenRefused D) (failed : Type 0) → failed → refused.fault ≡ faults.DeviceFailed → refused.a ≡ first_disk journal → refused.b ≡ second_disk journal → OnlySettled opened.journal journal → (HoldsRead device opened → Extends device (first_disk opened.journal) (second_disk opened.journal) (first_disk journal) (second_disk journal) Nothing) → CountsFailures failed (device.failures (first_disk opened.journal)) (device.failures (second_disk opened.journal)) (device.failures (first_disk journal)) (device.failures (second_disk journal)) → device.honest (first_disk journal) ≡ device.honest (first_disk opened.journal) → device.honest (second_disk journal) ≡ device.honest (second_disk opened.journal) → WasNotSettled device registered opened refused
+  pub not_settled : (registered : List Call) (opened : Opened D) (journal : Journal D) (refused : OpenRefused D) (failed : Type 0) → failed → refused.fault ≡ faults.DeviceFailed → refused.a ≡ first_disk journal → refused.b ≡ second_disk journal → OnlySettled device opened.journal journal → (HoldsRead device opened → Extends device (first_disk opened.journal) (second_disk opened.journal) (first_disk journal) (second_disk journal) Nothing) → CountsFailures failed (device.failures (first_disk opened.journal)) (device.failures (second_disk opened.journal)) (device.failures (first_disk journal)) (device.failures (second_disk journal)) → device.honest (first_disk journal) ≡ device.honest (first_disk opened.journal) → device.honest (second_disk journal) ≡ device.honest (second_disk opened.journal) → WasNotSettled device registered opened refused
   not_settled registered opened journal refused failed has fault_is a_is b_is only extends counts honesty_first honesty_second =
       let a = first_disk opened.journal in
       let b = second_disk opened.journal in

@@ -6,7 +6,7 @@ use Rattle.ash_journal.specs.declared.journal.Journal.{Journal}
 use Rattle.ash_journal.specs.declared.journal.Opened.{Opened}
 use Rattle.ash_journal.specs.Current.{Contents, Represent, SettleOn}
 use Rattle.ash_journal.specs.Failures.{CountsFailures}
-use Rattle.ash_journal.specs.Journal.{first_disk, second_disk, current_disk, generation, record_bytes, HasFailed, IsReady, Holds, KeepsUnowed, Finds as FindsIn}
+use Rattle.ash_journal.specs.Journal.{first_disk, second_disk, current_disk, generation, record_bytes, HasFailed, IsReady, Holds, KeepsUnowed, WritesGates, Finds as FindsIn}
 use Rattle.ash_journal.specs.Layout.{IsClosed}
 use Rattle.ash_journal.specs.Opening.{IsUnsound, IsCutCurrent, HasCurrent}
 use Rattle.ash_journal.specs.Reading.{AreAt, bodies_of}
@@ -147,10 +147,11 @@ pub record HoldsAsRead {D : Type 0} (device : Device D) (a b : D) (state : State
   pub holds : Holds device journal contents.0 contents.1
   pub tells : Tells state contents
 
--- A journal was settled, or was begun to be: of its disks, one on which no gate was to be written over is as it was, and
--- the generation keeps its number and the size of its records.
-pub record OnlySettled {D : Type 0} (was journal : Journal D) : Type 0 where
+-- A journal was settled, or was begun to be: of its disks, one on which no gate was to be written over is as it was, to
+-- another nothing was written but that gate, and the generation keeps its number and the size of its records.
+pub record OnlySettled {D : Type 0} (device : Device D) (was journal : Journal D) : Type 0 where
   pub only_owed : KeepsUnowed was journal
+  pub only_gates : (contents : Contents) → FindsIn device was contents.0 contents.1 → WritesGates device was journal
   pub number_same : generation journal ≡ generation was
   pub size_same : record_bytes journal ≡ record_bytes was
 
@@ -159,7 +160,7 @@ pub record WasRepaired {D : Type 0} (device : Device D) (a b : D) (journal : Jou
   pub was : Journal D
   pub read : WereOnlyRead device a b (first_disk was) (second_disk was)
   pub finds : AreHonest device a b → (contents : Contents) × FindsIn device was contents.0 contents.1
-  pub only : OnlySettled was journal
+  pub only : OnlySettled device was journal
 
 -- two disks are those of a journal that was found on them and was begun to be settled
 abbrev pub AreOfRepaired : {D : Type 0} → Device D → D → D → D → D → Type 0
@@ -173,7 +174,7 @@ pub record WasFound {D : Type 0} (device : Device D) (registered : List Registra
   pub holds : AreHonest device a b → HoldsAsRead device a b state journal
   -- nor does a crash on the way leave any other
   pub moments : AddNothing device a b (first_disk journal) (second_disk journal)
-  -- the generation is the one that was read, and a disk on which no gate was to be written over is as it was read
+  -- the generation is the one that was read, and on each disk nothing was written but a gate that was to be written over
   pub repaired : WasRepaired device a b journal
   pub disks : HandsBack device ⊥ a b (first_disk journal) (second_disk journal)
 
@@ -207,7 +208,7 @@ pub record WasSettled {D : Type 0} (device : Device D) (registered : List Regist
   pub registered_is : state.registered ≡ registered
   pub reads : AreInPlace opened → Tells state (contents_of opened)
   pub ready : (HasFailed opened.journal → ⊥) → IsReady journal
-  pub only : OnlySettled opened.journal journal
+  pub only : OnlySettled device opened.journal journal
   pub holds : HoldsRead device opened → Holds device journal opened.image.items (bodies_of opened.records.items)
   pub extends : HoldsRead device opened → Extends device (first_disk opened.journal) (second_disk opened.journal) (first_disk journal) (second_disk journal) Nothing
   pub disks : HandsBack device ⊥ (first_disk opened.journal) (second_disk opened.journal) (first_disk journal) (second_disk journal)
@@ -217,7 +218,7 @@ pub record WasNotSettled {D : Type 0} (device : Device D) (registered : List Reg
   pub cause : AreInPlace opened → IsFailed refused.fault ⊎ ReadsAs registered (contents_of opened) (Err refused.fault)
   pub read : (IsFailed refused.fault → ⊥) → (refused.a ≡ first_disk opened.journal) × (refused.b ≡ second_disk opened.journal)
   pub extends : HoldsRead device opened → Extends device (first_disk opened.journal) (second_disk opened.journal) refused.a refused.b Nothing
-  pub only : IsFailed refused.fault → (journal : Journal D) × OnlySettled opened.journal journal × (refused.a ≡ first_disk journal) × (refused.b ≡ second_disk journal)
+  pub only : IsFailed refused.fault → (journal : Journal D) × OnlySettled device opened.journal journal × (refused.a ≡ first_disk journal) × (refused.b ≡ second_disk journal)
   pub disks : HandsBack device (IsFailed refused.fault) (first_disk opened.journal) (second_disk opened.journal) refused.a refused.b
 
 -- A journal that was opened holds a state, or its disks are handed back.

@@ -18,12 +18,12 @@ returns-in-Ok-settle g c =
     let e = c.in-Ok-settle.ensures in
     settled_on g.D.Disk with_it opened c.in-Ok.state c.settle.new.self (false ≡ true) false≢true c.in-Ok.ensures.registered
     (read_as opened with_it (Ok c.in-Ok.state) c.deref.result.now c.deref-2.result.now c.deref.ensures.value c.deref-2.ensures.value c.in-Ok.ensures.reads)
-    e.ready (record { only_owed = e.each_owed; number_same = e.number; size_same = e.size }) (λ holds. e.settled _ _ holds) (λ holds. e.extends _ _ holds) e.cause e.honesty_first e.honesty_second
+    e.ready (record { only_owed = e.each_owed; only_gates = λ contents finds. e.gates _ _ finds; number_same = e.number; size_same = e.size }) (λ holds. e.settled _ _ holds) (λ holds. e.extends _ _ holds) e.cause e.honesty_first e.honesty_second
 
 pub returns : goal.returns
 returns g c =
     let e = c.in-Err-settle.ensures in
     not_settled g.D.Disk (registered c.args.registry) c.args.opened c.settle.new.self c.refused-in-Err-settle.result (true ≡ true) refl
     c.refused-in-Err-settle.ensures.fault c.refused-in-Err-settle.ensures.a c.refused-in-Err-settle.ensures.b
-    (record { only_owed = e.each_owed; number_same = e.number; size_same = e.size })
+    (record { only_owed = e.each_owed; only_gates = λ contents finds. e.gates _ _ finds; number_same = e.number; size_same = e.size })
     (λ holds. e.extends _ _ holds) e.cause e.honesty_first e.honesty_second
