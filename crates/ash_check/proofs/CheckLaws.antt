@@ -8,10 +8,10 @@ use Rattle.std.specs.Option.{option_map_or}
 use Rattle.std.specs.List.{Any, Contains}
 use Rattle.ash_registry.specs.Calls.{Call}
 use Rattle.ash_tree.specs.Tree.{Class, Item}
-use Rattle.ash_typed.specs.declared.fault.Rule.{Rule}
-use Rattle.ash_typed.specs.declared.fault.Rule.TheVariants as rules
+use Rattle.ash_typing.specs.declared.fault.Rule.{Rule}
+use Rattle.ash_typing.specs.declared.fault.Rule.TheVariants as rules
 use Rattle.ash_typed.specs.Modules.{Module}
-use Rattle.ash_typed.specs.Items.{module_typed}
+use Rattle.ash_typing.specs.Items.{module_typed}
 use Rattle.ash_expressions.specs.declared.stop.Stop.{Stop}
 use Rattle.ash_expressions.specs.declared.stop.Stop.TheVariants as stops
 use Rattle.ash_expressions.specs.Gives.{Fails}

@@ -2,7 +2,7 @@
 use Rattle.std.proofs.Common.{◌≡◌, ◌↔◌, ◌⊎◌, Bool, true, false, not, ◌&&◌, ◌||◌, IsTrue, inl, inr, refl, sym}
 use Rattle.ash_tree.specs.declared.tree.statements.Label.TheVariants as labels
 use Rattle.ash_tree.specs.Tree.{Stmt, Stmts, Cases, Empty, Declare, Evaluate, Block, If, IfElse, While, DoWhile, For, Switch, Break, Continue, Return, no_stmt, stmt, labelled, no_case, next_case}
-use Rattle.ash_typed.specs.Returning as test
+use Rattle.ash_typing.specs.Returning as test
 use Rattle.ash_check.specs.Returning.{Breaks, break, in_block, in_if, in_then, in_else, BreaksIn, first_breaks, later_breaks, BreaksOut, first_label, later_label, HasDefault, default_first, default_later, Returns, return, block, both, switch, ReturnsIn, first_returns, later_returns, ReturnsLast, last_label, label_before}
 
 either : (a b : Bool) → (a || b) ≡ true → (a ≡ true) ⊎ (b ≡ true)

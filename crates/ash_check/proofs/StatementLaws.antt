@@ -17,11 +17,11 @@ use Rattle.ash_typed.specs.declared.tree.statements.Stmt as typed_stmt
 use Rattle.ash_typed.specs.declared.tree.statements.Case as typed_case
 use Rattle.ash_typed.specs.declared.types.Kind.{Kind}
 use Rattle.ash_typed.specs.BodyViews as typed_views
-use Rattle.ash_typed.specs.Switches.{label_typed}
-use Rattle.ash_typed.specs.Checking.{Checking, ◌>>=◌}
+use Rattle.ash_typing.specs.Switches.{label_typed}
+use Rattle.ash_typing.specs.Checking.{Checking, ◌>>=◌}
 use Rattle.ash_typed.specs.StatementTree.{Initialization, Stmt, Block, Stmts, no_stmt, stmt, stmts, Case, labelled, Cases, no_case, next_case, cases}
-use Rattle.ash_typed.specs.Environment.{Declared}
-use Rattle.ash_typed.specs.Statements.{Scope, block_of, behind, stmt_typed, stmts_typed, cases_typed, is_last}
+use Rattle.ash_typing.specs.Environment.{Declared}
+use Rattle.ash_typing.specs.Statements.{Scope, block_of, behind, stmt_typed, stmts_typed, cases_typed, is_last}
 use Rattle.ash_expressions.specs.declared.environment.Declared as code_declared
 use Rattle.ash_expressions.specs.declared.stop.Stop.{Stop}
 use Rattle.ash_expressions.specs.declared.stop.Stop.TheVariants as stops

@@ -5,12 +5,12 @@ use Rattle.std.specs.List.{Any, Contains}
 use Rattle.std.specs.Option.{option_map_or}
 use Rattle.ash_registry.specs.Calls.{Call}
 use Rattle.ash_tree.specs.Tree.{Class, Item}
-use Rattle.ash_typed.specs.declared.fault.Fault.{Fault}
-use Rattle.ash_typed.specs.declared.fault.Rule.{Rule}
-use Rattle.ash_typed.specs.declared.fault.Rule.TheVariants as rules
-use Rattle.ash_typed.specs.Checking.{Checking}
+use Rattle.ash_typing.specs.declared.fault.Fault.{Fault}
+use Rattle.ash_typing.specs.declared.fault.Rule.{Rule}
+use Rattle.ash_typing.specs.declared.fault.Rule.TheVariants as rules
+use Rattle.ash_typing.specs.Checking.{Checking}
 use Rattle.ash_typed.specs.Modules.{Module}
-use Rattle.ash_typed.specs.Items.{module_typed}
+use Rattle.ash_typing.specs.Items.{module_typed}
 use Rattle.ash_classes.specs.References.{Holds, classes_of}
 use Rattle.ash_classes.specs.ToldCycle.{told_cycle}
 use Rattle.ash_untyped.specs.Uses.{uses}

@@ -8,9 +8,9 @@ use Rattle.ash_typed.specs.declared.tree.statements.Case as case_code
 use Rattle.ash_typed.specs.declared.tree.statements.Initialization as initialization_code
 use Rattle.ash_typed.specs.StatementTree.{Initialization, Stmts, Cases, cases}
 use Rattle.ash_typed.specs.BodyViews.{value_of, case_of, body_of}
-use Rattle.ash_typed.specs.Environment.{Declared}
-use Rattle.ash_typed.specs.Expressions.{Typed}
-use Rattle.ash_typed.specs.Statements.{Scope}
+use Rattle.ash_typing.specs.Environment.{Declared}
+use Rattle.ash_typing.specs.Expressions.{Typed}
+use Rattle.ash_typing.specs.Statements.{Scope}
 use Rattle.ash_expressions.specs.declared.environment.Declared as declared
 use Rattle.ash_expressions.specs.declared.typed.Typed as typed
 use Rattle.ash_expressions.specs.Views.{declared_of, heads_of, typed_of}

@@ -1,8 +1,8 @@
 -- A broken rule of typing, as a script that breaks it is refused.
 use Rattle.std.specs.Prelude.{ℕ}
-use Rattle.ash_typed.specs.declared.fault.Rule.{Rule}
-use Rattle.ash_typed.specs.declared.fault.Rule.TheVariants as rules
-use Rattle.ash_typed.specs.declared.fault.Fault.{Fault}
+use Rattle.ash_typing.specs.declared.fault.Rule.{Rule}
+use Rattle.ash_typing.specs.declared.fault.Rule.TheVariants as rules
+use Rattle.ash_typing.specs.declared.fault.Fault.{Fault}
 use Rattle.ash_expressions.specs.declared.stop.Stop.{Stop}
 use Rattle.ash_expressions.specs.declared.stop.Stop.TheVariants as stops
 use Rattle.ash_check.specs.declared.faults.CheckFault.{CheckFault}

@@ -8,7 +8,7 @@ use Rattle.ash_tree.specs.Views.{parameter_of, stmt_of}
 use Rattle.ash_typed.specs.Tree.{Expr}
 use Rattle.ash_typed.specs.Views.{expr_of}
 use Rattle.ash_typed.specs.declared.tree.expressions.Expr as typed_expr
-use Rattle.ash_typed.specs.Items.{Names, Routine, Row, Members, Walked}
+use Rattle.ash_typing.specs.Items.{Names, Routine, Row, Members, Walked}
 use Rattle.ash_typed.specs.Modules.{variables_of, class_of, module_of}
 use Rattle.ash_typed.specs.declared.tree.items.Variables as variables
 use Rattle.ash_typed.specs.declared.tree.items.Class as class

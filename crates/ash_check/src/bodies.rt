@@ -3,7 +3,7 @@
 ghost use Rattle.std.specs.Prelude.{◌≡◌, ◌↔◌, IsTrue, map};
 ghost use Rattle.ash_tree.specs.Tree.{stmts};
 ghost use Rattle.ash_tree.specs.Views.{stmt_of};
-ghost use Rattle.ash_typed.specs.Bodies as definition;
+ghost use Rattle.ash_typing.specs.Bodies as definition;
 ghost use Rattle.ash_typed.specs.BodyViews.{body_of};
 ghost use Rattle.ash_expressions.specs.Gives.{Gives};
 ghost use Rattle.ash_expressions.specs.Views.{declared_of, environment_of};
@@ -18,7 +18,7 @@ use ash_typed::Ty;
 use std::alloc::Global;
 
 /// The body of a function that gives this type, whose parameters are the locals.
-#[tactic(auto, unfolding(ash_typed::specs::Bodies::body_typed))]
+#[tactic(auto, unfolding(ash_typing::specs::Bodies::body_typed))]
 pub(crate) fn body_typed<'a>(
     alloc: Global,
     env: &Environment<'_, 'a>,

@@ -4,7 +4,7 @@ ghost use Rattle.std.specs.Prelude.{◌≡◌, ◌<◌, ℕ, List, length, map, 
 ghost use Rattle.ash_registry.specs.Registered.{registered};
 ghost use Rattle.ash_tree.specs.Views.{module_of as written_module};
 ghost use Rattle.ash_typed.specs.Modules.{module_of};
-ghost use Rattle.ash_typed.specs.TypedModules.{IsTyped};
+ghost use Rattle.ash_typing.specs.TypedModules.{IsTyped};
 ghost use Rattle.ash_classes.specs.References.{Refers, classes_of, seen};
 ghost use Rattle.ash_classes.specs.Ways.{Reaches, AreRanks};
 ghost use Rattle.ash_check.specs.Checks.{checked, typed_checked, Tells, told_of, name_at, round_of, GoesRoundIfCyclic};

@@ -5,7 +5,7 @@ ghost use Rattle.ash_tree.specs.Views as written;
 ghost use Rattle.ash_typed.specs.Views.{expr_of};
 ghost use Rattle.ash_typed.specs.StatementTree.{If, IfElse, While, DoWhile, For};
 ghost use Rattle.ash_typed.specs.BodyViews.{stmt_of};
-ghost use Rattle.ash_typed.specs.Statements as definition;
+ghost use Rattle.ash_typing.specs.Statements as definition;
 ghost use Rattle.ash_expressions.specs.Gives.{Gives};
 ghost use Rattle.ash_expressions.specs.Views.{environment_of, typed_of, all_typed_of};
 ghost use Rattle.ash_check.specs.StatementViews.{maybe_typed_of};
@@ -17,7 +17,7 @@ use ash_typed::{Expr as TypedExpr, Stmt, StmtKind};
 use std::alloc::{AllocError, Global};
 
 /// `if (condition) inner`
-#[tactic(auto, unfolding(ash_typed::specs::Statements::if_typed))]
+#[tactic(auto, unfolding(ash_typing::specs::Statements::if_typed))]
 pub(crate) fn if_made(line: usize, condition: Typed, inner: Box<Stmt>) -> Checking<Stmt>
     ensures { Gives stmt_of result (definition.if_typed line (Ok (typed_of condition)) (Ok (stmt_of inner.value))) }
 {
@@ -35,7 +35,7 @@ fn if_of(line: usize, condition: TypedExpr, then: Box<Stmt>) -> Stmt
 }
 
 /// `if (condition) inner else other`
-#[tactic(auto, unfolding(ash_typed::specs::Statements::if_else_typed))]
+#[tactic(auto, unfolding(ash_typing::specs::Statements::if_else_typed))]
 pub(crate) fn if_else_made(
     line: usize,
     condition: Typed,
@@ -62,7 +62,7 @@ fn if_else_of(line: usize, condition: TypedExpr, then: Box<Stmt>, otherwise: Box
 }
 
 /// `while (condition) inner`
-#[tactic(auto, unfolding(ash_typed::specs::Statements::while_typed))]
+#[tactic(auto, unfolding(ash_typing::specs::Statements::while_typed))]
 pub(crate) fn while_made(line: usize, condition: Typed, inner: Box<Stmt>) -> Checking<Stmt>
     ensures { Gives stmt_of result (definition.while_typed line (Ok (typed_of condition)) (Ok (stmt_of inner.value))) }
 {
@@ -80,7 +80,7 @@ fn while_of(line: usize, condition: TypedExpr, body: Box<Stmt>) -> Stmt
 }
 
 /// `do inner while (condition);`
-#[tactic(auto, unfolding(ash_typed::specs::Statements::do_while_typed))]
+#[tactic(auto, unfolding(ash_typing::specs::Statements::do_while_typed))]
 pub(crate) fn do_while_made(line: usize, inner: Box<Stmt>, condition: Typed) -> Checking<Stmt>
     ensures { Gives stmt_of result (definition.do_while_typed line (Ok (stmt_of inner.value)) (Ok (typed_of condition))) }
 {
@@ -98,7 +98,7 @@ fn do_while_of(line: usize, body: Box<Stmt>, condition: TypedExpr) -> Stmt
 }
 
 /// `for (first; condition; steps) inner`
-#[tactic(auto, unfolding(ash_typed::specs::Statements::for_typed))]
+#[tactic(auto, unfolding(ash_typing::specs::Statements::for_typed))]
 pub(crate) fn for_made(
     alloc: Global,
     line: usize,

@@ -5,7 +5,7 @@ ghost use Rattle.ash_registry.specs.Registered.{registered};
 ghost use Rattle.ash_tree.specs.Tree.{place_of_type};
 ghost use Rattle.ash_tree.specs.Views.{type_of, initializer_of, decl_of};
 ghost use Rattle.ash_typed.specs.BodyViews.{value_of};
-ghost use Rattle.ash_typed.specs.Declarations as definition;
+ghost use Rattle.ash_typing.specs.Declarations as definition;
 ghost use Rattle.ash_expressions.specs.Gives.{Gives};
 ghost use Rattle.ash_expressions.specs.Views.{class_of, typed_of, callee_of, environment_of};
 ghost use Rattle.ash_check.specs.WalkViews.{maybe_expr};
@@ -15,7 +15,8 @@ use ash_expressions::{
     Callee, Checking, Environment, Parameters, Typed, all_typed, broken, called, expression, fitted,
 };
 use ash_tree::{Decl, Initializer, Place, Type};
-use ash_typed::{Expr, Initialization, ObjectType, Rule, Target, Ty};
+use ash_typed::{Expr, Initialization, ObjectType, Target, Ty};
+use ash_typing::Rule;
 use std::alloc::Global;
 
 #[tactic(auto, using(ash_tree::proofs::Rows::type_place_is))]
@@ -33,7 +34,7 @@ pub(crate) fn ty_in(env: &Environment, of: &Type) -> Ty
 }
 
 /// The type of variables, which has to be known.
-#[tactic(auto, unfolding(ash_typed::specs::Declarations::known_ty))]
+#[tactic(auto, unfolding(ash_typing::specs::Declarations::known_ty))]
 pub(crate) fn known(at: usize, of: Ty) -> Checking<Ty>
     ensures typed { Gives (λ t. t) result (definition.known_ty at of) }
     ensures same { IfOk result (λ known. known ≡ of) }
@@ -44,7 +45,7 @@ pub(crate) fn known(at: usize, of: Ty) -> Checking<Ty>
     }
 }
 
-#[tactic(auto, unfolding(ash_typed::specs::Declarations::class_construction))]
+#[tactic(auto, unfolding(ash_typing::specs::Declarations::class_construction))]
 fn class_construction<'a>(env: &Environment<'a, '_>, place: usize) -> Option<Callee<'a>>
     ensures { option_map callee_of result ≡ definition.class_construction (map class_of env.now.heads.now.classes.items) place }
 {
@@ -56,7 +57,7 @@ fn class_construction<'a>(env: &Environment<'a, '_>, place: usize) -> Option<Cal
     })
 }
 
-#[tactic(auto, unfolding(ash_typed::specs::Declarations::kind_construction))]
+#[tactic(auto, unfolding(ash_typing::specs::Declarations::kind_construction))]
 fn kind_construction<'a>(env: &Environment<'a, '_>, kind: u16) -> Option<Callee<'a>>
     ensures { option_map callee_of result ≡ definition.kind_construction (registered env.now.registry.now) kind }
 {
@@ -65,7 +66,7 @@ fn kind_construction<'a>(env: &Environment<'a, '_>, kind: u16) -> Option<Callee<
 }
 
 /// The construction of an object.
-#[tactic(auto, unfolding(ash_typed::specs::Declarations::construction))]
+#[tactic(auto, unfolding(ash_typing::specs::Declarations::construction))]
 fn construction<'a>(env: &Environment<'a, '_>, of: ObjectType) -> Option<Callee<'a>>
     ensures { option_map callee_of result ≡ definition.construction (environment_of env.now) of }
 {
@@ -76,7 +77,7 @@ fn construction<'a>(env: &Environment<'a, '_>, of: ObjectType) -> Option<Callee<
 }
 
 /// An object, by the type at this offset.
-#[tactic(auto, unfolding(ash_typed::specs::Declarations::constructed))]
+#[tactic(auto, unfolding(ash_typing::specs::Declarations::constructed))]
 fn constructed(
     alloc: Global,
     at: usize,
@@ -93,7 +94,7 @@ fn constructed(
 }
 
 /// `T x`, with the type at this offset.
-#[tactic(auto, unfolding(ash_typed::specs::Declarations::begun))]
+#[tactic(auto, unfolding(ash_typing::specs::Declarations::begun))]
 fn begun(alloc: Global, env: &Environment, at: usize, of: Ty) -> Checking<Option<Expr>>
     ensures { Gives maybe_expr result (definition.begun (environment_of env.now) at of) }
 {
@@ -114,7 +115,7 @@ fn stored_first(alloc: Global, of: Ty, typed: Typed) -> Checking<Option<Expr>>
 }
 
 /// `T x = e`, with x at this offset: objects are not assigned.
-#[tactic(auto, unfolding(ash_typed::specs::Declarations::begun_with))]
+#[tactic(auto, unfolding(ash_typing::specs::Declarations::begun_with))]
 fn begun_with(alloc: Global, at: usize, of: Ty, typed: Typed) -> Checking<Option<Expr>>
     ensures { Gives maybe_expr result (definition.begun_with at of (typed_of typed)) }
 {
@@ -125,7 +126,7 @@ fn begun_with(alloc: Global, at: usize, of: Ty, typed: Typed) -> Checking<Option
 }
 
 /// `T x(e)` is `T x = e` for a primitive type.
-#[tactic(auto, unfolding(ash_typed::specs::Declarations::begun_by_one))]
+#[tactic(auto, unfolding(ash_typing::specs::Declarations::begun_by_one))]
 fn begun_by_one(alloc: Global, at: usize, of: Ty, mut typed: Vec<Typed>) -> Checking<Option<Expr>>
     ensures { Gives maybe_expr result (definition.begun_by_one at of (map typed_of typed.items)) }
 {
@@ -139,7 +140,7 @@ fn begun_by_one(alloc: Global, at: usize, of: Ty, mut typed: Vec<Typed>) -> Chec
 }
 
 /// `T x(e ..)`, with the type and x at these offsets.
-#[tactic(auto, unfolding(ash_typed::specs::Declarations::begun_by))]
+#[tactic(auto, unfolding(ash_typing::specs::Declarations::begun_by))]
 fn begun_by(
     alloc: Global,
     env: &Environment,
@@ -160,7 +161,7 @@ fn begun_by(
     }
 }
 
-#[tactic(auto, unfolding(ash_typed::specs::Declarations::initialized))]
+#[tactic(auto, unfolding(ash_typing::specs::Declarations::initialized))]
 fn initialized(
     alloc: Global,
     env: &Environment,
@@ -185,7 +186,7 @@ fn initialized(
 }
 
 /// A variable of this type, which is written at this offset.
-#[tactic(auto, unfolding(ash_typed::specs::Declarations::decl_typed))]
+#[tactic(auto, unfolding(ash_typing::specs::Declarations::decl_typed))]
 pub(crate) fn decl_typed(
     alloc: Global,
     env: &Environment,

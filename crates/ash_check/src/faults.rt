@@ -5,7 +5,7 @@ ghost use Rattle.ash_check.specs.declared.faults.CheckFault.TheVariants.{NoMemor
 ghost use Rattle.ash_check.specs.Told.{told, stopped};
 
 use ash_expressions::Stop;
-use ash_typed::{Fault, Rule};
+use ash_typing::{Fault, Rule};
 use std::alloc::{AllocError, AllocFailed};
 use std::fmt;
 use thiserror::Error;

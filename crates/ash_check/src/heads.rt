@@ -3,7 +3,7 @@
 ghost use Rattle.std.specs.Prelude.{◌≡◌, ◌++◌, map, option_map, IfOk, OnOk};
 ghost use Rattle.ash_registry.specs.Registered.{registered};
 ghost use Rattle.ash_tree.specs.Views.{type_of, vars_of, parameter_of, function_of as written_function, member_of, class_of as written_class, item_of, module_of};
-ghost use Rattle.ash_typed.specs.Heads as definition;
+ghost use Rattle.ash_typing.specs.Heads as definition;
 ghost use Rattle.ash_expressions.specs.Views.{declared_of, function_of, class_of, heads_of};
 
 use ash_expressions::{Class, Declared, Function, Heads, ty_of};
@@ -13,7 +13,7 @@ use ash_typed::{ObjectType, Ty};
 use std::alloc::{AllocError, Global};
 
 /// A type of objects, by its name: a class of the module, else a registered type.
-#[tactic(auto, unfolding(ash_typed::specs::Heads::object_named))]
+#[tactic(auto, unfolding(ash_typing::specs::Heads::object_named))]
 fn object_named(registry: &Registry, named: &Heads, name: &str) -> Option<ObjectType>
     ensures { result ≡ definition.object_named (registered registry.now) (map class_of named.now.classes.items) name.now }
 {
@@ -27,7 +27,7 @@ fn object_named(registry: &Registry, named: &Heads, name: &str) -> Option<Object
 }
 
 /// The type that is written; arrays have none so far.
-#[tactic(auto, unfolding(ash_typed::specs::Heads::ty_named))]
+#[tactic(auto, unfolding(ash_typing::specs::Heads::ty_named))]
 pub(crate) fn ty_named(registry: &Registry, named: &Heads, of: &Type) -> Ty
     ensures { result ≡ definition.ty_named (registered registry.now) (map class_of named.now.classes.items) (type_of of.now) }
 {
@@ -270,7 +270,7 @@ fn heads_by<'a>(
 }
 
 /// What a module declares.
-#[tactic(auto, unfolding(ash_typed::specs::Heads::heads))]
+#[tactic(auto, unfolding(ash_typing::specs::Heads::heads))]
 pub(crate) fn heads<'a>(
     alloc: Global,
     registry: &Registry,

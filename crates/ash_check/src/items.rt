@@ -3,7 +3,7 @@
 ghost use Rattle.std.specs.Prelude.{◌≡◌, [], map, option_map, IfOk};
 ghost use Rattle.ash_registry.specs.Registered.{registered};
 ghost use Rattle.ash_tree.specs.Views.{type_of, vars_of, parameter_of, member_of, class_of as written_class, function_of as written_function, constructor_of, item_of, module_of as written_module};
-ghost use Rattle.ash_typed.specs.Items as definition;
+ghost use Rattle.ash_typing.specs.Items as definition;
 ghost use Rattle.ash_typed.specs.Modules.{function_of, class_of, module_of};
 ghost use Rattle.ash_expressions.specs.Gives.{Gives};
 ghost use Rattle.ash_expressions.specs.Views.{declared_of, environment_of, heads_of};
@@ -17,7 +17,8 @@ use crate::scopes::any_declares;
 use ash_expressions::{Checking, Declared, Environment, Heads, broken, is_void};
 use ash_registry::Registry;
 use ash_tree::{Constructor, Item, Member, Parameter, Place, Stmt, Type, Vars};
-use ash_typed::{Class, Function, Module, Rule, Ty, Variables};
+use ash_typed::{Class, Function, Module, Ty, Variables};
+use ash_typing::Rule;
 use indexmap::IndexSet;
 use std::alloc::{AllocError, Global};
 
@@ -31,7 +32,7 @@ pub(crate) struct Routine<'a> {
 }
 
 /// The type of a parameter or of a result: objects are passed by handles.
-#[tactic(auto, unfolding(ash_typed::specs::Items::passed_ty))]
+#[tactic(auto, unfolding(ash_typing::specs::Items::passed_ty))]
 fn passed(at: usize, of: Ty) -> Checking<Ty>
     ensures { Gives (λ t. t) result (definition.passed_ty at of) }
 {
@@ -52,7 +53,7 @@ fn result_typed(env: &Environment, of: &Option<Type>) -> Checking<Ty>
 }
 
 /// Variables of a module or of a class.
-#[tactic(auto, unfolding(ash_typed::specs::Items::vars_typed))]
+#[tactic(auto, unfolding(ash_typing::specs::Items::vars_typed))]
 fn vars_typed<'a>(
     alloc: Global,
     env: &Environment<'_, 'a>,
@@ -107,7 +108,7 @@ fn types_of(alloc: Global, all: &[Declared]) -> Result<Vec<Ty>, AllocError>
 }
 
 /// A function that gives this type, a method or a constructor.
-#[tactic(auto, unfolding(ash_typed::specs::Items::routine_typed, ash_typed::specs::Items::returning))]
+#[tactic(auto, unfolding(ash_typing::specs::Items::routine_typed, ash_typing::specs::Items::returning))]
 fn routine_typed<'a>(
     alloc: Global,
     env: &Environment<'_, 'a>,
@@ -144,7 +145,7 @@ fn as_routine(function: &ash_tree::Function) -> Routine<'_>
 }
 
 /// A class has one constructor, which has its name.
-#[tactic(auto, unfolding(ash_typed::specs::Items::constructor_named))]
+#[tactic(auto, unfolding(ash_typing::specs::Items::constructor_named))]
 fn constructor_named<'a>(class: &Class, constructor: &'a Constructor) -> Checking<Routine<'a>>
     ensures { Gives routine_of result (definition.constructor_named (class_of class.now) (constructor_of constructor.now)) }
 {
@@ -163,7 +164,7 @@ fn constructor_named<'a>(class: &Class, constructor: &'a Constructor) -> Checkin
 }
 
 /// A member of a class, behind those that it has so far.
-#[tactic(auto, unfolding(ash_typed::specs::Items::member_typed))]
+#[tactic(auto, unfolding(ash_typing::specs::Items::member_typed))]
 fn member_typed<'a>(
     alloc: Global,
     env: &Environment<'_, 'a>,
@@ -194,7 +195,7 @@ fn member_typed<'a>(
 }
 
 /// The class of this place.
-#[tactic(auto, unfolding(ash_typed::specs::Items::class_typed))]
+#[tactic(auto, unfolding(ash_typing::specs::Items::class_typed))]
 fn class_typed<'a>(
     alloc: Global,
     env: &Environment<'_, 'a>,
@@ -228,7 +229,7 @@ fn class_typed<'a>(
 }
 
 /// There are at most 256 classes in a module.
-#[tactic(auto, unfolding(ash_typed::specs::Items::one_more_class))]
+#[tactic(auto, unfolding(ash_typing::specs::Items::one_more_class))]
 fn one_more_class(at: usize, count: usize) -> Checking<usize>
     ensures { Gives (λ place. place) result (definition.one_more_class at count) }
 {
@@ -239,7 +240,7 @@ fn one_more_class(at: usize, count: usize) -> Checking<usize>
 }
 
 /// An item of a module, behind those that it has so far.
-#[tactic(auto, unfolding(ash_typed::specs::Items::item_typed))]
+#[tactic(auto, unfolding(ash_typing::specs::Items::item_typed))]
 fn item_typed<'a>(
     alloc: Global,
     env: &Environment<'_, 'a>,
@@ -303,7 +304,7 @@ fn items_typed<'a>(
 }
 
 /// A module, typed, or its first fault.
-#[tactic(auto, unfolding(ash_typed::specs::Items::module_typed))]
+#[tactic(auto, unfolding(ash_typing::specs::Items::module_typed))]
 pub(crate) fn module_typed(
     alloc: Global,
     registry: &Registry,

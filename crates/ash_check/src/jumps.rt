@@ -4,7 +4,7 @@ ghost use Rattle.std.specs.Prelude.{◌≡◌, map, option_map};
 ghost use Rattle.ash_tree.specs.Views as written;
 ghost use Rattle.ash_typed.specs.Views.{expr_of};
 ghost use Rattle.ash_typed.specs.BodyViews.{stmt_of};
-ghost use Rattle.ash_typed.specs.Statements as definition;
+ghost use Rattle.ash_typing.specs.Statements as definition;
 ghost use Rattle.ash_expressions.specs.Gives.{Gives};
 ghost use Rattle.ash_expressions.specs.Views.{declared_of, typed_of};
 ghost use Rattle.ash_check.specs.StatementViews.{scope_of};
@@ -12,11 +12,12 @@ ghost use Rattle.ash_check.specs.StatementViews.{scope_of};
 use crate::scopes::Scope;
 use ash_expressions::{Checking, Declared, Typed, broken, expression, fitted, is_void};
 use ash_tree::{Expr, Place};
-use ash_typed::{Expr as TypedExpr, Rule, Stmt as TypedStmt, StmtKind as TypedKind, Ty};
+use ash_typed::{Expr as TypedExpr, Stmt as TypedStmt, StmtKind as TypedKind, Ty};
+use ash_typing::Rule;
 use std::alloc::Global;
 
 /// `break`, which has to leave a loop or a `switch`.
-#[tactic(auto, unfolding(ash_typed::specs::Statements::break_typed))]
+#[tactic(auto, unfolding(ash_typing::specs::Statements::break_typed))]
 pub(crate) fn break_typed(leaves: bool, place: Place) -> Checking<TypedStmt>
     ensures { Gives stmt_of result (definition.break_typed leaves place) }
 {
@@ -30,7 +31,7 @@ pub(crate) fn break_typed(leaves: bool, place: Place) -> Checking<TypedStmt>
 }
 
 /// `continue`, which has to stand in a loop.
-#[tactic(auto, unfolding(ash_typed::specs::Statements::continue_typed))]
+#[tactic(auto, unfolding(ash_typing::specs::Statements::continue_typed))]
 pub(crate) fn continue_typed(leaves: bool, place: Place) -> Checking<TypedStmt>
     ensures { Gives stmt_of result (definition.continue_typed leaves place) }
 {
@@ -51,7 +52,7 @@ fn gives_nothing(of: Ty) -> bool
 }
 
 /// A value that is returned at this offset.
-#[tactic(auto, unfolding(ash_typed::specs::Statements::returned))]
+#[tactic(auto, unfolding(ash_typing::specs::Statements::returned))]
 fn returned(alloc: Global, of: Ty, at: usize, value: Typed) -> Checking<TypedExpr>
     ensures { Gives expr_of result (definition.returned of at (typed_of value)) }
 {
@@ -62,7 +63,7 @@ fn returned(alloc: Global, of: Ty, at: usize, value: Typed) -> Checking<TypedExp
 }
 
 /// `return`, with a value where its function gives one.
-#[tactic(auto, unfolding(ash_typed::specs::Statements::return_typed))]
+#[tactic(auto, unfolding(ash_typing::specs::Statements::return_typed))]
 pub(crate) fn return_typed(
     alloc: Global,
     scope: &Scope,

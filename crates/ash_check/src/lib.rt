@@ -1,7 +1,7 @@
 //! The check of scripts: from trees, with names as they are written, to typed trees, or to why a script is refused.
 //!
 //! `check` answers a script's typed module and a rank for each of its classes; else its first fault. What is typed, and
-//! which fault is the first, `ash_typed` defines: `module_typed` of its `specs/Items.antt` walks a script in the order of
+//! which fault is the first, `ash_typing` defines: `module_typed` of its `specs/Items.antt` walks a script in the order of
 //! the text. Where every rule is kept, classes must not reach themselves by what their fields hold: `ash_classes` has
 //! their ranks, or the cycle that is told. `checked` of `specs/Checks.antt` says all this as one function, and `check`
 //! gives what it says, unless memory runs out. Expressions are typed by `ash_expressions`.

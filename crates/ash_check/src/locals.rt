@@ -2,8 +2,8 @@
 
 ghost use Rattle.std.specs.Prelude.{◌≡◌, ◌++◌, map, IfOk};
 ghost use Rattle.ash_tree.specs.Views.{decl_of, vars_of};
-ghost use Rattle.ash_typed.specs.Heads.{declared};
-ghost use Rattle.ash_typed.specs.Statements as definition;
+ghost use Rattle.ash_typing.specs.Heads.{declared};
+ghost use Rattle.ash_typing.specs.Statements as definition;
 ghost use Rattle.ash_expressions.specs.Gives.{Gives};
 ghost use Rattle.ash_check.specs.StatementViews.{locals_of, scope_of, values_of};
 
@@ -38,7 +38,7 @@ fn decls_typed<'n>(
 }
 
 /// Variables of one type.
-#[tactic(auto, unfolding(ash_typed::specs::Statements::vars_typed))]
+#[tactic(auto, unfolding(ash_typing::specs::Statements::vars_typed))]
 pub(crate) fn vars_typed<'n>(
     alloc: Global,
     scope: &Scope<'_, 'n>,

@@ -3,14 +3,14 @@
 ghost use Rattle.std.specs.Prelude.{◌≡◌, false, [], ◌∷◌, ◌++◌, OnOk};
 ghost use Rattle.std.specs.List.{list_any};
 ghost use Rattle.std.specs.Str.{bytes_eq};
-ghost use Rattle.ash_typed.specs.Items as definition;
+ghost use Rattle.ash_typing.specs.Items as definition;
 ghost use Rattle.ash_expressions.specs.Gives.{Gives};
 ghost use Rattle.ash_expressions.specs.Places.{texts};
 ghost use Rattle.ash_check.specs.WalkViews.{names_of};
 
 use ash_expressions::{Checking, broken};
 use ash_registry::Registry;
-use ash_typed::Rule;
+use ash_typing::Rule;
 use indexmap::IndexSet;
 use std::alloc::AllocError;
 
@@ -51,7 +51,7 @@ impl<'a> Names<'a> {
     }
 
     /// A name at this offset that was not taken, and is from now on.
-    #[tactic(auto, unfolding(ash_typed::specs::Items::untaken))]
+    #[tactic(auto, unfolding(ash_typing::specs::Items::untaken))]
     pub(crate) fn take(&mut self, at: usize, name: &'a str) -> Checking<()>
         ensures { Gives (λ _. names_of self.new) result (definition.untaken (names_of self.old) at name.now) }
     {
@@ -63,7 +63,7 @@ impl<'a> Names<'a> {
     }
 
     /// One more, at this offset.
-    #[tactic(auto, unfolding(ash_typed::specs::Items::one_more))]
+    #[tactic(auto, unfolding(ash_typing::specs::Items::one_more))]
     pub(crate) fn count(&mut self, at: usize) -> Checking<()>
         ensures { Gives (λ _. names_of self.new) result (definition.one_more (names_of self.old) at) }
     {

@@ -3,9 +3,9 @@
 ghost use Rattle.std.specs.Prelude.{◌≡◌, drop, map, IfOk};
 ghost use Rattle.std.specs.List.{list_any};
 ghost use Rattle.ash_tree.specs.Views.{decl_of};
-ghost use Rattle.ash_typed.specs.Environment.{declares};
-ghost use Rattle.ash_typed.specs.Heads.{declared};
-ghost use Rattle.ash_typed.specs.Statements as definition;
+ghost use Rattle.ash_typing.specs.Environment.{declares};
+ghost use Rattle.ash_typing.specs.Heads.{declared};
+ghost use Rattle.ash_typing.specs.Statements as definition;
 ghost use Rattle.ash_expressions.specs.Gives.{Gives};
 ghost use Rattle.ash_expressions.specs.Views.{declared_of, environment_of};
 ghost use Rattle.ash_check.specs.StatementViews.{scope_of};
@@ -13,7 +13,8 @@ ghost use Rattle.ash_check.specs.StatementViews.{scope_of};
 use ash_expressions::{Checking, Declared, Environment, Heads, broken};
 use ash_registry::Registry;
 use ash_tree::Decl;
-use ash_typed::{Rule, Ty};
+use ash_typed::Ty;
+use ash_typing::Rule;
 
 /// What a statement sees beside the locals.
 #[derive(Clone, Copy)]
@@ -73,7 +74,7 @@ impl<'a, 'n> Scope<'a, 'n> {
     }
 
     /// A variable whose name is not taken in its block.
-    #[tactic(auto, unfolding(ash_typed::specs::Statements::fresh))]
+    #[tactic(auto, unfolding(ash_typing::specs::Statements::fresh))]
     pub(crate) fn fresh(
         &self,
         locals: &[Declared],

@@ -4,7 +4,7 @@ ghost use Rattle.std.specs.Prelude.{◌≡◌, [], map, option_map, IfOk};
 ghost use Rattle.ash_tree.specs.Tree.{Declare, Evaluate, Block, If, IfElse, While, DoWhile, For, Switch, stmts, cases};
 ghost use Rattle.ash_tree.specs.Views as written;
 ghost use Rattle.ash_typed.specs.BodyViews.{stmt_of};
-ghost use Rattle.ash_typed.specs.Statements as definition;
+ghost use Rattle.ash_typing.specs.Statements as definition;
 ghost use Rattle.ash_expressions.specs.Gives.{Gives};
 ghost use Rattle.ash_check.specs.StatementViews.{locals_of, scope_of, stmts_in, cases_in};
 ghost use Rattle.ash_expressions.specs.Views.{declared_of};
@@ -165,7 +165,7 @@ fn inner_block<'n>(
 
 /// `if (condition) inner`
 #[cycle(statements)]
-#[tactic(auto, unfolding(ash_typed::specs::Statements::if_typed))]
+#[tactic(auto, unfolding(ash_typing::specs::Statements::if_typed))]
 fn if_typed<'n>(
     alloc: Global,
     scope: &Scope<'_, 'n>,
@@ -184,7 +184,7 @@ fn if_typed<'n>(
 
 /// `if (condition) inner else other`
 #[cycle(statements)]
-#[tactic(auto, unfolding(ash_typed::specs::Statements::if_else_typed))]
+#[tactic(auto, unfolding(ash_typing::specs::Statements::if_else_typed))]
 fn if_else_typed<'n>(
     alloc: Global,
     scope: &Scope<'_, 'n>,
@@ -205,7 +205,7 @@ fn if_else_typed<'n>(
 
 /// `while (condition) inner`
 #[cycle(statements)]
-#[tactic(auto, unfolding(ash_typed::specs::Statements::while_typed))]
+#[tactic(auto, unfolding(ash_typing::specs::Statements::while_typed))]
 fn while_typed<'n>(
     alloc: Global,
     scope: &Scope<'_, 'n>,
@@ -228,7 +228,7 @@ fn while_typed<'n>(
 
 /// `do inner while (condition);`
 #[cycle(statements)]
-#[tactic(auto, unfolding(ash_typed::specs::Statements::do_while_typed))]
+#[tactic(auto, unfolding(ash_typing::specs::Statements::do_while_typed))]
 fn do_while_typed<'n>(
     alloc: Global,
     scope: &Scope<'_, 'n>,
@@ -251,7 +251,7 @@ fn do_while_typed<'n>(
 
 /// `for (first; condition; steps) body`
 #[cycle(statements)]
-#[tactic(auto, unfolding(ash_typed::specs::Statements::for_typed))]
+#[tactic(auto, unfolding(ash_typing::specs::Statements::for_typed))]
 fn for_typed<'n>(
     alloc: Global,
     scope: &Scope<'_, 'n>,

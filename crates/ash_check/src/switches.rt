@@ -4,13 +4,14 @@ ghost use Rattle.std.specs.Prelude.{◌≡◌, ◌<◌, ◌+◌, length, map, dr
 ghost use Rattle.std.specs.List.{list_any};
 ghost use Rattle.ash_tree.specs.Tree.{cases};
 ghost use Rattle.ash_tree.specs.Views.{case_of};
-ghost use Rattle.ash_typed.specs.Statements as walk;
-ghost use Rattle.ash_typed.specs.Switches as definition;
+ghost use Rattle.ash_typing.specs.Statements as walk;
+ghost use Rattle.ash_typing.specs.Switches as definition;
 ghost use Rattle.ash_expressions.specs.Gives.{Gives};
 
 use ash_expressions::{Checking, broken, holds};
 use ash_tree::{Case, Label};
-use ash_typed::{Kind, Rule, Ty};
+use ash_typed::{Kind, Ty};
+use ash_typing::Rule;
 
 /// The integer type of the value, where it has one.
 pub(crate) fn kind_in(of: Ty) -> Option<Kind>
@@ -34,7 +35,7 @@ fn holds_minus(kind: Kind, number: u64) -> bool
 }
 
 /// Whether a type holds the constant of a label. No range is known without an integer type.
-#[tactic(auto, unfolding(ash_typed::specs::Switches::is_within))]
+#[tactic(auto, unfolding(ash_typing::specs::Switches::is_within))]
 fn is_within(kind: Option<Kind>, label: Label) -> bool
     ensures { result ≡ definition.is_within kind label }
 {
@@ -78,7 +79,7 @@ pub(crate) fn is_last(labels: &[Case], i: usize) -> bool
 }
 
 /// The constant of a label at this offset, behind the labels before it.
-#[tactic(auto, unfolding(ash_typed::specs::Switches::constant_typed))]
+#[tactic(auto, unfolding(ash_typing::specs::Switches::constant_typed))]
 fn constant(kind: Option<Kind>, before: &[Label], at: usize, label: Label) -> Checking<Label>
     ensures { Gives (λ l. l) result (definition.constant_typed kind before.now at label) }
 {
@@ -92,7 +93,7 @@ fn constant(kind: Option<Kind>, before: &[Label], at: usize, label: Label) -> Ch
 }
 
 /// A label at this offset: `default` has to be the last one.
-#[tactic(auto, unfolding(ash_typed::specs::Switches::label_typed))]
+#[tactic(auto, unfolding(ash_typing::specs::Switches::label_typed))]
 pub(crate) fn label(
     kind: Option<Kind>,
     before: &[Label],

@@ -1,14 +1,14 @@
 -- What was made before a turn of a loop, with what is made of the rest.
 use Rattle.std.proofs.Common.{◌≡◌, ◌≤◌, false, List, [], ◌∷◌, ◌++◌, length, map, Option, Some, None, Ok, Err, refl, sym, ap, ◌∙◌, append_assoc, append-nil, arith}
 use Rattle.ash_tree.specs.Tree as written
-use Rattle.ash_typed.specs.declared.fault.Fault.{Fault}
+use Rattle.ash_typing.specs.declared.fault.Fault.{Fault}
 use Rattle.ash_typed.specs.declared.types.Ty.{Ty}
 use Rattle.ash_typed.specs.declared.tree.expressions.Expr as code
-use Rattle.ash_typed.specs.Checking.{Checking, ◌>>=◌}
+use Rattle.ash_typing.specs.Checking.{Checking, ◌>>=◌}
 use Rattle.ash_typed.specs.Tree.{Expr, Exprs, no_expr, expr, exprs}
 use Rattle.ash_typed.specs.Views.{expr_of}
-use Rattle.ash_typed.specs.Environment.{Environment}
-use Rattle.ash_typed.specs.Expressions.{Typed, fitted, all_fitted, typed, all_typed}
+use Rattle.ash_typing.specs.Environment.{Environment}
+use Rattle.ash_typing.specs.Expressions.{Typed, fitted, all_fitted, typed, all_typed}
 use Rattle.ash_expressions.specs.declared.stop.Stop.{Stop}
 use Rattle.ash_expressions.specs.declared.stop.Stop.TheVariants as reasons
 use Rattle.ash_expressions.specs.Gives.{Fails}

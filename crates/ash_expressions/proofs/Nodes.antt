@@ -12,9 +12,9 @@ use Rattle.ash_tree.specs.declared.tree.expressions.Link as code_link
 use Rattle.ash_tree.specs.Tree as written
 use Rattle.ash_tree.specs.Views.{expr_at, expr_of, suffix_of, operation_of}
 use Rattle.ash_tree.proofs.Rows.{call_is, method_is, binary_is, postfix_is}
-use Rattle.ash_typed.specs.Checking.{◌>>=◌}
-use Rattle.ash_typed.specs.Environment.{Environment}
-use Rattle.ash_typed.specs.Expressions.{typed, all_typed, call_typed, invocation_typed, links_typed, suffixes_typed, suffix_typed}
+use Rattle.ash_typing.specs.Checking.{◌>>=◌}
+use Rattle.ash_typing.specs.Environment.{Environment}
+use Rattle.ash_typing.specs.Expressions.{typed, all_typed, call_typed, invocation_typed, links_typed, suffixes_typed, suffix_typed}
 use Rattle.ash_expressions.specs.declared.typed.Typed as code_typed
 use Rattle.ash_expressions.specs.declared.stop.Stop.{Stop}
 use Rattle.ash_expressions.specs.Gives.{Gives}

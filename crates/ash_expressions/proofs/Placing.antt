@@ -13,7 +13,7 @@ use Rattle.std.proofs.lemmas.Slice.Eq.{bytes_eq-Decides}
 use Rattle.indexmap.specs.IndexMap.{IndexMap, UpdatesBy}
 use Rattle.ash_registry.specs.Names.{place_of}
 use Rattle.ash_registry.proofs.Places.{placed_is_any, place_stays, place_of_new}
-use Rattle.ash_typed.specs.Environment.{first_from}
+use Rattle.ash_typing.specs.Environment.{first_from}
 use Rattle.ash_expressions.specs.Places.{place_in, ArePlaces, texts}
 
 -- one more leaves the place of the first that passes

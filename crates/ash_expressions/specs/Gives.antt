@@ -1,9 +1,9 @@
 -- What a function of the code gives: what the definition gives, unless memory ran out.
 use Rattle.std.specs.Prelude.{◌≡◌, ℕ, Result, Ok, Err}
-use Rattle.ash_typed.specs.declared.fault.Rule.{Rule}
+use Rattle.ash_typing.specs.declared.fault.Rule.{Rule}
 use Rattle.ash_expressions.specs.declared.stop.Stop.{Stop}
 use Rattle.ash_expressions.specs.declared.stop.Stop.TheVariants as stops
-use Rattle.ash_typed.specs.Checking.{Checking}
+use Rattle.ash_typing.specs.Checking.{Checking}
 
 abbrev pub Fails : {Y : Type 0} → Stop → Checking Y → Type 0
 Fails (stops.Fault f) checked = checked ≡ Err f

@@ -18,9 +18,9 @@ use Rattle.ash_expressions.specs.declared.environment.Callee as callee
 use Rattle.ash_expressions.specs.declared.environment.Invoked as invoked
 use Rattle.ash_typed.specs.declared.types.Ty.{Ty}
 use Rattle.ash_typed.specs.declared.tree.expressions.Expr as typed_expr
-use Rattle.ash_typed.specs.Types.{ty_of}
-use Rattle.ash_typed.specs.Environment.{Declared, Function, Class, Heads, Environment, Known, Callee, Invoked}
-use Rattle.ash_typed.specs.Expressions.{Typed, Met}
+use Rattle.ash_typing.specs.Types.{ty_of}
+use Rattle.ash_typing.specs.Environment.{Declared, Function, Class, Heads, Environment, Known, Callee, Invoked}
+use Rattle.ash_typing.specs.Expressions.{Typed, Met}
 use Rattle.ash_expressions.specs.declared.operators.Met as met
 
 abbrev pub typed_of : typed.Typed → Typed

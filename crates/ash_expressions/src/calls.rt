@@ -1,8 +1,8 @@
 //! Names, calls and suffixes, once their parts are typed.
 
 ghost use Rattle.std.specs.Prelude.{◌≡◌, length, map, option_map};
-ghost use Rattle.ash_typed.specs.Environment as environment;
-ghost use Rattle.ash_typed.specs.Expressions as typing;
+ghost use Rattle.ash_typing.specs.Environment as environment;
+ghost use Rattle.ash_typing.specs.Expressions as typing;
 ghost use Rattle.ash_expressions.specs.Gives.{Gives};
 ghost use Rattle.ash_expressions.specs.Views.{typed_of, parameters_of, callee_of, invoked_of, environment_of, arguments_of, maybe_invoked, first_and_rest, split_of};
 
@@ -10,7 +10,8 @@ use crate::environment::{Callee, Environment, Invoked, Parameters};
 use crate::stop::{Checking, broken};
 use crate::typed::{Typed, fitted, made};
 use crate::types::ty_of;
-use ash_typed::{Alone, Expr, Member, ObjectType, Rule, Ty, nodes};
+use ash_typed::{Expr, Member, ObjectType, Ty, nodes};
+use ash_typing::{Alone, Rule};
 use std::alloc::Global;
 
 impl<'a> Parameters<'a> {
@@ -56,7 +57,7 @@ fn all_fitted(alloc: Global, parameters: &Parameters, arguments: Vec<Typed>) -> 
 }
 
 /// Arguments of a call by the name at this offset.
-#[tactic(auto, unfolding(ash_typed::specs::Expressions::arguments_at))]
+#[tactic(auto, unfolding(ash_typing::specs::Expressions::arguments_at))]
 fn arguments(
     alloc: Global,
     at: usize,
@@ -72,7 +73,7 @@ fn arguments(
 }
 
 /// A call by the name at this offset.
-#[tactic(auto, unfolding(ash_typed::specs::Expressions::called))]
+#[tactic(auto, unfolding(ash_typing::specs::Expressions::called))]
 pub fn called(alloc: Global, at: usize, callee: &Callee, typed: Vec<Typed>) -> Checking<Typed>
     ensures { Gives typed_of result (typing.called at (callee_of callee.now) (map typed_of typed.items) (option_map parameters_of callee.now.parameters)) }
 {
@@ -131,7 +132,7 @@ fn member(
 }
 
 /// `base.name`, at the name
-#[tactic(auto, unfolding(ash_typed::specs::Expressions::field_of))]
+#[tactic(auto, unfolding(ash_typing::specs::Expressions::field_of))]
 pub(crate) fn field(
     env: &Environment,
     alloc: Global,
@@ -166,7 +167,7 @@ fn invoked_method<'a>(
 }
 
 /// The method of `base.name(..)`, at the name; nothing where the type of the base is unknown.
-#[tactic(auto, unfolding(ash_typed::specs::Expressions::method_of))]
+#[tactic(auto, unfolding(ash_typing::specs::Expressions::method_of))]
 pub(crate) fn method<'a>(
     env: &Environment<'a, '_>,
     base: &Typed,
@@ -183,7 +184,7 @@ pub(crate) fn method<'a>(
 }
 
 /// `base.name(..)`, at the name
-#[tactic(auto, unfolding(ash_typed::specs::Expressions::invoked))]
+#[tactic(auto, unfolding(ash_typing::specs::Expressions::invoked))]
 pub(crate) fn invoked(
     alloc: Global,
     base: Typed,

@@ -4,7 +4,7 @@ ghost use Rattle.std.specs.Prelude.{◌≡◌, None, map, option_map, IfOk};
 ghost use Rattle.std.specs.Option.{option_copied};
 ghost use Rattle.ash_registry.specs.Registered.{registered};
 ghost use Rattle.ash_registry.specs.Calls.{call_of};
-ghost use Rattle.ash_typed.specs.Environment as environment;
+ghost use Rattle.ash_typing.specs.Environment as environment;
 ghost use Rattle.ash_expressions.specs.Views.{declared_of, function_of, class_of, environment_of, placed_type, placed_function, placed_class, known_of, callee_of, parameters_of, invoked_of};
 
 use crate::tables::Heads;
@@ -270,7 +270,7 @@ impl<'a, 'n> Environment<'a, 'n> {
     }
 
     /// A name alone: a local, else a field of the object that runs, else a global.
-    #[tactic(auto, unfolding(ash_typed::specs::Environment::variable_in))]
+    #[tactic(auto, unfolding(ash_typing::specs::Environment::variable_in))]
     pub(crate) fn variable(
         &self,
         alloc: Global,
@@ -315,7 +315,7 @@ impl<'a, 'n> Environment<'a, 'n> {
     }
 
     /// What the factory of a registered type takes.
-    #[tactic(auto, unfolding(ash_typed::specs::Environment::factory_in))]
+    #[tactic(auto, unfolding(ash_typing::specs::Environment::factory_in))]
     fn factory(&self, of: &str) -> Option<Parameters<'a>>
         ensures { option_map parameters_of result ≡ environment.factory_in (registered self.now.registry.now) of.now }
     {
@@ -324,7 +324,7 @@ impl<'a, 'n> Environment<'a, 'n> {
 
     /// A name before brackets: a method of the object that runs, a function of the module, a registered function, a
     /// class, or a registered type.
-    #[tactic(auto, unfolding(ash_typed::specs::Environment::callee_in))]
+    #[tactic(auto, unfolding(ash_typing::specs::Environment::callee_in))]
     pub(crate) fn callee(&self, name: &str) -> Option<Callee<'a>>
         ensures { option_map callee_of result ≡ environment.callee_in (environment_of self.now) name.now }
     {
@@ -353,7 +353,7 @@ impl<'a, 'n> Environment<'a, 'n> {
     }
 
     /// The name of a registered type, by its kind.
-    #[tactic(auto, unfolding(ash_typed::specs::Environment::name_of_kind))]
+    #[tactic(auto, unfolding(ash_typing::specs::Environment::name_of_kind))]
     fn type_name(&self, kind: u16) -> &'a str
         ensures { result.now ≡ environment.name_of_kind (registered self.now.registry.now) kind }
     {
@@ -364,7 +364,7 @@ impl<'a, 'n> Environment<'a, 'n> {
     }
 
     /// A method or a property of a registered type.
-    #[tactic(auto, unfolding(ash_typed::specs::Environment::host_member_in))]
+    #[tactic(auto, unfolding(ash_typing::specs::Environment::host_member_in))]
     fn host_member(&self, kind: u16, name: &str) -> Option<&'a Call>
         ensures { option_map call_of (option_copied result) ≡ environment.host_member_in (registered self.now.registry.now) kind name.now }
     {
@@ -372,7 +372,7 @@ impl<'a, 'n> Environment<'a, 'n> {
     }
 
     /// What an object holds, with its type.
-    #[tactic(auto, unfolding(ash_typed::specs::Environment::member_in))]
+    #[tactic(auto, unfolding(ash_typing::specs::Environment::member_in))]
     pub(crate) fn member(&self, of: ObjectType, name: &str) -> Option<(Member, Ty)>
         ensures { result ≡ environment.member_in (environment_of self.now) of name.now }
     {
@@ -382,7 +382,7 @@ impl<'a, 'n> Environment<'a, 'n> {
         }
     }
 
-    #[tactic(auto, unfolding(ash_typed::specs::Environment::method_of_class))]
+    #[tactic(auto, unfolding(ash_typing::specs::Environment::method_of_class))]
     fn class_method(&self, class: usize, name: &str) -> Option<Invoked<'a>>
         ensures { option_map invoked_of result ≡ environment.method_of_class (map class_of self.now.heads.now.classes.items) class name.now }
     {
@@ -390,7 +390,7 @@ impl<'a, 'n> Environment<'a, 'n> {
         method_of(class, of, name)
     }
 
-    #[tactic(auto, unfolding(ash_typed::specs::Environment::method_of_kind))]
+    #[tactic(auto, unfolding(ash_typing::specs::Environment::method_of_kind))]
     fn kind_method(&self, kind: u16, name: &str) -> Option<Invoked<'a>>
         ensures { option_map invoked_of result ≡ environment.method_of_kind (registered self.now.registry.now) kind name.now }
     {
@@ -399,7 +399,7 @@ impl<'a, 'n> Environment<'a, 'n> {
     }
 
     /// A method of an object.
-    #[tactic(auto, unfolding(ash_typed::specs::Environment::method_in))]
+    #[tactic(auto, unfolding(ash_typing::specs::Environment::method_in))]
     pub(crate) fn method(&self, of: ObjectType, name: &str) -> Option<Invoked<'a>>
         ensures { option_map invoked_of result ≡ environment.method_in (environment_of self.now) of name.now }
     {

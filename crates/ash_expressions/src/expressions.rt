@@ -3,8 +3,8 @@
 ghost use Rattle.std.specs.Prelude.{false, Ok, map};
 ghost use Rattle.ash_tree.specs.Tree.{exprs, links, suffixes};
 ghost use Rattle.ash_tree.specs.Views as written;
-ghost use Rattle.ash_typed.specs.Checking.{◌>>=◌ as ◌and_then◌};
-ghost use Rattle.ash_typed.specs.Expressions as typing;
+ghost use Rattle.ash_typing.specs.Checking.{◌>>=◌ as ◌and_then◌};
+ghost use Rattle.ash_typing.specs.Expressions as typing;
 ghost use Rattle.ash_expressions.specs.Gives.{Gives};
 ghost use Rattle.ash_expressions.specs.Views.{typed_of, all_typed_of, environment_of};
 
@@ -15,7 +15,8 @@ use crate::stop::{Checking, broken};
 use crate::typed::{Typed, made, numeral};
 use crate::types::is_assign;
 use ash_tree::{AssignOp, Expr, ExprKind, Link, Primitive, Suffix, UnaryOp};
-use ash_typed::{Expr as TypedExpr, Rule, Step, Ty};
+use ash_typed::{Expr as TypedExpr, Step, Ty};
+use ash_typing::Rule;
 use std::alloc::Global;
 
 /// An expression; `left` is whether it stands left of `=`. What has parts stands in a function of its own, so that the

@@ -3,7 +3,7 @@
 ghost use Rattle.std.specs.Prelude.{Ok};
 ghost use Rattle.ash_typed.specs.Tree.{Alter, place_in};
 ghost use Rattle.ash_typed.specs.Views.{expr_of, place_of};
-ghost use Rattle.ash_typed.specs.Expressions as typing;
+ghost use Rattle.ash_typing.specs.Expressions as typing;
 ghost use Rattle.ash_expressions.specs.Gives.{Gives};
 ghost use Rattle.ash_expressions.specs.Views.{typed_of, met_of};
 
@@ -14,9 +14,8 @@ use crate::types::{
     signed, sort_of, takes, ty_of,
 };
 use ash_tree::{AssignOp, BinaryOp, Primitive, UnaryOp};
-use ash_typed::{
-    Alone, Change, Expr, Kind, Operand, Operands, Operation, Place, Rule, Sort, Step, Ty, nodes,
-};
+use ash_typed::{Change, Expr, Kind, Operand, Operands, Operation, Place, Step, Ty, nodes};
+use ash_typing::{Alone, Rule, Sort};
 use std::alloc::Global;
 
 /// The operands of an operator, and what it takes them for.
@@ -57,7 +56,7 @@ fn met_by(alloc: Global, sort: Sort, left: Typed, right: Typed) -> Checking<Met>
     })
 }
 
-#[tactic(auto, unfolding(ash_typed::specs::Expressions::met))]
+#[tactic(auto, unfolding(ash_typing::specs::Expressions::met))]
 fn met_operands(
     alloc: Global,
     operator: BinaryOp,
@@ -74,7 +73,7 @@ fn met_operands(
 }
 
 /// An operator between two operands.
-#[tactic(auto, unfolding(ash_typed::specs::Expressions::operate))]
+#[tactic(auto, unfolding(ash_typing::specs::Expressions::operate))]
 pub(crate) fn operate(
     alloc: Global,
     operator: BinaryOp,
@@ -96,7 +95,7 @@ pub(crate) fn operate(
 }
 
 /// `++` or `--` at a place.
-#[tactic(auto, unfolding(ash_typed::specs::Expressions::counted))]
+#[tactic(auto, unfolding(ash_typing::specs::Expressions::counted))]
 pub(crate) fn counted(alloc: Global, at: usize, step: Step, operand: Typed) -> Checking<Typed>
     ensures { Gives typed_of result (typing.counted at step (typed_of operand) (place_in (expr_of operand.tree))) }
 {
@@ -136,7 +135,7 @@ fn handle_at(alloc: Global, left: bool, at: usize, operand: Typed) -> Checking<T
 }
 
 /// An operator before its operand; `left` is whether it stands left of `=`.
-#[tactic(auto, unfolding(ash_typed::specs::Expressions::unary_at))]
+#[tactic(auto, unfolding(ash_typing::specs::Expressions::unary_at))]
 pub(crate) fn unary(
     alloc: Global,
     left: bool,
@@ -170,7 +169,7 @@ pub(crate) fn unary(
 }
 
 /// `prim(e)`
-#[tactic(auto, unfolding(ash_typed::specs::Expressions::convert_at))]
+#[tactic(auto, unfolding(ash_typing::specs::Expressions::convert_at))]
 pub(crate) fn converted(alloc: Global, at: usize, to: Primitive, value: Typed) -> Checking<Typed>
     ensures { Gives typed_of result (typing.convert_at at to (typed_of value)) }
 {
@@ -187,7 +186,7 @@ pub(crate) fn converted(alloc: Global, at: usize, to: Primitive, value: Typed) -
 }
 
 /// `condition ? then : otherwise`
-#[tactic(auto, unfolding(ash_typed::specs::Expressions::choice))]
+#[tactic(auto, unfolding(ash_typing::specs::Expressions::choice))]
 pub(crate) fn choice(
     alloc: Global,
     condition: Typed,
@@ -232,7 +231,7 @@ fn updated(
     Ok(made(at, Ty::Integer(kind), tree))
 }
 
-#[tactic(auto, unfolding(ash_typed::specs::Expressions::stored))]
+#[tactic(auto, unfolding(ash_typing::specs::Expressions::stored))]
 fn stored(
     alloc: Global,
     at: usize,
@@ -254,7 +253,7 @@ fn stored(
 }
 
 /// An assignment, once both sides are typed.
-#[tactic(auto, unfolding(ash_typed::specs::Expressions::assigned))]
+#[tactic(auto, unfolding(ash_typing::specs::Expressions::assigned))]
 pub(crate) fn assigned(
     alloc: Global,
     target: Typed,

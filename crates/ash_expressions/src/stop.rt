@@ -4,7 +4,7 @@ ghost use Rattle.std.specs.Prelude.{◌≡◌};
 ghost use Rattle.ash_expressions.specs.declared.stop.Stop.TheVariants.{NoMemory};
 ghost use Rattle.ash_expressions.specs.Gives.{stop_at};
 
-use ash_typed::{Fault, Rule};
+use ash_typing::{Fault, Rule};
 use std::alloc::{AllocError, AllocFailed};
 
 /// Why checking stops.

@@ -24,7 +24,7 @@ pub struct Heads<'a> {
 
 impl<'a> Heads<'a> {
     ghost use Rattle.std.specs.Prelude.{◌≡◌, option_map, IfOk};
-    ghost use Rattle.ash_typed.specs.Environment as environment;
+    ghost use Rattle.ash_typing.specs.Environment as environment;
     ghost use Rattle.ash_expressions.specs.Views.{declared_of, function_of, class_of, placed_type, placed_function, placed_class};
 
     /// What is declared.

@@ -3,13 +3,14 @@
 ghost use Rattle.std.specs.Prelude.{◌≡◌, IfOk};
 ghost use Rattle.ash_typed.specs.Tree.{converted};
 ghost use Rattle.ash_typed.specs.Views.{expr_of};
-ghost use Rattle.ash_typed.specs.Expressions as typing;
+ghost use Rattle.ash_typing.specs.Expressions as typing;
 ghost use Rattle.ash_expressions.specs.Gives.{Gives};
 ghost use Rattle.ash_expressions.specs.Views.{typed_of};
 
 use crate::stop::{Checking, broken};
 use crate::types::{conversion, fits, holds, kind_of};
-use ash_typed::{Alone, Expr, Kind, Rule, Sort, Ty, nodes};
+use ash_typed::{Expr, Kind, Ty, nodes};
+use ash_typing::{Alone, Rule, Sort};
 use std::alloc::{AllocError, Global};
 
 /// A typed expression, with the offset of its first token and what it is by itself.
@@ -57,7 +58,7 @@ pub(crate) fn brought(alloc: Global, to: Ty, typed: Typed) -> Result<Expr, Alloc
 }
 
 /// The value, as a variable of this type takes it.
-#[tactic(auto, unfolding(ash_typed::specs::Expressions::fitted))]
+#[tactic(auto, unfolding(ash_typing::specs::Expressions::fitted))]
 pub fn fitted(alloc: Global, to: Ty, typed: Typed) -> Checking<Expr>
     ensures { Gives expr_of result (typing.fitted to (typed_of typed)) }
 {
@@ -117,7 +118,7 @@ fn adapt_to(other: Alone, of: Ty, typed: &mut Typed)
 }
 
 /// An operand beside another, whose type and form are given.
-#[tactic(auto, unfolding(ash_typed::specs::Expressions::adapted))]
+#[tactic(auto, unfolding(ash_typing::specs::Expressions::adapted))]
 pub(crate) fn adapt(sort: Sort, other: Alone, of: Ty, typed: &mut Typed)
     ensures { typed_of typed.new ≡ typing.adapted sort other of (typed_of typed.old) }
 {

@@ -1,11 +1,12 @@
 //! Types, and what operators take.
 
 ghost use Rattle.std.specs.Prelude.{◌≡◌};
-ghost use Rattle.ash_typed.specs.Types as types;
-ghost use Rattle.ash_typed.specs.Expressions as typing;
+ghost use Rattle.ash_typing.specs.Types as types;
+ghost use Rattle.ash_typing.specs.Expressions as typing;
 
 use ash_tree::{AssignOp, BinaryOp, Primitive};
-use ash_typed::{Alone, Conversion, Kind, ObjectType, Operands, Sort, Ty};
+use ash_typed::{Conversion, Kind, ObjectType, Operands, Ty};
+use ash_typing::{Alone, Sort};
 
 pub(crate) fn is_signed(kind: Kind) -> bool
     ensures { result ≡ types.is_signed kind }

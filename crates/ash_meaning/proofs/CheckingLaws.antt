@@ -24,8 +24,8 @@ use Rattle.ash_parse.proofs.ItemComplete.{module_read as parsed_again}
 use Rattle.ash_parse.proofs.WholeModules.{module_derived}
 use Rattle.ash_parse.proofs.FirstFaults.{module_stops_first, first_is_stop}
 use Rattle.ash_registry.specs.Calls.{Call}
-use Rattle.ash_typed.specs.declared.fault.Rule.{Rule}
-use Rattle.ash_typed.specs.declared.fault.Rule.TheVariants as rules
+use Rattle.ash_typing.specs.declared.fault.Rule.{Rule}
+use Rattle.ash_typing.specs.declared.fault.Rule.TheVariants as rules
 use Rattle.ash_typed.specs.Modules.{Module as Typed}
 use Rattle.ash_check.specs.declared.faults.CheckFault.{CheckFault}
 use Rattle.ash_check.specs.Checks.{Told, NotYet, Broken, Cyclic, checked, told_of, IsWhatIsTold, Tells}

@@ -4,14 +4,14 @@ use Rattle.std.specs.List.{list_any, AllByRecursion}
 use Rattle.std.specs.Str.{bytes_eq}
 use Rattle.ash_registry.specs.Calls.{Call, takes_name}
 use Rattle.ash_tree.specs.Tree as written
-use Rattle.ash_typed.specs.declared.fault.Rule.{Rule}
+use Rattle.ash_typing.specs.declared.fault.Rule.{Rule}
 use Rattle.ash_typed.specs.declared.types.Ty.{Ty}
-use Rattle.ash_typed.specs.Checking.{Checking, ◌>>=◌, broken}
-use Rattle.ash_typed.specs.Declarations.{Initialization, decl_typed}
-use Rattle.ash_typed.specs.Environment.{Environment}
-use Rattle.ash_typed.specs.Heads.{heads}
+use Rattle.ash_typing.specs.Checking.{Checking, ◌>>=◌, broken}
+use Rattle.ash_typing.specs.Declarations.{Initialization, decl_typed}
+use Rattle.ash_typing.specs.Environment.{Environment}
+use Rattle.ash_typing.specs.Heads.{heads}
 use Rattle.ash_typed.specs.Modules.{Module}
-use Rattle.ash_typed.specs.Items.{Names, Row, Walked, is_taken, untaken, one_more, placed, known_ty, at_type, ty_in, result_typed, with_variable, no_variables, decls_typed, vars_typed, routine_of, routine_typed, one_more_class, class_typed, item_typed, items_typed, seen, nothing, module_typed}
+use Rattle.ash_typing.specs.Items.{Names, Row, Walked, is_taken, untaken, one_more, placed, known_ty, at_type, ty_in, result_typed, with_variable, no_variables, decls_typed, vars_typed, routine_of, routine_typed, one_more_class, class_typed, item_typed, items_typed, seen, nothing, module_typed}
 use Rattle.ash_classes.specs.References.{classes_of}
 use Rattle.ash_check.specs.Checks.{Told, NotYet, checked_by, typed_checked, checked}
 use Rattle.ash_meaning.specs.Checking.{IsFree, declared_in, DeclareFreeNames}

@@ -16,8 +16,8 @@ use Rattle.ash_parse.specs.ItemReader.{module_at}
 use Rattle.ash_parse.specs.Faults.{fault_of}
 use Rattle.ash_parse.specs.FirstFault.{FirstFault}
 use Rattle.ash_registry.specs.Calls.{Call as Registration, takes_name}
-use Rattle.ash_typed.specs.declared.fault.Rule.{Rule}
-use Rattle.ash_typed.specs.declared.fault.Rule.TheVariants as rules
+use Rattle.ash_typing.specs.declared.fault.Rule.{Rule}
+use Rattle.ash_typing.specs.declared.fault.Rule.TheVariants as rules
 use Rattle.ash_typed.specs.Modules.{Module}
 use Rattle.ash_check.specs.Checks.{Told, NotYet, Broken, Cyclic, checked, told_of}
 use Rattle.ash_check.specs.declared.faults.CheckFault.{CheckFault}

@@ -5,8 +5,7 @@ use Rattle.ash_typed.specs.declared.tree.items.Function as function
 use Rattle.ash_typed.specs.declared.tree.items.Class as class
 use Rattle.ash_typed.specs.declared.tree.items.Module as script
 use Rattle.ash_typed.specs.declared.types.Ty.{Ty}
-use Rattle.ash_typed.specs.Bodies.{Body}
-use Rattle.ash_typed.specs.Declarations.{Initialization}
+use Rattle.ash_typed.specs.StatementTree.{Initialization, Body}
 use Rattle.ash_typed.specs.BodyViews.{body_of, value_of}
 
 -- variables that are declared together, with the line of their first token

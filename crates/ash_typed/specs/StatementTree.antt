@@ -37,6 +37,10 @@ mutual
     no_case : Cases
     next_case : Case → Cases → Cases
 
+-- the statements of a body
+abbrev pub Body : Type 0
+Body = Stmts
+
 abbrev pub stmts : List Stmt → Stmts
 stmts [] = no_stmt
 stmts (s ∷ ss) = stmt s (stmts ss)

@@ -38,30 +38,3 @@ pub enum Ty {
     /// A type that is declared and not known. A fault is told at its declaration, and none before it for its sake.
     Unknown,
 }
-
-/// What an operator between two operands is of.
-#[derive(Clone, Copy, Debug, PartialEq, Eq)]
-pub enum Sort {
-    /// `+ - * / % & ^ |`
-    Arithmetic,
-    /// `<< >> >>>`
-    Shift,
-    /// `< <= > >=`
-    Order,
-    /// `== !=`
-    Equality,
-    /// `is !is`
-    Identity,
-    /// `&& || ^^`
-    Logic,
-}
-
-/// What an expression is by itself; in brackets it is nothing of this.
-#[derive(Clone, Copy, Debug, PartialEq, Eq)]
-pub enum Alone {
-    /// A number, which takes the type of the other operand.
-    Number(u64),
-    /// `@e`
-    Handle,
-    Other,
-}

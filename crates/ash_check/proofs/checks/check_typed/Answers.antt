@@ -9,7 +9,7 @@ use Rattle.ash_classes.specs.Ways.{IsTold}
 use Rattle.ash_check.specs.Checks.{typed_checked, Cyclic, GoesRound}
 use Rattle.ash_check.specs.Told.{stopped}
 use Rattle.ash_check.proofs.CheckLaws.{stop_is_told, tells_if_err, typed_is_checked, cycle_is_told, way_begins_within, way_is_within, goes_round}
-use Rattle.ash_typed.proofs.ModuleLaws.{module_typed-exact}
+use Rattle.ash_typing.proofs.ModuleLaws.{module_typed-exact}
 use Rattle.ash_check.proofs.checks.check_typed.Goals as goal
 
 pub returns-in_err-module-clause-answer : goal.returns-in_err-module-clause-answer

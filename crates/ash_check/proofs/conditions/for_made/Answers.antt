@@ -1,7 +1,7 @@
 use Rattle.std.proofs.Common.{◌≡◌, Ok, Err, ap, Result, Bool}
-use Rattle.ash_typed.specs.Checking.{Checking, ◌>>=◌}
+use Rattle.ash_typing.specs.Checking.{Checking, ◌>>=◌}
 use Rattle.ash_typed.specs.StatementTree.{Stmt}
-use Rattle.ash_typed.specs.Statements as definition
+use Rattle.ash_typing.specs.Statements as definition
 use Rattle.ash_expressions.specs.declared.stop.Stop.{Stop}
 use Rattle.ash_expressions.specs.declared.stop.Stop.TheVariants as stops
 use Rattle.ash_expressions.specs.Gives.{Fails}

@@ -1,7 +1,7 @@
 use Rattle.std.proofs.Common.{◌≡◌, ◌++◌, map}
 use Rattle.std.specs.Vec.Iter.{into_iter_items}
 use Rattle.ash_typed.specs.Views.{expr_of}
-use Rattle.ash_typed.specs.Statements.{tree_of}
+use Rattle.ash_typing.specs.Statements.{tree_of}
 use Rattle.ash_expressions.specs.Views.{typed_of, all_typed_of}
 use Rattle.ash_check.proofs.conditions.trees_of.Given as goal
 

@@ -1,6 +1,6 @@
 use Rattle.std.proofs.Common.{◌≡◌, ◌++◌, map, drop}
 use Rattle.ash_tree.specs.Views.{decl_of}
-use Rattle.ash_typed.specs.Heads.{declared}
+use Rattle.ash_typing.specs.Heads.{declared}
 use Rattle.ash_expressions.specs.Views.{declared_of}
 use Rattle.ash_check.proofs.heads.declare.Given as goal
 

@@ -1,6 +1,6 @@
 use Rattle.std.proofs.Common.{◌≡◌, ◌++◌, map, drop}
 use Rattle.ash_tree.specs.Views.{item_of}
-use Rattle.ash_typed.specs.Heads as definition
+use Rattle.ash_typing.specs.Heads as definition
 use Rattle.ash_expressions.specs.Views.{class_of}
 use Rattle.ash_check.proofs.heads.named_classes.Given as goal
 

@@ -1,6 +1,6 @@
 use Rattle.std.proofs.Common.{◌≡◌, [], map, drop}
 use Rattle.ash_tree.specs.Views.{parameter_of}
-use Rattle.ash_typed.specs.Items as definition
+use Rattle.ash_typing.specs.Items as definition
 use Rattle.ash_expressions.specs.Views.{declared_of, environment_of}
 use Rattle.ash_check.proofs.items.parameters_typed.Given as goal
 

@@ -1,5 +1,5 @@
 use Rattle.std.proofs.Common.{◌≡◌, ◌++◌, map, drop}
-use Rattle.ash_typed.specs.Items as definition
+use Rattle.ash_typing.specs.Items as definition
 use Rattle.ash_expressions.specs.Views.{declared_of}
 use Rattle.ash_check.proofs.items.types_of.Given as goal
 

@@ -1,6 +1,6 @@
 use Rattle.std.proofs.Common.{◌≡◌, map, drop}
 use Rattle.ash_tree.specs.Views.{decl_of}
-use Rattle.ash_typed.specs.Items.{decls_typed}
+use Rattle.ash_typing.specs.Items.{decls_typed}
 use Rattle.ash_expressions.specs.Views.{environment_of}
 use Rattle.ash_check.specs.WalkViews.{names_of, row_of}
 use Rattle.ash_check.proofs.items.vars_typed.Given as goal

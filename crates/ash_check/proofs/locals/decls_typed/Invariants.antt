@@ -1,7 +1,7 @@
 use Rattle.std.proofs.Common.{◌≡◌, ◌++◌, map, drop}
 use Rattle.ash_tree.specs.Views.{decl_of}
-use Rattle.ash_typed.specs.Heads.{declared}
-use Rattle.ash_typed.specs.Statements as definition
+use Rattle.ash_typing.specs.Heads.{declared}
+use Rattle.ash_typing.specs.Statements as definition
 use Rattle.ash_check.specs.StatementViews.{locals_of, scope_of, values_of}
 use Rattle.ash_check.proofs.StatementLaws.{values_after}
 use Rattle.ash_check.proofs.locals.decls_typed.Given as goal

@@ -1,6 +1,6 @@
 use Rattle.std.proofs.Common.{◌≡◌, map, drop}
 use Rattle.std.specs.List.{list_any}
-use Rattle.ash_typed.specs.Environment.{declares}
+use Rattle.ash_typing.specs.Environment.{declares}
 use Rattle.ash_expressions.specs.Views.{declared_of}
 use Rattle.ash_check.proofs.scopes.any_declares.Given as goal
 

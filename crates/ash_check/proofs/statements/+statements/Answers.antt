@@ -5,9 +5,9 @@ use Rattle.ash_tree.specs.declared.tree.statements.Case as code_case
 use Rattle.ash_tree.specs.Tree as written
 use Rattle.ash_tree.specs.Views.{stmt_of, case_of}
 use Rattle.ash_typed.specs.BodyViews as typed_views
-use Rattle.ash_typed.specs.Statements as definition
-use Rattle.ash_typed.specs.Statements.{stmts_typed}
-use Rattle.ash_typed.specs.Switches.{label_typed}
+use Rattle.ash_typing.specs.Statements as definition
+use Rattle.ash_typing.specs.Statements.{stmts_typed}
+use Rattle.ash_typing.specs.Switches.{label_typed}
 use Rattle.ash_expressions.specs.Gives.{Gives, Fails}
 use Rattle.ash_expressions.specs.Views.{declared_of}
 use Rattle.ash_check.specs.StatementViews.{locals_of, scope_of}

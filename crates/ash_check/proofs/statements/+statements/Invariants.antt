@@ -5,7 +5,7 @@ use Rattle.ash_tree.specs.declared.tree.statements.Case.{size-Case}
 use Rattle.ash_tree.specs.Tree.{stmts, cases}
 use Rattle.ash_tree.specs.Views as written
 use Rattle.ash_typed.specs.BodyViews.{stmt_of, case_of}
-use Rattle.ash_typed.specs.Statements as definition
+use Rattle.ash_typing.specs.Statements as definition
 use Rattle.ash_check.specs.StatementViews.{locals_of, scope_of}
 use Rattle.ash_check.proofs.StatementLaws.{stmts_after, cases_after, Extends}
 use Rattle.ash_check.proofs.statements.+statements.Given as goal

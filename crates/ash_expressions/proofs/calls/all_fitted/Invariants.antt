@@ -1,7 +1,7 @@
 use Rattle.std.proofs.Common.{◌≡◌, map}
 use Rattle.std.specs.Vec.Iter.{into_iter_items}
 use Rattle.ash_typed.specs.Views.{expr_of}
-use Rattle.ash_typed.specs.Expressions.{all_fitted}
+use Rattle.ash_typing.specs.Expressions.{all_fitted}
 use Rattle.ash_expressions.specs.Views.{typed_of, parameters_of}
 use Rattle.ash_expressions.proofs.Loops.{fitted_after}
 use Rattle.ash_expressions.proofs.calls.all_fitted.Given as goal

@@ -1,5 +1,5 @@
 use Rattle.std.proofs.Common.{◌≡◌, map, drop}
-use Rattle.ash_typed.specs.Environment.{first_from, is_called}
+use Rattle.ash_typing.specs.Environment.{first_from, is_called}
 use Rattle.ash_expressions.specs.Views.{function_of}
 use Rattle.ash_expressions.proofs.environment.first_function.Given as goal
 

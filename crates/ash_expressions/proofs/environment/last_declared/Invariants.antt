@@ -1,5 +1,5 @@
 use Rattle.std.proofs.Common.{◌≡◌, None, map, drop}
-use Rattle.ash_typed.specs.Environment.{last_named}
+use Rattle.ash_typing.specs.Environment.{last_named}
 use Rattle.ash_expressions.specs.Views.{declared_of}
 use Rattle.ash_expressions.proofs.environment.last_declared.Given as goal
 

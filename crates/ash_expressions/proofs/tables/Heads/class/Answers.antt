@@ -1,6 +1,6 @@
 use Rattle.std.proofs.Common.{None, Some, ◌∙◌, ap, sym, slice_get}
 use Rattle.std.specs.Option.{option_map}
-use Rattle.ash_typed.specs.Environment.{is_class}
+use Rattle.ash_typing.specs.Environment.{is_class}
 use Rattle.ash_expressions.specs.Views.{class_of, placed_class}
 use Rattle.ash_expressions.proofs.Placing.{first_placed, place_mapped}
 use Rattle.ash_expressions.proofs.tables.Heads.class.Goals as goal

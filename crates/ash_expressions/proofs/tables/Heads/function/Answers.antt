@@ -1,6 +1,6 @@
 use Rattle.std.proofs.Common.{None, Some, ◌∙◌, ap, sym, slice_get}
 use Rattle.std.specs.Option.{option_map}
-use Rattle.ash_typed.specs.Environment.{is_called}
+use Rattle.ash_typing.specs.Environment.{is_called}
 use Rattle.ash_expressions.specs.Views.{function_of, placed_function}
 use Rattle.ash_expressions.proofs.Placing.{first_placed, place_mapped}
 use Rattle.ash_expressions.proofs.tables.Heads.function.Goals as goal

@@ -1,6 +1,6 @@
 use Rattle.std.proofs.Common.{None, Some, ◌∙◌, ap, sym, slice_get}
 use Rattle.std.specs.Option.{option_map}
-use Rattle.ash_typed.specs.Environment.{declares}
+use Rattle.ash_typing.specs.Environment.{declares}
 use Rattle.ash_expressions.specs.Views.{declared_of, placed_type}
 use Rattle.ash_expressions.proofs.Placing.{first_placed, place_mapped}
 use Rattle.ash_expressions.proofs.tables.Heads.global.Goals as goal

@@ -1,0 +1,15 @@
+pub mod TypingWords
+pub mod TypingComplete
+pub mod TypingKnown
+pub mod TypingSound
+pub mod TypingVariables
+pub mod Bindings
+pub mod TakenNames
+pub mod TypedVariables
+pub mod StatementsComplete
+pub mod StatementsSound
+pub mod TypedRoutines
+pub mod TypedClasses
+pub mod TypedItems
+pub mod KnownModules
+pub mod ModuleLaws

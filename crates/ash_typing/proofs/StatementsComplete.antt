@@ -1,0 +1,202 @@
+-- What has a typed tree by the rules of statements is typed by the walk.
+use Rattle.std.proofs.Common.{◌≡◌, ℕ, List, [], ◌∷◌, ◌++◌, map, Bool, true, false, ◌||◌, Option, Some, None, option_map, Ok, refl, sym, ◌∙◌, ap}
+use Rattle.std.specs.List.{list_any}
+use Rattle.ash_tree.specs.declared.tree.statements.Label.{Label}
+use Rattle.ash_tree.specs.declared.tree.statements.Label.TheVariants as labels
+use Rattle.ash_tree.specs.declared.tree.places.Place.{Place}
+use Rattle.ash_tree.specs.Tree as written
+use Rattle.ash_typed.specs.declared.types.Kind.{Kind}
+use Rattle.ash_typed.specs.declared.types.Ty.{Ty}
+use Rattle.ash_typed.specs.declared.types.Ty.TheVariants as ty
+use Rattle.ash_typing.specs.Types.{fits}
+use Rattle.ash_typing.specs.Checking.{Checking}
+use Rattle.ash_typed.specs.Tree.{Expr}
+use Rattle.ash_typed.specs.StatementTree.{Initialization, Stmt, If, IfElse, While, DoWhile, For, Switch, Break, Continue, Return, Stmts, Cases}
+use Rattle.ash_typing.specs.Environment.{Environment}
+use Rattle.ash_typing.specs.Expressions.{Typed, typed, all_typed, integer_of, bool_of, is_void}
+use Rattle.ash_typing.specs.Heads.{declared}
+use Rattle.ash_typing.specs.Declarations.{ty_in, at_type, known_ty, decl_typed}
+use Rattle.ash_typing.specs.Typing.{Term, converted_to, first_at, placed, all_placed}
+use Rattle.ash_typing.specs.Returning.{is_default}
+use Rattle.ash_typing.specs.Switches.{kind_in, is_within, holds_label, is_same_constant, constant_typed, label_typed}
+use Rattle.ash_typing.specs.Statements.{Scope, behind, block_of, loop_of, switch_of, with_variables, is_taken, fresh, decls_typed, vars_typed, condition_is, if_typed, if_else_typed, while_typed, do_while_typed, maybe_typed, maybe_condition_is, tree_of, for_typed, break_typed, continue_typed, returned, return_typed, is_last, stmt_typed, stmts_typed, cases_typed}
+use Rattle.ash_typing.specs.TypedStatements.{AreDeclared, none_declared, and_declared, IsCondition, condition, MayBeCondition, endless, until, IsLabel, constant, otherwise, tree_of_term, IsStmt, empty, declare, evaluate, block, if_only, if_else, while_loop, do_loop, for_loop, switch, break_out, continue_on, return_nothing, return_value, AreStmts, no_more_stmts, more_stmts, AreCases, no_more_cases, more_cases}
+use Rattle.ash_typing.proofs.Bindings.{bind_is}
+use Rattle.ash_typing.proofs.TypedVariables.{known_complete}
+use Rattle.ash_typing.proofs.TypingComplete.{complete, all_complete, all_terms, terms, fitted_is}
+use Rattle.ash_typing.proofs.TypingVariables.{declared_complete}
+
+-- variables
+
+fresh_is : (scope : Scope) (of : Ty) (d : written.Decl) → is_taken scope d.name ≡ false → fresh scope of d ≡ Ok (declared of d)
+unfolding fresh
+fresh_is scope of d h = rw h refl
+
+decls_complete : {scope : Scope} {of : Ty} {ds : List written.Decl} {values : List Initialization} → AreDeclared scope of ds values → (at : ℕ) → decls_typed scope at of ds ≡ Ok values
+decls_complete none_declared at = refl
+decls_complete (and_declared {scope = scope} {of = of} {d = d} {ds = ds} {value = value} {values = values} free is rest) at =
+    bind_is (fresh scope of d) _ (declared of d) _ (fresh_is scope of d free)
+    (bind_is (decl_typed scope.env at of d) _ value _ (declared_complete is at)
+    (bind_is (decls_typed (with_variables scope (declared of d ∷ [])) at of ds) _ values _ (decls_complete rest at) refl))
+
+vars_complete : (scope : Scope) (v : written.Vars) (values : List Initialization) → known_ty (at_type v.of) (ty_in scope.env v.of) ≡ Ok (ty_in scope.env v.of) → AreDeclared scope (ty_in scope.env v.of) v.decls values → vars_typed scope v ≡ Ok values
+unfolding vars_typed
+vars_complete scope v values known h = bind_is (known_ty (at_type v.of) (ty_in scope.env v.of)) _ (ty_in scope.env v.of) _ known (decls_complete h (at_type v.of))
+
+-- conditions
+
+record Tested (env : Environment) (e : written.Expr) (tree : Expr) : Type 0 where
+  of : Typed
+  typed : typed env false e ≡ Ok of
+  test : condition_is of ≡ Ok true
+  is : of.tree ≡ tree
+
+bool_is : (at : ℕ) (of : Ty) → of ≡ ty.Bool → bool_of at of ≡ Ok true
+bool_is at of h = rw h refl
+
+tested : {env : Environment} {e : written.Expr} {tree : Expr} → IsCondition env e tree → Tested env e tree
+tested (condition {e = e} {t = t} h is) = record { of = placed (first_at e) t; typed = complete h; test = bool_is (first_at e) t.ty is; is = refl }
+
+record MaybeTested (env : Environment) (e : Option written.Expr) (tree : Option Expr) : Type 0 where
+  of : Option Typed
+  typed : maybe_typed env e ≡ Ok of
+  test : maybe_condition_is of ≡ Ok true
+  is : option_map tree_of of ≡ tree
+
+maybe_tested : {env : Environment} {e : Option written.Expr} {tree : Option Expr} → MayBeCondition env e tree → MaybeTested env e tree
+maybe_tested endless = record { of = None; typed = refl; test = refl; is = refl }
+maybe_tested (until {env = env} {e = e} c) =
+    let k = tested c in
+    record { of = Some k.of; typed = bind_is (typed env false e) _ k.of _ k.typed refl; test = k.test; is = ap (λ (x : Expr). Some x) k.is }
+
+pub trees_of : (ts : List Typed) → map tree_of ts ≡ map tree_of_term (terms ts)
+trees_of [] = refl
+trees_of (t ∷ ts) = ap (λ (es : List Expr). t.tree ∷ es) (trees_of ts)
+
+-- statements of which the parts are typed
+
+if_is : (line : ℕ) (o : Checking Typed) (b : Checking Stmt) (c : Typed) (s : Stmt) (tree : Expr) → o ≡ Ok c → condition_is c ≡ Ok true → c.tree ≡ tree → b ≡ Ok s → if_typed line o b ≡ Ok (If line tree s)
+unfolding if_typed
+if_is line o b c s tree h i j k = rw (h, k, i, sym j) refl
+
+if_else_is : (line : ℕ) (o : Checking Typed) (b r : Checking Stmt) (c : Typed) (s t : Stmt) (tree : Expr) → o ≡ Ok c → condition_is c ≡ Ok true → c.tree ≡ tree → b ≡ Ok s → r ≡ Ok t → if_else_typed line o b r ≡ Ok (IfElse line tree s t)
+unfolding if_else_typed
+if_else_is line o b r c s t tree h i j k l = rw (h, k, l, i, sym j) refl
+
+while_is : (line : ℕ) (o : Checking Typed) (b : Checking Stmt) (c : Typed) (s : Stmt) (tree : Expr) → o ≡ Ok c → condition_is c ≡ Ok true → c.tree ≡ tree → b ≡ Ok s → while_typed line o b ≡ Ok (While line tree s)
+unfolding while_typed
+while_is line o b c s tree h i j k = rw (h, k, i, sym j) refl
+
+do_while_is : (line : ℕ) (o : Checking Typed) (b : Checking Stmt) (c : Typed) (s : Stmt) (tree : Expr) → o ≡ Ok c → condition_is c ≡ Ok true → c.tree ≡ tree → b ≡ Ok s → do_while_typed line b o ≡ Ok (DoWhile line s tree)
+unfolding do_while_typed
+do_while_is line o b c s tree h i j k = rw (h, k, i, sym j) refl
+
+for_is : (line : ℕ) (f b : Checking Stmt) (o : Checking (Option Typed)) (es : Checking (List Typed)) (g s : Stmt) (c : Option Typed) (ts : List Typed) (tree : Option Expr) (trees : List Expr) → f ≡ Ok g → o ≡ Ok c → maybe_condition_is c ≡ Ok true → option_map tree_of c ≡ tree → es ≡ Ok ts → map tree_of ts ≡ trees → b ≡ Ok s → for_typed line f o es b ≡ Ok (For line g tree trees s)
+unfolding for_typed
+for_is line f b o es g s c ts tree trees h i j k l m n = rw (h, i, l, n, j, sym k, sym m) refl
+
+break_is : (leaves : Bool) (p : Place) → leaves ≡ true → break_typed leaves p ≡ Ok (Break p.line)
+unfolding break_typed
+break_is leaves p h = rw h refl
+
+continue_is : (leaves : Bool) (p : Place) → leaves ≡ true → continue_typed leaves p ≡ Ok (Continue p.line)
+unfolding continue_typed
+continue_is leaves p h = rw h refl
+
+nothing_is : (scope : Scope) (p : Place) → scope.gives ≡ ty.Void → return_typed scope p None ≡ Ok (Return p.line None)
+unfolding return_typed
+nothing_is scope p h = rw h refl
+
+no_void : (of t : Ty) → fits of t ≡ true → is_void of ≡ false
+no_void ty.Void t h = absurd (cc)
+no_void ty.Unknown t h = refl
+no_void ty.Bool t h = refl
+no_void (ty.Integer k) t h = refl
+no_void (ty.Object o) t h = refl
+no_void (ty.Handle o) t h = refl
+no_void ty.Null t h = refl
+
+returned_is : (of : Ty) (at a : ℕ) (t : Term) → fits of t.ty ≡ true → returned of at (placed a t) ≡ Ok (converted_to of t)
+unfolding returned
+returned_is of at a t h = rw (no_void of t.ty h) (fitted_is of a t h)
+
+value_is : (scope : Scope) (p : Place) (e : written.Expr) (t : Term) → typed scope.env false e ≡ Ok (placed (first_at e) t) → fits scope.gives t.ty ≡ true → return_typed scope p (Some e) ≡ Ok (Return p.line (Some (converted_to scope.gives t)))
+unfolding return_typed
+value_is scope p e t h fit = rw (h, returned_is scope.gives p.at (first_at e) t fit) refl
+
+-- labels
+
+constant_is : (k : Kind) (before : List Label) (at : ℕ) (l : Label) → holds_label k l ≡ true → list_any (is_same_constant l) before ≡ false → constant_typed (Some k) before at l ≡ Ok l
+unfolding constant_typed is_within
+constant_is k before at l h i = rw (h, i) refl
+
+label_is : (k : Kind) (before : List Label) (last : Bool) (at : ℕ) (l : Label) → is_default l ≡ false → holds_label k l ≡ true → list_any (is_same_constant l) before ≡ false → label_typed (Some k) before last at l ≡ Ok l
+unfolding label_typed
+label_is k before last at labels.Default d h i = absurd (cc)
+label_is k before last at (labels.Case n) d h i = constant_is k before at (labels.Case n) h i
+label_is k before last at (labels.CaseMinus n) d h i = constant_is k before at (labels.CaseMinus n) h i
+
+default_is : (k : Kind) (before : List Label) (at : ℕ) → label_typed (Some k) before true at labels.Default ≡ Ok labels.Default
+unfolding label_typed
+default_is k before at = refl
+
+label_complete : {k : Kind} {before : List Label} {last : Bool} {l : Label} → IsLabel k before last l → (at : ℕ) → label_typed (Some k) before last at l ≡ Ok l
+label_complete (constant {k = k} {before = before} {last = last} {l = l} d h i) at = label_is k before last at l d h i
+label_complete (otherwise {k = k} {before = before}) at = default_is k before at
+
+integer_is : (at : ℕ) (of : Ty) (k : Kind) → of ≡ ty.Integer k → integer_of at of ≡ Ok k
+integer_is at of k h = rw h refl
+
+kind_is : (of : Ty) (k : Kind) → of ≡ ty.Integer k → kind_in of ≡ Some k
+kind_is of k h = rw h refl
+
+-- `switch`, of which the labels are typed
+switch_is : (scope : Scope) (p : Place) (e : written.Expr) (cs : written.Cases) (t : Term) (k : Kind) (rows : Cases) → typed scope.env false e ≡ Ok (placed (first_at e) t) → t.ty ≡ ty.Integer k → cases_typed (switch_of scope) (Some k) [] cs ≡ Ok rows → stmt_typed scope (written.Switch p e cs) ≡ Ok (Switch p.line t.tree rows)
+switch_is scope p e cs t k rows h is i =
+    bind_is (typed scope.env false e) _ (placed (first_at e) t) _ h
+    (bind_is (cases_typed (switch_of scope) (kind_in t.ty) [] cs) _ rows _ (ap (λ kind. cases_typed (switch_of scope) kind [] cs) (kind_is t.ty k is) ∙ i)
+    (bind_is (integer_of (first_at e) t.ty) _ k _ (integer_is (first_at e) t.ty k is) refl))
+
+-- statements
+
+mutual
+  pub stmt_complete : {scope : Scope} {s : written.Stmt} {t : Stmt} → IsStmt scope s t → stmt_typed scope s ≡ Ok t
+  stmt_complete empty = refl
+  stmt_complete (declare {scope = scope} {v = v} {values = values} known h) = bind_is (vars_typed scope v) _ values _ (vars_complete scope v values (known_complete (at_type v.of) (ty_in scope.env v.of) known) h) refl
+  stmt_complete (evaluate {scope = scope} {e = e} {t = t} h) = bind_is (typed scope.env false e) _ (placed (first_at e) t) _ (complete h) refl
+  stmt_complete (block {scope = scope} {ss = ss} {ts = ts} h) = bind_is (stmts_typed (block_of scope) ss) _ ts _ (stmts_complete h) refl
+  stmt_complete (if_only {scope = scope} {p = p} {c = c} {s = s} {tree = tree} {t = t} h i) =
+      let k = tested h in
+      if_is p.line (typed scope.env false c) (stmt_typed scope s) k.of t tree k.typed k.test k.is (stmt_complete i)
+  stmt_complete (if_else {scope = scope} {p = p} {c = c} {s = s} {r = r} {tree = tree} {t = t} {u = u} h i j) =
+      let k = tested h in
+      if_else_is p.line (typed scope.env false c) (stmt_typed scope s) (stmt_typed scope r) k.of t u tree k.typed k.test k.is (stmt_complete i) (stmt_complete j)
+  stmt_complete (while_loop {scope = scope} {p = p} {c = c} {s = s} {tree = tree} {t = t} h i) =
+      let k = tested h in
+      while_is p.line (typed scope.env false c) (stmt_typed (loop_of scope) s) k.of t tree k.typed k.test k.is (stmt_complete i)
+  stmt_complete (do_loop {scope = scope} {p = p} {c = c} {s = s} {tree = tree} {t = t} i h) =
+      let k = tested h in
+      do_while_is p.line (typed scope.env false c) (stmt_typed (loop_of scope) s) k.of t tree k.typed k.test k.is (stmt_complete i)
+  stmt_complete (for_loop {scope = scope} {p = p} {f = f} {s = s} {c = c} {es = es} {g = g} {t = t} {tree = tree} {ts = ts} h i j k) =
+      let within = behind (block_of scope) f in
+      let m = maybe_tested i in
+      let us = all_placed (written.exprs es) ts in
+      for_is p.line (stmt_typed (block_of scope) f) (stmt_typed (loop_of within) s) (maybe_typed within.env c) (all_typed within.env (written.exprs es)) g t m.of us tree (map tree_of_term ts) (stmt_complete h) m.typed m.test m.is (all_complete j) (trees_of us ∙ ap (map tree_of_term) (all_terms j)) (stmt_complete k)
+  stmt_complete (switch {scope = scope} {p = p} {e = e} {cs = cs} {t = t} {k = k} {rows = rows} h is i) =
+      switch_is scope p e cs t k rows (complete h) is (cases_complete i)
+  stmt_complete (break_out {scope = scope} {p = p} h) = break_is (scope.in_loop || scope.in_switch) p h
+  stmt_complete (continue_on {scope = scope} {p = p} h) = continue_is scope.in_loop p h
+  stmt_complete (return_nothing {scope = scope} {p = p} h) = nothing_is scope p h
+  stmt_complete (return_value {scope = scope} {p = p} {e = e} {t = t} h fit) = value_is scope p e t (complete h) fit
+
+  pub stmts_complete : {scope : Scope} {ss : written.Stmts} {ts : Stmts} → AreStmts scope ss ts → stmts_typed scope ss ≡ Ok ts
+  stmts_complete no_more_stmts = refl
+  stmts_complete (more_stmts {scope = scope} {s = s} {ss = ss} {t = t} {ts = ts} h i) =
+      bind_is (stmt_typed scope s) _ t _ (stmt_complete h) (bind_is (stmts_typed (behind scope s) ss) _ ts _ (stmts_complete i) refl)
+
+  pub cases_complete : {scope : Scope} {k : Kind} {before : List Label} {cs : written.Cases} {rows : Cases} → AreCases scope k before cs rows → cases_typed scope (Some k) before cs ≡ Ok rows
+  cases_complete no_more_cases = refl
+  cases_complete (more_cases {scope = scope} {k = k} {before = before} {p = p} {l = l} {ss = ss} {cs = cs} {ts = ts} {rows = rows} h i j) =
+      bind_is (label_typed (Some k) before (is_last cs) p.at l) _ l _ (label_complete h p.at)
+      (bind_is (stmts_typed scope ss) _ ts _ (stmts_complete i)
+      (bind_is (cases_typed scope (Some k) (before ++ l ∷ []) cs) _ rows _ (cases_complete j) refl))

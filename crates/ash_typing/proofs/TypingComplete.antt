@@ -1,0 +1,216 @@
+-- What has a type by the rules is typed by the walk.
+use Rattle.std.proofs.lemmas.Option.{none-some, same_Some}
+use Rattle.std.proofs.lemmas.Bool.{eq-eqb}
+use Rattle.std.proofs.lemmas.List.{length-map}
+use Rattle.std.proofs.Common.{◌≡◌, ℕ, suc, List, [], ◌∷◌, map, length, Bool, true, false, Some, Ok, refl, ap, ◌∙◌}
+use Rattle.ash_tree.specs.declared.tree.types.Primitive.{Primitive}
+use Rattle.ash_tree.specs.declared.tree.operators.UnaryOp.TheVariants as unary
+use Rattle.ash_tree.specs.declared.tree.operators.BinaryOp.{BinaryOp}
+use Rattle.ash_tree.specs.declared.tree.operators.AssignOp.{AssignOp}
+use Rattle.ash_tree.specs.declared.tree.operators.AssignOp.TheVariants as assigns
+use Rattle.ash_tree.specs.Tree as written
+use Rattle.ash_typed.specs.declared.types.Kind.{Kind}
+use Rattle.ash_typed.specs.declared.types.ObjectType.{ObjectType}
+use Rattle.ash_typed.specs.declared.types.Ty.{Ty}
+use Rattle.ash_typed.specs.declared.types.Ty.TheVariants as ty
+use Rattle.ash_typing.specs.declared.forms.Alone.{Alone}
+use Rattle.ash_typing.specs.declared.forms.Alone.TheVariants as alone
+use Rattle.ash_typed.specs.declared.tree.operations.Change.TheVariants as changes
+use Rattle.ash_typed.specs.declared.tree.operations.Member.{Member}
+use Rattle.ash_typed.specs.declared.tree.operations.Operands.{Operands}
+use Rattle.ash_typed.specs.declared.tree.operations.Step.{Step}
+use Rattle.ash_typed.specs.declared.tree.operations.Step.TheVariants as steps
+use Rattle.ash_typing.specs.Types.{signed, fits, common, object_of, ty_of, sort_of, outcome}
+use Rattle.ash_typed.specs.Tree.{Expr, Exprs, Null, Read, Invoke, Alter, Operate, Conditional, Assign, Update, Count, Call, Place, Held, no_expr, expr, place_in}
+use Rattle.ash_typing.specs.Environment.{Environment, Callee, Invoked, callee_in, member_in, method_in}
+use Rattle.ash_typing.specs.Expressions.{Typed, typed, all_typed, links_typed, suffixes_typed, suffix_typed, call_typed, invocation_typed, called, arguments_at, all_fitted, fitted, operate, counted, unary_at, convert_at, choice, operator_of, is_stored, assigned, stored, is_assign, field_of, method_of, invoked, made}
+use Rattle.ash_typing.specs.Typing.{Term, term, placed, all_placed, term_of, first_at, HasType, AllHaveType, LinksHaveType, SuffixesHaveType, SuffixHasType, AreArguments, no_arguments, argument, number, truth, null, this, name, call, brackets, to_integer, to_bool, postfix, plus, minus, complement, not, increment, decrement, handle, handle_written, binary, conditional, assign, update, none_left, each, no_more, operated, no_suffixes, suffixed, field, method, increment_after, decrement_after, Meet, converted_to, left_of, right_of}
+use Rattle.ash_typing.proofs.TypingWords.{same_kind, met_is}
+
+-- arguments
+
+length_is : {parameters : List Ty} {ts : List Term} {trees : Exprs} → AreArguments parameters ts trees → length parameters ≡ length ts
+length_is no_arguments = refl
+length_is (argument h rest) = ap suc (length_is rest)
+
+pub fitted_is : (of : Ty) (at : ℕ) (t : Term) → fits of t.ty ≡ true → fitted of (placed at t) ≡ Ok (converted_to of t)
+unfolding fitted
+fitted_is of at t h = rw h refl
+
+abbrev pub terms : List Typed → List Term
+terms = map term_of
+
+out_first : {of : Ty} {t : Term} {parameters : List Ty} {ts : List Term} {trees : Exprs} → AreArguments (of ∷ parameters) (t ∷ ts) trees → (fits of t.ty ≡ true) × ((rest : Exprs) × AreArguments parameters ts rest × (expr (converted_to of t) rest ≡ trees))
+out_first (argument h rest) = (h, (_, rest, refl))
+
+out_none : {trees : Exprs} → AreArguments [] [] trees → no_expr ≡ trees
+out_none no_arguments = refl
+
+all_fitted_is : (parameters : List Ty) (us : List Typed) (trees : Exprs) → AreArguments parameters (terms us) trees → all_fitted parameters us ≡ Ok trees
+all_fitted_is [] [] trees h = ap Ok (out_none h)
+all_fitted_is [] (u ∷ us) trees h = elim h [ ]
+all_fitted_is (of ∷ parameters) [] trees h = elim h [ ]
+all_fitted_is (of ∷ parameters) (u ∷ us) trees h =
+    let o = out_first h in
+    rw (fitted_is of u.at (term_of u) o.0, all_fitted_is parameters us (o.1).0 (o.1).1, (o.1).2) refl
+
+pub arguments_is : (at : ℕ) (parameters : List Ty) (us : List Typed) (trees : Exprs) → AreArguments parameters (terms us) trees → arguments_at at parameters us ≡ Ok trees
+unfolding arguments_at
+arguments_is at parameters us trees h = rw (eq-eqb (length parameters) (length us) (length_is h ∙ length-map us term_of)) (all_fitted_is parameters us trees h)
+
+-- phrases
+
+call_is : (env : Environment) (at : ℕ) (text : List ℕ) (es : written.Exprs) (callee : Callee) (parameters : List Ty) (us : List Typed) (trees : Exprs) → callee_in env text ≡ Some callee → callee.parameters ≡ Some parameters → all_typed env es ≡ Ok us → AreArguments parameters (terms us) trees → call_typed env at text (all_typed env es) ≡ Ok (made at callee.result (Call callee.target trees))
+unfolding called
+call_is env at text es callee parameters us trees c p e a = rw (c, e, p, arguments_is at parameters us trees a) refl
+
+integer_is : (env : Environment) (e : written.Expr) (at : ℕ) (to : Primitive) (t : Term) (j k : Kind) → ty_of to ≡ ty.Integer k → t.ty ≡ ty.Integer j → convert_at at to (placed (first_at e) t) ≡ Ok (placed at (term (ty.Integer k) (Alter changes.Keep (converted_to (ty.Integer k) t))))
+unfolding convert_at
+integer_is env e at to t j k h i = rw (h, i) refl
+
+bool_is : (at b : ℕ) (to : Primitive) (t : Term) → ty_of to ≡ ty.Bool → t.ty ≡ ty.Bool → convert_at at to (placed b t) ≡ Ok (placed at (term ty.Bool (Alter changes.Keep t.tree)))
+unfolding convert_at
+bool_is at b to t h i = rw (h, i) refl
+
+plus_is : (left : Bool) (at b : ℕ) (t : Term) (k : Kind) → t.ty ≡ ty.Integer k → unary_at left at unary.Plus (placed b t) ≡ Ok (placed at (term (ty.Integer k) (Alter changes.Keep t.tree)))
+unfolding unary_at
+plus_is left at b t k h = rw (h, same_kind k) refl
+
+minus_is : (left : Bool) (at b : ℕ) (t : Term) (k : Kind) → t.ty ≡ ty.Integer k → unary_at left at unary.Minus (placed b t) ≡ Ok (placed at (term (ty.Integer (signed k)) (Alter (changes.Negate (signed k)) (converted_to (ty.Integer (signed k)) t))))
+unfolding unary_at
+minus_is left at b t k h = rw h refl
+
+complement_is : (left : Bool) (at b : ℕ) (t : Term) (k : Kind) → t.ty ≡ ty.Integer k → unary_at left at unary.BitNot (placed b t) ≡ Ok (placed at (term (ty.Integer k) (Alter (changes.Complement k) t.tree)))
+unfolding unary_at
+complement_is left at b t k h = rw (h, same_kind k) refl
+
+not_is : (left : Bool) (at b : ℕ) (t : Term) → t.ty ≡ ty.Bool → unary_at left at unary.Not (placed b t) ≡ Ok (placed at (term ty.Bool (Alter changes.Not t.tree)))
+unfolding unary_at
+not_is left at b t h = rw h refl
+
+counted_is : (at b : ℕ) (step : Step) (t : Term) (stands : Place) (k : Kind) → place_in t.tree ≡ Some stands → t.ty ≡ ty.Integer k → counted at step (placed b t) (place_in t.tree) ≡ Ok (placed at (term (ty.Integer k) (Count stands k step)))
+unfolding counted
+counted_is at b step t stands k h i = rw (h, i) refl
+
+increment_is : (left : Bool) (at b : ℕ) (t : Term) (stands : Place) (k : Kind) → place_in t.tree ≡ Some stands → t.ty ≡ ty.Integer k → unary_at left at unary.Increment (placed b t) ≡ Ok (placed at (term (ty.Integer k) (Count stands k steps.Increment)))
+unfolding unary_at
+increment_is left at b t stands k h i = counted_is at b steps.Increment t stands k h i
+
+decrement_is : (left : Bool) (at b : ℕ) (t : Term) (stands : Place) (k : Kind) → place_in t.tree ≡ Some stands → t.ty ≡ ty.Integer k → unary_at left at unary.Decrement (placed b t) ≡ Ok (placed at (term (ty.Integer k) (Count stands k steps.Decrement)))
+unfolding unary_at
+decrement_is left at b t stands k h i = counted_is at b steps.Decrement t stands k h i
+
+handle_is : (at b : ℕ) (of : Ty) (a : Alone) (tree : Expr) (o : ObjectType) → object_of of ≡ Some o → unary_at false at unary.Handle (record { at = b; ty = of; alone = a; tree = tree }) ≡ Ok (placed at (term (ty.Handle o) (Alter changes.Keep tree)))
+unfolding unary_at
+handle_is at b (ty.Object p) a tree o h = rw (same_Some p o h) refl
+handle_is at b (ty.Handle p) a tree o h = rw (same_Some p o h) refl
+handle_is at b _ a tree o h = absurd (none-some o h)
+
+handle_written_is : (at b : ℕ) (t : Term) → unary_at true at unary.Handle (placed b t) ≡ Ok (placed at (record { ty = t.ty; alone = alone.Handle; tree = t.tree }))
+unfolding unary_at
+handle_written_is at b t = refl
+
+operate_is : (op : BinaryOp) (t u : Term) (o : Operands) (a b : ℕ) → Meet op t u o → operate op (placed a t) (placed b u) ≡ Ok (placed a (term (outcome (sort_of op) o) (Operate (record { operator = op; operands = o }) (left_of op o t u) (right_of op o t u))))
+unfolding operate
+operate_is op t u o a b h = rw (met_is op t u o a b h) refl
+
+choice_is : (t x y : Term) (a b c : ℕ) (of : Ty) → t.ty ≡ ty.Bool → common x.ty y.ty ≡ Some of → choice (placed a t) (placed b x) (placed c y) ≡ Ok (placed a (term of (Conditional t.tree (converted_to of x) (converted_to of y))))
+unfolding choice
+choice_is t x y a b c of h i = rw (h, i) refl
+
+assign_is : (t u : Term) (a b : ℕ) (stands : Place) → place_in t.tree ≡ Some stands → is_stored t.alone t.ty ≡ true → fits t.ty u.ty ≡ true → assigned (placed a t) assigns.Assign (placed b u) ≡ Ok (placed a (term t.ty (Assign stands (converted_to t.ty u))))
+unfolding assigned stored
+assign_is t u a b stands p s h = rw (p, s, fitted_is t.ty b u h) refl
+
+update_is : (op : AssignOp) (operator : BinaryOp) (t u : Term) (a b : ℕ) (stands : Place) (k : Kind) (o : Operands) → operator_of op ≡ Some operator → place_in t.tree ≡ Some stands → is_stored t.alone t.ty ≡ true → t.ty ≡ ty.Integer k → Meet operator (term t.ty Null) u o → assigned (placed a t) op (placed b u) ≡ Ok (placed a (term t.ty (Update stands k (record { operator = operator; operands = o }) (right_of operator o (term t.ty Null) u))))
+unfolding assigned stored
+update_is op operator t u a b stands k o e p s i m = rw (p, s, e, met_is operator (term t.ty Null) u o a b m, i) refl
+
+updates : (op : AssignOp) (operator : BinaryOp) → operator_of op ≡ Some operator → is_assign op ≡ false
+updates assigns.Assign operator h = absurd (none-some operator h)
+updates _ operator h = refl
+
+object_field : (env : Environment) (at : ℕ) (t : Typed) (of : Ty) (text : List ℕ) (o : ObjectType) (found : Member × Ty) → object_of of ≡ Some o → member_in env o text ≡ Some found → field_of env t of at text ≡ Ok (made t.at found.1 (Read (Held t.tree found.0)))
+unfolding field_of
+object_field env at t (ty.Object p) text o found h m = rw (same_Some p o h, m) refl
+object_field env at t (ty.Handle p) text o found h m = rw (same_Some p o h, m) refl
+object_field env at t _ text o found h m = absurd (none-some o h)
+
+object_method : (env : Environment) (at : ℕ) (t : Typed) (of : Ty) (text : List ℕ) (o : ObjectType) (m : Invoked) → object_of of ≡ Some o → method_in env o text ≡ Some m → method_of env t of at text ≡ Ok (Some m)
+unfolding method_of
+object_method env at t (ty.Object p) text o m h i = rw (same_Some p o h, i) refl
+object_method env at t (ty.Handle p) text o m h i = rw (same_Some p o h, i) refl
+object_method env at t _ text o m h i = absurd (none-some o h)
+
+method_is : (env : Environment) (at b : ℕ) (t : Term) (text : List ℕ) (es : written.Exprs) (o : ObjectType) (m : Invoked) (us : List Typed) (trees : Exprs) → object_of t.ty ≡ Some o → method_in env o text ≡ Some m → all_typed env es ≡ Ok us → AreArguments m.parameters (terms us) trees → invocation_typed env (placed b t) at text (all_typed env es) ≡ Ok (placed b (term m.result (Invoke t.tree m.method trees)))
+unfolding invoked
+method_is env at b t text es o m us trees h i e a = rw (object_method env at (placed b t) t.ty text o m h i, e, arguments_is at m.parameters us trees a) refl
+
+pub all_terms : {env : Environment} {es : written.Exprs} {ts : List Term} → AllHaveType env es ts → terms (all_placed es ts) ≡ ts
+all_terms none_left = refl
+all_terms (each {t = t} h rest) = ap (t ∷◌) (all_terms rest)
+
+-- Only left of `=` is `@e` what is written to.
+
+suffix_stored : {env : Environment} {t : Term} {s : written.Suffix} {u : Term} → SuffixHasType env t s u → (k : Kind) → is_stored u.alone (ty.Integer k) ≡ true
+suffix_stored (field h i) k = refl
+suffix_stored (method h i all args) k = refl
+suffix_stored (increment_after h i) k = refl
+suffix_stored (decrement_after h i) k = refl
+
+suffixes_stored : {env : Environment} {t : Term} {ss : written.Suffixes} {u : Term} → SuffixesHaveType env t ss u → (k : Kind) → is_stored t.alone (ty.Integer k) ≡ true → is_stored u.alone (ty.Integer k) ≡ true
+suffixes_stored no_suffixes k h = h
+suffixes_stored (suffixed s rest) k h = suffixes_stored rest k (suffix_stored s k)
+
+links_stored : {env : Environment} {t : Term} {ls : written.Links} {u : Term} → LinksHaveType env t ls u → (k : Kind) → is_stored t.alone (ty.Integer k) ≡ true → is_stored u.alone (ty.Integer k) ≡ true
+links_stored no_more k h = h
+links_stored (operated e m rest) k h = links_stored rest k refl
+
+no_handle : {env : Environment} {e : written.Expr} {t : Term} → HasType env false e t → (k : Kind) → is_stored t.alone (ty.Integer k) ≡ true
+no_handle number k = refl
+no_handle (postfix h ss) k = suffixes_stored ss k (no_handle h k)
+no_handle (binary h ls) k = links_stored ls k (no_handle h k)
+no_handle _ k = refl
+
+mutual
+  pub complete : {env : Environment} {left : Bool} {e : written.Expr} {t : Term} → HasType env left e t → typed env left e ≡ Ok (placed (first_at e) t)
+  complete number = refl
+  complete truth = refl
+  complete null = refl
+  complete (this h) = rw h refl
+  complete (name h) = rw h refl
+  complete {env} (call {p = p} {text = text} {es = es} {callee = callee} {parameters = parameters} {ts = ts} {trees = trees} c q all args) = call_is env p.at text es callee parameters (all_placed es ts) trees c q (all_complete all) (rw (all_terms all) args)
+  complete (brackets h) = rw (complete h) refl
+  complete {env} {left} (to_integer {p = p} {to = to} {e = e} {t = t} {j = j} {k = k} h i l) = rw (complete h) (integer_is env e p.at to t j k i l)
+  complete (to_bool {p = p} {to = to} {e = e} {t = t} h i l) = rw (complete h) (bool_is p.at (first_at e) to t i l)
+  complete (postfix {e = e} h ss) = rw (complete h) (suffixes_complete ss (first_at e))
+  complete {left = left} (plus {p = p} {e = e} {t = t} {k = k} h i) = rw (complete h) (plus_is left p.at (first_at e) t k i)
+  complete {left = left} (minus {p = p} {e = e} {t = t} {k = k} h i) = rw (complete h) (minus_is left p.at (first_at e) t k i)
+  complete {left = left} (complement {p = p} {e = e} {t = t} {k = k} h i) = rw (complete h) (complement_is left p.at (first_at e) t k i)
+  complete {left = left} (not {p = p} {e = e} {t = t} h i) = rw (complete h) (not_is left p.at (first_at e) t i)
+  complete {left = left} (increment {p = p} {e = e} {t = t} {at = at} {k = k} h i l) = rw (complete h) (increment_is left p.at (first_at e) t at k i l)
+  complete {left = left} (decrement {p = p} {e = e} {t = t} {at = at} {k = k} h i l) = rw (complete h) (decrement_is left p.at (first_at e) t at k i l)
+  complete (handle {p = p} {e = e} {t = t} {o = o} h i) = rw (complete h) (handle_is p.at (first_at e) t.ty t.alone t.tree o i)
+  complete (handle_written {p = p} {e = e} {t = t} h) = rw (complete h) (handle_written_is p.at (first_at e) t)
+  complete (binary {e = e} h ls) = rw (complete h) (links_complete ls (first_at e))
+  complete (conditional {c = c} {a = a} {b = b} {t = t} {x = x} {y = y} {of = of} h i k l m) = rw (complete h, complete k, complete l) (choice_is t x y (first_at c) (first_at a) (first_at b) of i m)
+  complete (assign {e = e} {v = v} {t = t} {u = u} {at = at} h i s k l) = rw (complete h, complete k) (assign_is t u (first_at e) (first_at v) at i s l)
+  complete (update {op = op} {operator = operator} {e = e} {v = v} {t = t} {u = u} {at = at} {k = k} {o = o} f h i l m n) = rw (updates op operator f, complete h, complete m) (update_is op operator t u (first_at e) (first_at v) at k o f i (rw l (no_handle h k)) l n)
+
+  pub all_complete : {env : Environment} {es : written.Exprs} {ts : List Term} → AllHaveType env es ts → all_typed env es ≡ Ok (all_placed es ts)
+  all_complete none_left = refl
+  all_complete (each h rest) = rw (complete h, all_complete rest) refl
+
+  pub links_complete : {env : Environment} {t : Term} {ls : written.Links} {u : Term} → LinksHaveType env t ls u → (at : ℕ) → links_typed env (placed at t) ls ≡ Ok (placed at u)
+  links_complete no_more at = refl
+  links_complete (operated {op = op} {e = e} {t = t} {u = u} {o = o} h m rest) at = rw (complete h, operate_is op t u o at (first_at e) m) (links_complete rest at)
+
+  pub suffixes_complete : {env : Environment} {t : Term} {ss : written.Suffixes} {u : Term} → SuffixesHaveType env t ss u → (at : ℕ) → suffixes_typed env (placed at t) ss ≡ Ok (placed at u)
+  suffixes_complete no_suffixes at = refl
+  suffixes_complete (suffixed h rest) at = rw (suffix_complete h at) (suffixes_complete rest at)
+
+  pub suffix_complete : {env : Environment} {t : Term} {s : written.Suffix} {u : Term} → SuffixHasType env t s u → (at : ℕ) → suffix_typed env (placed at t) s ≡ Ok (placed at u)
+  suffix_complete {env} (field {p = p} {text = text} {t = t} {o = o} {found = found} h i) at = object_field env p.at (placed at t) t.ty text o found h i
+  suffix_complete {env} (method {p = p} {text = text} {es = es} {t = t} {o = o} {m = m} {ts = ts} {trees = trees} h i all args) at = method_is env p.at at t text es o m (all_placed es ts) trees h i (all_complete all) (rw (all_terms all) args)
+  suffix_complete (increment_after {t = t} {at = place} {k = k} h i) at = counted_is at at steps.IncrementAfter t place k h i
+  suffix_complete (decrement_after {t = t} {at = place} {k = k} h i) at = counted_is at at steps.DecrementAfter t place k h i

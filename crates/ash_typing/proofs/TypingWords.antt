@@ -1,0 +1,92 @@
+-- The words of the typing rules, beside those of the walk.
+use Rattle.std.proofs.lemmas.Option.{none-some}
+use Rattle.std.proofs.Common.{◌≡◌, ℕ, IsOk, Bool, true, false, cond, Some, Ok, Err, refl, sym, subst}
+use Rattle.ash_tree.specs.declared.tree.operators.BinaryOp.{BinaryOp}
+use Rattle.ash_typing.specs.declared.fault.Fault.{Fault}
+use Rattle.ash_typed.specs.declared.types.Kind.{Kind}
+use Rattle.ash_typed.specs.declared.types.Kind.TheVariants as kinds
+use Rattle.ash_typed.specs.declared.types.Ty.{Ty}
+use Rattle.ash_typed.specs.declared.types.Ty.TheVariants as ty
+use Rattle.ash_typing.specs.declared.forms.Sort.{Sort}
+use Rattle.ash_typing.specs.declared.forms.Sort.TheVariants as sort
+use Rattle.ash_typing.specs.declared.forms.Alone.{Alone}
+use Rattle.ash_typing.specs.declared.forms.Alone.TheVariants as alone
+use Rattle.ash_typed.specs.declared.tree.operations.Operands.{Operands}
+use Rattle.ash_typing.specs.Checking.{Checking, ◌>>=◌}
+use Rattle.ash_typing.specs.Types.{is_same_kind, holds, sort_of, meets, assumed}
+use Rattle.ash_typed.specs.Tree.{Number}
+use Rattle.ash_typing.specs.Expressions.{adapted, adapted_to, met, right_operand}
+use Rattle.ash_typing.specs.Typing.{Term, placed, taking, beside, is_known, Meet, converted_to, right_of, right_by}
+
+-- answers
+
+pub no_fault : {A : Type 0} (f : Fault) (x : A) → ◌≡◌ {A = Checking A} (Err f) (Ok x) → ⊥
+no_fault f x h = cc
+
+pub same_ok : {A : Type 0} (x y : A) → ◌≡◌ {A = Checking A} (Ok x) (Ok y) → x ≡ y
+same_ok x y h = cc
+
+pub bind_ok : {A B : Type 0} (o : Checking A) (f : A → Checking B) (y : B) → (o >>= f) ≡ Ok y → (x : A) × (o ≡ Ok x) × (f x ≡ Ok y)
+bind_ok (Ok x) f y h = (x, refl, h)
+bind_ok (Err e) f y h = absurd (no_fault e y h)
+
+pub bound : {A B : Type 0} (o : Checking A) (f : A → Checking B) (x : A) (r : Checking B) → o ≡ Ok x → f x ≡ r → (o >>= f) ≡ r
+bound o f x r e h = subst (λ (m : Checking _). (m >>= f) ≡ r) (sym e) h
+
+-- an answer without a fault
+pub answered : {A : Type 0} (r : Checking A) {Q : Type 0} → IsOk r → ((x : A) → r ≡ Ok x → Q) → Q
+answered (Ok x) h go = go x refl
+answered (Err f) h go = cc
+
+pub no_fault_at : {A : Type 0} (r : Checking A) (x : A) → r ≡ Ok x → IsOk r
+no_fault_at r x h = subst (λ (r : Checking _). IsOk r) (sym h) refl
+
+-- kinds
+
+pub same_kind : (k : Kind) → is_same_kind k k ≡ true
+same_kind kinds.Int = refl
+same_kind kinds.Uint = refl
+same_kind kinds.Int64 = refl
+same_kind kinds.Uint64 = refl
+
+pub unconverted : (k : Kind) (t : Term) → t.ty ≡ ty.Integer k → converted_to (ty.Integer k) t ≡ t.tree
+unconverted k t h = rw h (rw (same_kind k) refl)
+
+-- operands
+
+placed_if : (b : Bool) (at : ℕ) (t u : Term) → cond b (placed at t) (placed at u) ≡ placed at (cond b t u)
+placed_if true at t u = refl
+placed_if false at t u = refl
+
+pub taking_is : (a : Alone) (of : Ty) (b : Alone) (at : ℕ) (t : Term) → adapted_to a of b (placed at t) ≡ placed at (taking a of b t)
+taking_is (alone.Number m) of (alone.Number n) at t = refl
+taking_is a (ty.Integer k) (alone.Number n) at t = placed_if (holds k n) at (record { ty = ty.Integer k; alone = alone.Number n; tree = Number k n }) t
+taking_is a of b at t = refl
+
+pub beside_is : (s : Sort) (other t : Term) (at : ℕ) → adapted s other.alone other.ty (placed at t) ≡ placed at (beside s other t)
+unfolding adapted
+beside_is sort.Shift other t at = refl
+beside_is _ other t at = taking_is other.alone other.ty t.alone at t
+
+pub known_alone : (s : Sort) (beside of : Ty) → is_known of ≡ true → assumed s beside of ≡ of
+known_alone sort.Equality ty.Bool ty.Unknown h = cc
+known_alone sort.Identity beside ty.Unknown h = cc
+known_alone sort.Logic beside ty.Unknown h = cc
+known_alone s beside ty.Unknown h = cc
+known_alone s beside of h = refl
+
+pub meets_assumed : (s : Sort) (x y : Ty) (o : Operands) → meets s x y ≡ Some o → meets s (assumed s y x) (assumed s x y) ≡ Some o
+meets_assumed sort.Identity ty.Unknown ty.Unknown o h = h
+meets_assumed sort.Identity x ty.Unknown o h = h
+meets_assumed sort.Identity x y o h = h
+meets_assumed s ty.Unknown y o h = absurd (none-some o h)
+meets_assumed s x ty.Unknown o h = absurd (none-some o h)
+meets_assumed s x y o h = h
+
+pub right_is : (s : Sort) (o : Operands) (b : ℕ) (u : Term) → right_operand s o (placed b u) ≡ right_by s o u
+right_is sort.Shift o b u = refl
+right_is _ o b u = refl
+
+pub met_is : (op : BinaryOp) (t u : Term) (o : Operands) (a b : ℕ) → Meet op t u o → met op (placed a t) (placed b u) ≡ Ok (record { left = placed a (beside (sort_of op) u t); operands = o; right = right_of op o t u })
+unfolding met
+met_is op t u o a b h = rw (beside_is (sort_of op) u t a, beside_is (sort_of op) t u b, meets_assumed (sort_of op) (beside (sort_of op) u t).ty (beside (sort_of op) t u).ty o h, right_is (sort_of op) o b (beside (sort_of op) t u)) refl

@@ -1,0 +1,92 @@
+-- Variables, and what they begin with (AngelScript manual, "Variables"): an initialiser is walked, then the variable.
+use Rattle.std.specs.Prelude.{ℕ, false, List, [], ◌∷◌, Option, Some, None, Ok, option_map, find, slice_get}
+use Rattle.std.specs.Option.{option_and_then}
+use Rattle.ash_registry.specs.Calls as host
+use Rattle.ash_tree.specs.Tree as written
+use Rattle.ash_typing.specs.declared.fault.Rule.TheVariants.{UnknownType, TypeMismatch, NotAssignable, NoFactory}
+use Rattle.ash_typed.specs.declared.types.ObjectType.{ObjectType}
+use Rattle.ash_typed.specs.declared.types.ObjectType.TheVariants.{Class as OfClass, Host as OfHost}
+use Rattle.ash_typed.specs.declared.types.Ty.{Ty}
+use Rattle.ash_typed.specs.declared.types.Ty.TheVariants as ty
+use Rattle.ash_typed.specs.declared.tree.operations.Target.TheVariants as targets
+use Rattle.ash_typing.specs.Checking.{Checking, ◌>>=◌, broken}
+use Rattle.ash_typed.specs.Tree.{Expr}
+use Rattle.ash_typing.specs.Environment.{Environment, Class, Callee, host_type}
+use Rattle.ash_typing.specs.Heads.{ty_named}
+pub use Rattle.ash_typed.specs.StatementTree.{Initialization}
+use Rattle.ash_typing.specs.Expressions.{Typed, typed, all_typed, fitted, called}
+
+-- the type of variables
+
+-- the type that is written
+abbrev pub ty_in : Environment → written.Named → Ty
+ty_in env of = ty_named env.registered env.heads.classes of
+
+abbrev pub at_type : written.Named → ℕ
+at_type of = (written.place_of_type of).at
+
+-- the type of variables, at this offset
+unfoldable pub known_ty : ℕ → Ty → Checking Ty
+known_ty at ty.Unknown = broken UnknownType at
+known_ty at t = Ok t
+
+-- what they begin with
+
+abbrev pub initialization : Ty → Option Expr → Initialization
+initialization of value = record { of = of; value = value }
+
+-- objects are constructed
+
+abbrev pub class_built : ℕ → Class → Callee
+class_built place c = record { target = targets.Class place; result = ty.Handle (OfClass place); parameters = Some c.parameters }
+
+unfoldable pub class_construction : List Class → ℕ → Option Callee
+class_construction classes place = option_map (class_built place) (slice_get classes place)
+
+unfoldable pub kind_construction : List host.Call → ℕ → Option Callee
+kind_construction calls kind = option_and_then (host_type calls) (find (host.takes_kind kind) calls)
+
+unfoldable pub construction : Environment → ObjectType → Option Callee
+construction env (OfClass place) = class_construction env.heads.classes place
+construction env (OfHost kind) = kind_construction env.registered kind
+
+abbrev pub built : Typed → Option Expr
+built t = Some t.tree
+
+-- an object, by the type at this offset
+unfoldable pub constructed : ℕ → List Typed → Option Callee → Checking (Option Expr)
+constructed at ts None = broken NoFactory at
+constructed at ts (Some callee) = called at callee ts callee.parameters >>= λ t. Ok (built t)
+
+-- `T x`
+unfoldable pub begun : Environment → ℕ → Ty → Checking (Option Expr)
+begun env at (ty.Object o) = constructed at [] (construction env o)
+begun env at _ = Ok None
+
+abbrev pub stored_first : Ty → Typed → Checking (Option Expr)
+stored_first of t = fitted of t >>= λ e. Ok (Some e)
+
+-- `T x = e`, with x at this offset: objects are not assigned
+unfoldable pub begun_with : ℕ → Ty → Typed → Checking (Option Expr)
+begun_with at (ty.Object o) t = broken NotAssignable at
+begun_with at of t = stored_first of t
+
+-- `T x(e)` is `T x = e` for a primitive type
+unfoldable pub begun_by_one : ℕ → Ty → List Typed → Checking (Option Expr)
+begun_by_one at of (t ∷ []) = stored_first of t
+begun_by_one at of _ = broken TypeMismatch at
+
+-- `T x(e ..)`, with the type and x at these offsets
+unfoldable pub begun_by : Environment → ℕ → ℕ → Ty → List Typed → Checking (Option Expr)
+begun_by env of_at at (ty.Object o) ts = constructed of_at ts (construction env o)
+begun_by env of_at at (ty.Handle o) ts = broken TypeMismatch at
+begun_by env of_at at of ts = begun_by_one at of ts
+
+unfoldable pub initialized : Environment → ℕ → ℕ → Ty → written.Initializer → Checking (Option Expr)
+initialized env of_at at of written.Default = begun env of_at of
+initialized env of_at at of (written.Value e) = typed env false e >>= λ t. begun_with at of t
+initialized env of_at at of (written.Arguments es) = all_typed env (written.exprs es) >>= λ ts. begun_by env of_at at of ts
+
+-- a variable of this type, which is written at this offset
+unfoldable pub decl_typed : Environment → ℕ → Ty → written.Decl → Checking Initialization
+decl_typed env at of d = initialized env at d.place.at of d.initializer >>= λ value. Ok (initialization of value)

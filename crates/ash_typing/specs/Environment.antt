@@ -1,0 +1,190 @@
+-- What an expression sees: what its module declares, what is registered, the class whose object runs, and the locals.
+use Rattle.std.specs.Prelude.{ℕ, ◌+◌, Bool, List, [], ◌∷◌, Option, Some, None, map, find, slice_get, if◌then◌else◌}
+use Rattle.std.specs.Option.{option_and_then, option_map, option_or}
+use Rattle.std.specs.Str.{bytes_eq}
+use Rattle.ash_tree.specs.declared.tree.types.Primitive.{Primitive}
+use Rattle.ash_registry.specs.Calls as host
+use Rattle.ash_typed.specs.declared.types.ObjectType.{ObjectType}
+use Rattle.ash_typed.specs.declared.types.ObjectType.TheVariants.{Class as OfClass, Host as OfHost}
+use Rattle.ash_typed.specs.declared.types.Ty.{Ty}
+use Rattle.ash_typed.specs.declared.types.Ty.TheVariants as ty
+use Rattle.ash_typed.specs.declared.tree.operations.Variable.TheVariants as variables
+use Rattle.ash_typed.specs.declared.tree.operations.Member.{Member}
+use Rattle.ash_typed.specs.declared.tree.operations.Member.TheVariants as members
+use Rattle.ash_typed.specs.declared.tree.operations.Method.{Method}
+use Rattle.ash_typed.specs.declared.tree.operations.Method.TheVariants as methods
+use Rattle.ash_typed.specs.declared.tree.operations.Target.{Target}
+use Rattle.ash_typed.specs.declared.tree.operations.Target.TheVariants as targets
+use Rattle.ash_typing.specs.Types.{ty_of}
+use Rattle.ash_typed.specs.Tree.{Expr, This, Read, Stored, Held}
+
+-- a variable, a parameter or a field
+pub record Declared : Type 0 where
+  pub name : List ℕ
+  pub of : Ty
+
+-- a function or a method, whose result is `Void` where it has none
+pub record Function : Type 0 where
+  pub name : List ℕ
+  pub result : Ty
+  pub parameters : List Ty
+
+-- a class, with the parameters that its construction takes
+pub record Class : Type 0 where
+  pub name : List ℕ
+  pub fields : List Declared
+  pub methods : List Function
+  pub parameters : List Ty
+
+-- what a module declares
+pub record Heads : Type 0 where
+  pub classes : List Class
+  pub functions : List Function
+  pub globals : List Declared
+
+pub record Environment : Type 0 where
+  pub heads : Heads
+  pub registered : List host.Call
+  pub this : Option ℕ
+  pub locals : List Declared
+
+abbrev pub with_locals : Environment → List Declared → Environment
+with_locals env locals = record { heads = env.heads; registered = env.registered; this = env.this; locals = locals }
+
+-- look-ups
+
+-- the first that passes, with its place; the first of the list has place `i`
+abbrev pub first_from : {A : Type 0} → (A → Bool) → ℕ → List A → Option (ℕ × A)
+first_from test i [] = None
+first_from test i (x ∷ xs) = if test x then Some (i, x) else first_from test (i + 1) xs
+
+-- the place and the type of the last variable of a name, where `found` is the last one before
+abbrev pub last_named : List ℕ → ℕ → Option (ℕ × Ty) → List Declared → Option (ℕ × Ty)
+last_named name i found [] = found
+last_named name i found (v ∷ vs) = last_named name (i + 1) (if bytes_eq name v.name then Some (i, v.of) else found) vs
+
+abbrev pub declares : List ℕ → Declared → Bool
+declares name v = bytes_eq name v.name
+
+abbrev pub is_called : List ℕ → Function → Bool
+is_called name f = bytes_eq name f.name
+
+abbrev pub is_class : List ℕ → Class → Bool
+is_class name c = bytes_eq name c.name
+
+-- the class whose object runs
+abbrev pub this_class : Environment → Option (ℕ × Class)
+this_class env = option_and_then (λ (i : ℕ). option_map (λ (c : Class). (i, c)) (slice_get env.heads.classes i)) env.this
+
+-- A name alone is a local, the nearest one, else a field of the object that runs, else a global.
+
+-- a variable, and its type
+abbrev pub Known : Type 0
+Known = Expr × Ty
+
+abbrev pub local_in : List Declared → List ℕ → Option Known
+local_in locals name = option_map (λ (found : ℕ × Ty). (Read (Stored (variables.Local found.0)), found.1)) (last_named name 0 None locals)
+
+abbrev pub field_in : Class → List ℕ → Option (Member × Ty)
+field_in c name = option_map (λ (found : ℕ × Declared). (members.Field found.0, found.1.of)) (first_from (declares name) 0 c.fields)
+
+abbrev pub own_field_in : Environment → List ℕ → Option Known
+own_field_in env name = option_and_then (λ (c : ℕ × Class). option_map (λ (found : Member × Ty). (Read (Held This found.0), found.1)) (field_in c.1 name)) (this_class env)
+
+abbrev pub global_in : List Declared → List ℕ → Option Known
+global_in globals name = option_map (λ (found : ℕ × Declared). (Read (Stored (variables.Global found.0)), found.1.of)) (first_from (declares name) 0 globals)
+
+unfoldable pub variable_in : Environment → List ℕ → Option Known
+variable_in env name = option_or (local_in env.locals name) (option_or (own_field_in env name) (global_in env.heads.globals name))
+
+-- A name before brackets is a method of the object that runs, a function of the module, a registered function, a class,
+-- or a registered type.
+
+-- what is called, what it gives, and what it takes: nothing can be said of a type without factory
+pub record Callee : Type 0 where
+  pub target : Target
+  pub result : Ty
+  pub parameters : Option (List Ty)
+
+abbrev pub result_of : Option Primitive → Ty
+result_of None = ty.Void
+result_of (Some primitive) = ty_of primitive
+
+abbrev pub own_method_in : Environment → List ℕ → Option Callee
+own_method_in env name = option_and_then (λ (c : ℕ × Class). option_map (λ (found : ℕ × Function). record { target = targets.Method c.0 found.0; result = found.1.result; parameters = Some found.1.parameters }) (first_from (is_called name) 0 c.1.methods)) (this_class env)
+
+abbrev pub function_in : List Function → List ℕ → Option Callee
+function_in functions name = option_map (λ (found : ℕ × Function). record { target = targets.Function found.0; result = found.1.result; parameters = Some found.1.parameters }) (first_from (is_called name) 0 functions)
+
+abbrev pub service_function : host.Call → Option Callee
+service_function (host.AFunction service id operation) = Some (record { target = targets.Service service id (result_of operation.result); result = result_of operation.result; parameters = Some (map ty_of operation.parameters) })
+service_function _ = None
+
+abbrev pub class_in : List Class → List ℕ → Option Callee
+class_in classes name = option_map (λ (found : ℕ × Class). record { target = targets.Class found.0; result = ty.Handle (OfClass found.0); parameters = Some found.1.parameters }) (first_from (is_class name) 0 classes)
+
+abbrev pub factory_parameters : host.Call → Option (List Ty)
+factory_parameters (host.AFactory of parameters) = Some (map ty_of parameters)
+factory_parameters _ = None
+
+unfoldable pub factory_in : List host.Call → List ℕ → Option (List Ty)
+factory_in calls of = option_and_then factory_parameters (find (host.is_factory_of of) calls)
+
+abbrev pub host_type : List host.Call → host.Call → Option Callee
+host_type calls (host.AType name kind) = Some (record { target = targets.Host kind; result = ty.Handle (OfHost kind); parameters = factory_in calls name })
+host_type calls _ = None
+
+abbrev pub named_in : List host.Call → List ℕ → Option host.Call
+named_in calls name = find (host.takes_name name) calls
+
+-- what is neither a method nor a function of the module
+abbrev pub callee_beside : Environment → List ℕ → Option Callee
+callee_beside env name = option_or (option_and_then service_function (named_in env.registered name)) (option_or (class_in env.heads.classes name) (option_and_then (host_type env.registered) (named_in env.registered name)))
+
+unfoldable pub callee_in : Environment → List ℕ → Option Callee
+callee_in env name = option_or (own_method_in env name) (option_or (function_in env.heads.functions name) (callee_beside env name))
+
+-- Members of an object.
+
+abbrev pub type_name : Option host.Call → List ℕ
+type_name (Some (host.AType name kind)) = name
+type_name _ = []
+
+-- the name of a registered type, by its kind
+unfoldable pub name_of_kind : List host.Call → ℕ → List ℕ
+name_of_kind calls kind = type_name (find (host.takes_kind kind) calls)
+
+-- a method or a property of a registered type
+unfoldable pub host_member_in : List host.Call → ℕ → List ℕ → Option host.Call
+host_member_in calls kind name = find (host.takes_member (name_of_kind calls kind) name) calls
+
+abbrev pub property : host.Call → Option (Member × Ty)
+property (host.AProperty of id value name) = Some (members.Property id (ty_of value), ty_of value)
+property _ = None
+
+unfoldable pub member_in : Environment → ObjectType → List ℕ → Option (Member × Ty)
+member_in env (OfClass i) name = option_and_then (λ (c : Class). field_in c name) (slice_get env.heads.classes i)
+member_in env (OfHost kind) name = option_and_then property (host_member_in env.registered kind name)
+
+-- a method, what it gives and what it takes
+pub record Invoked : Type 0 where
+  pub method : Method
+  pub result : Ty
+  pub parameters : List Ty
+
+abbrev pub host_method : host.Call → Option Invoked
+host_method (host.AMethod of id operation) = Some (record { method = methods.Host id (result_of operation.result); result = result_of operation.result; parameters = map ty_of operation.parameters })
+host_method _ = None
+
+abbrev pub class_method : ℕ → List ℕ → Class → Option Invoked
+class_method i name c = option_map (λ (found : ℕ × Function). record { method = methods.Script i found.0; result = found.1.result; parameters = found.1.parameters }) (first_from (is_called name) 0 c.methods)
+
+unfoldable pub method_of_class : List Class → ℕ → List ℕ → Option Invoked
+method_of_class classes i name = option_and_then (class_method i name) (slice_get classes i)
+
+unfoldable pub method_of_kind : List host.Call → ℕ → List ℕ → Option Invoked
+method_of_kind calls kind name = option_and_then host_method (host_member_in calls kind name)
+
+unfoldable pub method_in : Environment → ObjectType → List ℕ → Option Invoked
+method_in env (OfClass i) name = method_of_class env.heads.classes i name
+method_in env (OfHost kind) name = method_of_kind env.registered kind name

@@ -1,0 +1,321 @@
+-- The typing of expressions (AngelScript manual, "Expressions"), as a function whose order is that of the walk: the parts
+-- of a phrase in the order of the text, then the phrase. Of several faults of one phrase the one at the earliest token
+-- is told.
+use Rattle.std.specs.Prelude.{ℕ, List, [], ◌∷◌, Bool, true, false, Option, Some, None, Ok, length, nat_eq, if◌then◌else◌}
+use Rattle.ash_tree.specs.declared.tree.types.Primitive.{Primitive}
+use Rattle.ash_tree.specs.declared.tree.operators.UnaryOp.{UnaryOp}
+use Rattle.ash_tree.specs.declared.tree.operators.UnaryOp.TheVariants as unary
+use Rattle.ash_tree.specs.declared.tree.operators.BinaryOp.{BinaryOp}
+use Rattle.ash_tree.specs.declared.tree.operators.BinaryOp.TheVariants as binary
+use Rattle.ash_tree.specs.declared.tree.operators.AssignOp.{AssignOp}
+use Rattle.ash_tree.specs.declared.tree.operators.AssignOp.TheVariants as assigns
+use Rattle.ash_tree.specs.Tree as written
+use Rattle.ash_typing.specs.declared.fault.Rule.TheVariants.{UnknownName, TypeMismatch, WrongArgumentCount, NotAssignable, Misplaced, NoFactory}
+use Rattle.ash_typed.specs.declared.types.Kind.{Kind}
+use Rattle.ash_typed.specs.declared.types.Kind.TheVariants as kinds
+use Rattle.ash_typed.specs.declared.types.ObjectType.TheVariants as objects
+use Rattle.ash_typed.specs.declared.types.Ty.{Ty}
+use Rattle.ash_typed.specs.declared.types.Ty.TheVariants as ty
+use Rattle.ash_typing.specs.declared.forms.Sort.{Sort}
+use Rattle.ash_typing.specs.declared.forms.Sort.TheVariants as sort
+use Rattle.ash_typing.specs.declared.forms.Alone.{Alone}
+use Rattle.ash_typing.specs.declared.forms.Alone.TheVariants as alone
+use Rattle.ash_typed.specs.declared.tree.operations.Change.{Change}
+use Rattle.ash_typed.specs.declared.tree.operations.Change.TheVariants as changes
+use Rattle.ash_typed.specs.declared.tree.operations.Conversion.{Conversion}
+use Rattle.ash_typed.specs.declared.tree.operations.Member.{Member}
+use Rattle.ash_typed.specs.declared.tree.operations.Member.TheVariants as members
+use Rattle.ash_typed.specs.declared.tree.operations.Operands.{Operands}
+use Rattle.ash_typed.specs.declared.tree.operations.Operands.TheVariants as operands
+use Rattle.ash_typed.specs.declared.tree.operations.Step.{Step}
+use Rattle.ash_typed.specs.declared.tree.operations.Step.TheVariants as steps
+use Rattle.ash_typing.specs.Checking.{Checking, ◌>>=◌, broken}
+use Rattle.ash_typing.specs.Types.{kind_of, holds, signed, is_same_kind, fits, common, ty_of, sort_of, takes, assumed, meets, outcome}
+use Rattle.ash_typed.specs.Tree.{Expr, Number, Truth, Null, This, Read, Invoke, Alter, Operate, Conditional, Assign, Update, Count, Call, Place, Held, Exprs, no_expr, expr, place_in, converted}
+use Rattle.ash_typing.specs.Environment.{Environment, Known, Callee, Invoked, variable_in, callee_in, member_in, method_in}
+
+-- a typed expression, with the offset of its first token and what it is by itself
+pub record Typed : Type 0 where
+  pub at : ℕ
+  pub ty : Ty
+  pub alone : Alone
+  pub tree : Expr
+
+abbrev pub made : ℕ → Ty → Expr → Typed
+made at t tree = record { at = at; ty = t; alone = alone.Other; tree = tree }
+
+-- conversions
+
+-- what a value of the second type becomes in the place of one of the first
+abbrev pub conversion : Ty → Ty → Option Conversion
+conversion (ty.Integer k) (ty.Integer j) = if is_same_kind j k then None else Some (record { from = j; to = k })
+conversion _ _ = None
+
+abbrev pub brought : Ty → Typed → Expr
+brought to t = converted (conversion to t.ty) t.tree
+
+-- as in an assignment to a variable of this type
+unfoldable pub fitted : Ty → Typed → Checking Expr
+fitted to t = if fits to t.ty then Ok (brought to t) else broken TypeMismatch t.at
+
+-- what an operand has to be
+
+abbrev pub integer_of : ℕ → Ty → Checking Kind
+integer_of at (ty.Integer k) = Ok k
+integer_of at ty.Unknown = Ok kinds.Int
+integer_of at _ = broken TypeMismatch at
+
+abbrev pub bool_of : ℕ → Ty → Checking Bool
+bool_of at ty.Bool = Ok true
+bool_of at ty.Unknown = Ok true
+bool_of at _ = broken TypeMismatch at
+
+-- the type of a handle of what an expression gives
+abbrev pub handle_of : ℕ → Ty → Checking Ty
+handle_of at (ty.Object o) = Ok (ty.Handle o)
+handle_of at (ty.Handle o) = Ok (ty.Handle o)
+handle_of at ty.Unknown = Ok ty.Unknown
+handle_of at _ = broken TypeMismatch at
+
+-- a number has the first of the four integer types that holds it
+abbrev pub numeral : ℕ → ℕ → Typed
+numeral at n = record { at = at; ty = ty.Integer (kind_of n); alone = alone.Number n; tree = Number (kind_of n) n }
+
+-- A number alone takes the type of the other operand, where that holds it and the other is no number.
+abbrev pub adapted_to : Alone → Ty → Alone → Typed → Typed
+adapted_to (alone.Number m) k (alone.Number n) t = t
+adapted_to _ (ty.Integer k) (alone.Number n) t = if holds k n then record { at = t.at; ty = ty.Integer k; alone = alone.Number n; tree = Number k n } else t
+adapted_to _ _ _ t = t
+
+-- the operand of an operator, beside one of this form and type
+unfoldable pub adapted : Sort → Alone → Ty → Typed → Typed
+adapted sort.Shift beside of t = t
+adapted _ beside of t = adapted_to beside of t.alone t
+
+-- operators between two operands
+
+abbrev pub operand_type : Operands → Ty
+operand_type (operands.Integers k) = ty.Integer k
+operand_type operands.Bools = ty.Bool
+operand_type operands.Handles = ty.Null
+
+-- the count of a shift keeps its type
+abbrev pub right_operand : Sort → Operands → Typed → Expr
+right_operand sort.Shift o t = t.tree
+right_operand _ o t = brought (operand_type o) t
+
+-- the operands, and what an operator takes them for
+pub record Met : Type 0 where
+  pub left : Typed
+  pub operands : Operands
+  pub right : Expr
+
+abbrev pub met_as : Sort → Typed → Typed → Option Operands → Checking Met
+met_as s a b (Some o) = Ok (record { left = a; operands = o; right = right_operand s o b })
+met_as s a b None = broken TypeMismatch (if takes s a.ty then b.at else a.at)
+
+abbrev pub met_by : Sort → Typed → Typed → Checking Met
+met_by s a b = met_as s a b (meets s (assumed s b.ty a.ty) (assumed s a.ty b.ty))
+
+unfoldable pub met : BinaryOp → Typed → Typed → Checking Met
+met op a b = met_by (sort_of op) (adapted (sort_of op) b.alone b.ty a) (adapted (sort_of op) a.alone a.ty b)
+
+abbrev pub operated : BinaryOp → Met → Typed
+operated op m = made m.left.at (outcome (sort_of op) m.operands) (Operate (record { operator = op; operands = m.operands }) (brought (operand_type m.operands) m.left) m.right)
+
+unfoldable pub operate : BinaryOp → Typed → Typed → Checking Typed
+operate op a b = met op a b >>= λ m. Ok (operated op m)
+
+-- operators before an operand
+
+unfoldable pub counted : ℕ → Step → Typed → Option Place → Checking Typed
+counted at step t None = broken NotAssignable t.at
+counted at step t (Some p) = integer_of t.at t.ty >>= λ k. Ok (made at (ty.Integer k) (Count p k step))
+
+abbrev pub altered : ℕ → Kind → Change → Typed → Typed
+altered at k change t = made at (ty.Integer k) (Alter change (brought (ty.Integer k) t))
+
+-- `@e` left of `=` is what is written to, and its type is tested there
+abbrev pub handle_at : Bool → ℕ → Typed → Checking Typed
+handle_at true at t = Ok (record { at = at; ty = t.ty; alone = alone.Handle; tree = t.tree })
+handle_at false at t = handle_of t.at t.ty >>= λ h. Ok (made at h (Alter changes.Keep t.tree))
+
+unfoldable pub unary_at : Bool → ℕ → UnaryOp → Typed → Checking Typed
+unary_at left at unary.Plus t = integer_of t.at t.ty >>= λ k. Ok (altered at k changes.Keep t)
+unary_at left at unary.Minus t = integer_of t.at t.ty >>= λ k. Ok (altered at (signed k) (changes.Negate (signed k)) t)
+unary_at left at unary.BitNot t = integer_of t.at t.ty >>= λ k. Ok (altered at k (changes.Complement k) t)
+unary_at left at unary.Not t = bool_of t.at t.ty >>= λ yes. Ok (made at ty.Bool (Alter changes.Not t.tree))
+unary_at left at unary.Increment t = counted at steps.Increment t (place_in t.tree)
+unary_at left at unary.Decrement t = counted at steps.Decrement t (place_in t.tree)
+unary_at left at unary.Handle t = handle_at left at t
+
+-- `prim(e)`
+abbrev pub converting : ℕ → Ty → Typed → Checking Typed
+converting at (ty.Integer k) t = integer_of t.at t.ty >>= λ j. Ok (altered at k changes.Keep t)
+converting at _ t = bool_of t.at t.ty >>= λ yes. Ok (made at ty.Bool (Alter changes.Keep t.tree))
+
+unfoldable pub convert_at : ℕ → Primitive → Typed → Checking Typed
+convert_at at to t = converting at (ty_of to) t
+
+-- `c ? a : b`
+
+abbrev pub is_void : Ty → Bool
+is_void ty.Void = true
+is_void _ = false
+
+abbrev pub chosen : Typed → Typed → Typed → Option Ty → Checking Typed
+chosen c a b (Some t) = Ok (made c.at t (Conditional c.tree (brought t a) (brought t b)))
+chosen c a b None = broken TypeMismatch (if is_void a.ty then a.at else b.at)
+
+unfoldable pub choice : Typed → Typed → Typed → Checking Typed
+choice c a b = bool_of c.at c.ty >>= λ yes. chosen c a b (common a.ty b.ty)
+
+-- assignments
+
+-- the operator of `a op= b`
+abbrev pub operator_of : AssignOp → Option BinaryOp
+operator_of assigns.Assign = None
+operator_of assigns.Add = Some binary.Add
+operator_of assigns.Subtract = Some binary.Subtract
+operator_of assigns.Multiply = Some binary.Multiply
+operator_of assigns.Divide = Some binary.Divide
+operator_of assigns.Remainder = Some binary.Remainder
+operator_of assigns.BitAnd = Some binary.BitAnd
+operator_of assigns.BitOr = Some binary.BitOr
+operator_of assigns.BitXor = Some binary.BitXor
+operator_of assigns.ShiftLeft = Some binary.ShiftLeft
+operator_of assigns.ShiftRight = Some binary.ShiftRight
+operator_of assigns.ShiftRightArithmetic = Some binary.ShiftRightArithmetic
+
+-- what a place takes: `=` and `op=` a primitive type, `@p =` a handle
+abbrev pub is_stored : Alone → Ty → Bool
+is_stored alone.Handle (ty.Handle o) = true
+is_stored alone.Handle ty.Unknown = true
+is_stored alone.Handle _ = false
+is_stored _ ty.Bool = true
+is_stored _ (ty.Integer k) = true
+is_stored _ ty.Unknown = true
+is_stored _ _ = false
+
+-- what stands at a place is an operand of its type
+abbrev pub updated : ℕ → Ty → Place → BinaryOp → Typed → Checking Typed
+updated at of p op v = met op (made at of Null) v >>= λ m. integer_of at of >>= λ k. Ok (made at (ty.Integer k) (Update p k (record { operator = op; operands = m.operands }) m.right))
+
+unfoldable pub stored : ℕ → Ty → Place → Option BinaryOp → Typed → Checking Typed
+stored at of p None v = fitted of v >>= λ e. Ok (made at of (Assign p e))
+stored at of p (Some op) v = updated at of p op v
+
+abbrev pub assigned_to : Typed → AssignOp → Typed → Option Place → Checking Typed
+assigned_to t op v None = broken NotAssignable t.at
+assigned_to t op v (Some p) = if is_stored t.alone t.ty then stored t.at t.ty p (operator_of op) v else broken NotAssignable t.at
+
+unfoldable pub assigned : Typed → AssignOp → Typed → Checking Typed
+assigned t op v = assigned_to t op v (place_in t.tree)
+
+abbrev pub is_assign : AssignOp → Bool
+is_assign assigns.Assign = true
+is_assign _ = false
+
+-- calls
+
+abbrev pub all_fitted : List Ty → List Typed → Checking Exprs
+all_fitted (p ∷ ps) (t ∷ ts) = fitted p t >>= λ e. all_fitted ps ts >>= λ es. Ok (expr e es)
+all_fitted _ _ = Ok no_expr
+
+unfoldable pub arguments_at : ℕ → List Ty → List Typed → Checking Exprs
+arguments_at at parameters ts = if nat_eq (length parameters) (length ts) then all_fitted parameters ts else broken WrongArgumentCount at
+
+unfoldable pub called : ℕ → Callee → List Typed → Option (List Ty) → Checking Typed
+called at callee ts None = broken NoFactory at
+called at callee ts (Some parameters) = arguments_at at parameters ts >>= λ es. Ok (made at callee.result (Call callee.target es))
+
+abbrev pub callee_at : ℕ → Option Callee → Checking Callee
+callee_at at None = broken UnknownName at
+callee_at at (Some callee) = Ok callee
+
+-- names
+
+abbrev pub known_at : ℕ → Option Known → Checking Typed
+known_at at None = broken UnknownName at
+known_at at (Some known) = Ok (made at known.1 known.0)
+
+abbrev pub this_at : ℕ → Option ℕ → Checking Typed
+this_at at None = broken Misplaced at
+this_at at (Some class) = Ok (made at (ty.Handle (objects.Class class)) This)
+
+-- suffixes
+
+abbrev pub member_at : Typed → ℕ → Option (Member × Ty) → Checking Typed
+member_at t at None = broken UnknownName at
+member_at t at (Some (member, of)) = Ok (made t.at of (Read (Held t.tree member)))
+
+unfoldable pub field_of : Environment → Typed → Ty → ℕ → List ℕ → Checking Typed
+field_of env t (ty.Object o) at name = member_at t at (member_in env o name)
+field_of env t (ty.Handle o) at name = member_at t at (member_in env o name)
+field_of env t ty.Unknown at name = Ok (made t.at ty.Unknown (Read (Held t.tree (members.Field 0))))
+field_of env t _ at name = broken TypeMismatch t.at
+
+-- the method, or nothing where the type of the object is unknown
+abbrev pub invoked_at : ℕ → Option Invoked → Checking (Option Invoked)
+invoked_at at None = broken UnknownName at
+invoked_at at (Some m) = Ok (Some m)
+
+unfoldable pub method_of : Environment → Typed → Ty → ℕ → List ℕ → Checking (Option Invoked)
+method_of env t (ty.Object o) at name = invoked_at at (method_in env o name)
+method_of env t (ty.Handle o) at name = invoked_at at (method_in env o name)
+method_of env t ty.Unknown at name = Ok None
+method_of env t _ at name = broken TypeMismatch t.at
+
+unfoldable pub invoked : Typed → ℕ → List Typed → Option Invoked → Checking Typed
+invoked t at ts None = Ok (made t.at ty.Unknown Null)
+invoked t at ts (Some m) = arguments_at at m.parameters ts >>= λ es. Ok (made t.at m.result (Invoke t.tree m.method es))
+
+abbrev pub in_brackets : ℕ → Typed → Typed
+in_brackets at t = record { at = at; ty = t.ty; alone = alone.Other; tree = t.tree }
+
+-- A call, whose arguments are walked once its name is known.
+abbrev pub call_typed : Environment → ℕ → List ℕ → Checking (List Typed) → Checking Typed
+call_typed env at name arguments = callee_at at (callee_in env name) >>= λ callee. arguments >>= λ ts. called at callee ts callee.parameters
+
+abbrev pub invocation_typed : Environment → Typed → ℕ → List ℕ → Checking (List Typed) → Checking Typed
+invocation_typed env t at name arguments = method_of env t t.ty at name >>= λ m. arguments >>= λ ts. invoked t at ts m
+
+-- The walk. `left` is whether the expression stands left of `=`. Arrays, casts and indexes have no rule of typing so far.
+abbrev mutual
+  pub typed : Environment → Bool → written.Expr → Checking Typed
+  typed env left (written.Number p n) = Ok (numeral p.at n)
+  typed env left (written.Truth p b) = Ok (made p.at ty.Bool (Truth b))
+  typed env left (written.Null p) = Ok (made p.at ty.Null Null)
+  typed env left (written.This p) = this_at p.at env.this
+  typed env left (written.Name p name) = known_at p.at (variable_in env name)
+  typed env left (written.Call p name es) = call_typed env p.at name (all_typed env es)
+  typed env left (written.Brackets p e) = typed env false e >>= λ t. Ok (in_brackets p.at t)
+  typed env left (written.Convert p to e) = typed env false e >>= λ t. convert_at p.at to t
+  typed env left (written.NewArray p of es) = broken TypeMismatch p.at
+  typed env left (written.Cast p to e) = broken TypeMismatch p.at
+  typed env left (written.Postfix p e ss) = typed env false e >>= λ t. suffixes_typed env t ss
+  typed env left (written.Unary p op e) = typed env false e >>= λ t. unary_at left p.at op t
+  typed env left (written.Binary p e ls) = typed env false e >>= λ t. links_typed env t ls
+  typed env left (written.Conditional p c a b) = typed env false c >>= λ t. typed env false a >>= λ x. typed env false b >>= λ y. choice t x y
+  typed env left (written.Assign p e op v) = typed env (is_assign op) e >>= λ target. typed env false v >>= λ value. assigned target op value
+
+  -- arguments, each in its turn
+  pub all_typed : Environment → written.Exprs → Checking (List Typed)
+  all_typed env written.no_expr = Ok []
+  all_typed env (written.expr e es) = typed env false e >>= λ t. all_typed env es >>= λ ts. Ok (t ∷ ts)
+
+  -- operators of one level, each with what stands before it
+  pub links_typed : Environment → Typed → written.Links → Checking Typed
+  links_typed env t written.no_link = Ok t
+  links_typed env t (written.link op e ls) = typed env false e >>= λ operand. operate op t operand >>= λ both. links_typed env both ls
+
+  pub suffixes_typed : Environment → Typed → written.Suffixes → Checking Typed
+  suffixes_typed env t written.no_suffix = Ok t
+  suffixes_typed env t (written.suffix s ss) = suffix_typed env t s >>= λ next. suffixes_typed env next ss
+
+  pub suffix_typed : Environment → Typed → written.Suffix → Checking Typed
+  suffix_typed env t (written.Field p name) = field_of env t t.ty p.at name
+  suffix_typed env t (written.Method p name es) = invocation_typed env t p.at name (all_typed env es)
+  suffix_typed env t (written.Index e) = broken TypeMismatch t.at
+  suffix_typed env t written.Increment = counted t.at steps.IncrementAfter t (place_in t.tree)
+  suffix_typed env t written.Decrement = counted t.at steps.DecrementAfter t (place_in t.tree)

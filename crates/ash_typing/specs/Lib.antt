@@ -1,0 +1,14 @@
+pub mod Checking
+pub mod Types
+pub mod Environment
+pub mod Heads
+pub mod Expressions
+pub mod Declarations
+pub mod Typing
+pub mod Returning
+pub mod Switches
+pub mod Statements
+pub mod TypedStatements
+pub mod Bodies
+pub mod Items
+pub mod TypedModules

@@ -1,0 +1,152 @@
+-- The typing of statements (AngelScript manual, "Statements"), as a function whose order is that of the walk: the parts of
+-- a statement in the order of the text, then the statement. So a condition that is no `bool` is told behind the faults
+-- of what it governs.
+use Rattle.std.specs.Prelude.{ℕ, List, [], ◌∷◌, ◌++◌, Bool, true, false, ◌||◌, Option, Some, None, Ok, length, drop, map, option_map, if◌then◌else◌}
+use Rattle.std.specs.List.{list_any}
+use Rattle.ash_tree.specs.declared.tree.places.Place.{Place}
+use Rattle.ash_tree.specs.declared.tree.statements.Label.{Label}
+use Rattle.ash_tree.specs.Tree as written
+use Rattle.ash_typing.specs.declared.fault.Rule.TheVariants.{NameTaken, TypeMismatch, Misplaced}
+use Rattle.ash_typed.specs.declared.types.Kind.{Kind}
+use Rattle.ash_typed.specs.declared.types.Ty.{Ty}
+use Rattle.ash_typed.specs.declared.types.Ty.TheVariants as ty
+use Rattle.ash_typing.specs.Checking.{Checking, ◌>>=◌, broken}
+use Rattle.ash_typed.specs.Tree.{Expr}
+use Rattle.ash_typed.specs.StatementTree.{Initialization, Stmt, Empty, Declare, Evaluate, Block, If, IfElse, While, DoWhile, For, Switch, Break, Continue, Return, Stmts, no_stmt, stmt, labelled, Cases, no_case, next_case}
+use Rattle.ash_typing.specs.Environment.{Declared, Environment, declares, with_locals}
+use Rattle.ash_typing.specs.Expressions.{Typed, typed, all_typed, fitted, integer_of, bool_of, is_void}
+use Rattle.ash_typing.specs.Heads.{declared, variables}
+use Rattle.ash_typing.specs.Declarations.{ty_in, at_type, known_ty, decl_typed}
+use Rattle.ash_typing.specs.Switches.{kind_in, label_typed}
+
+-- what a statement sees
+
+-- `first` is how many locals stand before those of the block, `gives` what the function gives
+pub record Scope : Type 0 where
+  pub env : Environment
+  pub first : ℕ
+  pub gives : Ty
+  pub in_loop : Bool
+  pub in_switch : Bool
+
+-- in a block none of its names is taken yet
+abbrev pub block_of : Scope → Scope
+block_of scope = record { env = scope.env; first = length scope.env.locals; gives = scope.gives; in_loop = scope.in_loop; in_switch = scope.in_switch }
+
+abbrev pub loop_of : Scope → Scope
+loop_of scope = record { env = scope.env; first = scope.first; gives = scope.gives; in_loop = true; in_switch = scope.in_switch }
+
+abbrev pub switch_of : Scope → Scope
+switch_of scope = record { env = scope.env; first = scope.first; gives = scope.gives; in_loop = scope.in_loop; in_switch = true }
+
+abbrev pub with_variables : Scope → List Declared → Scope
+with_variables scope vs = record { env = with_locals scope.env (scope.env.locals ++ vs); first = scope.first; gives = scope.gives; in_loop = scope.in_loop; in_switch = scope.in_switch }
+
+abbrev pub declared_in : Scope → written.Vars → List Declared
+declared_in scope v = variables scope.env.registered scope.env.heads.classes v
+
+-- what the statements behind one see: the variables that it declares
+abbrev pub behind : Scope → written.Stmt → Scope
+behind scope (written.Declare p v) = with_variables scope (declared_in scope v)
+behind scope _ = scope
+
+-- variables
+
+abbrev pub is_taken : Scope → List ℕ → Bool
+is_taken scope name = list_any (declares name) (drop scope.first scope.env.locals)
+
+-- a variable whose name is not taken in its block
+unfoldable pub fresh : Scope → Ty → written.Decl → Checking Declared
+fresh scope of d = if is_taken scope d.name then broken NameTaken d.place.at else Ok (declared of d)
+
+-- variables of the type at this offset, each seen from the end of its own on
+abbrev pub decls_typed : Scope → ℕ → Ty → List written.Decl → Checking (List Initialization)
+decls_typed scope at of [] = Ok []
+decls_typed scope at of (d ∷ ds) = fresh scope of d >>= λ v. decl_typed scope.env at of d >>= λ value. decls_typed (with_variables scope (v ∷ [])) at of ds >>= λ values. Ok (value ∷ values)
+
+unfoldable pub vars_typed : Scope → written.Vars → Checking (List Initialization)
+vars_typed scope v = known_ty (at_type v.of) (ty_in scope.env v.of) >>= λ of. decls_typed scope (at_type v.of) of v.decls
+
+-- statements, once their parts are walked
+
+abbrev pub condition_is : Typed → Checking Bool
+condition_is t = bool_of t.at t.ty
+
+unfoldable pub if_typed : ℕ → Checking Typed → Checking Stmt → Checking Stmt
+if_typed line condition branch = condition >>= λ c. branch >>= λ s. condition_is c >>= λ yes. Ok (If line c.tree s)
+
+unfoldable pub if_else_typed : ℕ → Checking Typed → Checking Stmt → Checking Stmt → Checking Stmt
+if_else_typed line condition branch other = condition >>= λ c. branch >>= λ s. other >>= λ t. condition_is c >>= λ yes. Ok (IfElse line c.tree s t)
+
+unfoldable pub while_typed : ℕ → Checking Typed → Checking Stmt → Checking Stmt
+while_typed line condition body = condition >>= λ c. body >>= λ s. condition_is c >>= λ yes. Ok (While line c.tree s)
+
+unfoldable pub do_while_typed : ℕ → Checking Stmt → Checking Typed → Checking Stmt
+do_while_typed line body condition = body >>= λ s. condition >>= λ c. condition_is c >>= λ yes. Ok (DoWhile line s c.tree)
+
+-- the head of a `for` may have no condition
+abbrev pub maybe_typed : Environment → Option written.Expr → Checking (Option Typed)
+maybe_typed env None = Ok None
+maybe_typed env (Some e) = typed env false e >>= λ t. Ok (Some t)
+
+abbrev pub maybe_condition_is : Option Typed → Checking Bool
+maybe_condition_is None = Ok true
+maybe_condition_is (Some t) = condition_is t
+
+abbrev pub tree_of : Typed → Expr
+tree_of t = t.tree
+
+unfoldable pub for_typed : ℕ → Checking Stmt → Checking (Option Typed) → Checking (List Typed) → Checking Stmt → Checking Stmt
+for_typed line first condition steps body = first >>= λ f. condition >>= λ c. steps >>= λ ts. body >>= λ s. maybe_condition_is c >>= λ yes. Ok (For line f (option_map tree_of c) (map tree_of ts) s)
+
+-- `break` and `continue`, where there is something that they leave
+unfoldable pub break_typed : Bool → Place → Checking Stmt
+break_typed leaves p = if leaves then Ok (Break p.line) else broken Misplaced p.at
+
+unfoldable pub continue_typed : Bool → Place → Checking Stmt
+continue_typed leaves p = if leaves then Ok (Continue p.line) else broken Misplaced p.at
+
+-- whether a function of this type returns without a value
+abbrev pub gives_nothing : Ty → Bool
+gives_nothing ty.Void = true
+gives_nothing ty.Unknown = true
+gives_nothing _ = false
+
+-- a value that is returned at this offset
+unfoldable pub returned : Ty → ℕ → Typed → Checking Expr
+returned of at t = if is_void of then broken TypeMismatch at else fitted of t
+
+unfoldable pub return_typed : Scope → Place → Option written.Expr → Checking Stmt
+return_typed scope p None = if gives_nothing scope.gives then Ok (Return p.line None) else broken TypeMismatch p.at
+return_typed scope p (Some e) = typed scope.env false e >>= λ t. returned scope.gives p.at t >>= λ value. Ok (Return p.line (Some value))
+
+abbrev pub is_last : written.Cases → Bool
+is_last written.no_case = true
+is_last (written.next_case c cs) = false
+
+-- the walk
+abbrev mutual
+  pub stmt_typed : Scope → written.Stmt → Checking Stmt
+  stmt_typed scope (written.Empty p) = Ok (Empty p.line)
+  stmt_typed scope (written.Declare p v) = vars_typed scope v >>= λ values. Ok (Declare p.line values)
+  stmt_typed scope (written.Evaluate p e) = typed scope.env false e >>= λ t. Ok (Evaluate p.line t.tree)
+  stmt_typed scope (written.Block p ss) = stmts_typed (block_of scope) ss >>= λ body. Ok (Block p.line body)
+  stmt_typed scope (written.If p c s) = if_typed p.line (typed scope.env false c) (stmt_typed scope s)
+  stmt_typed scope (written.IfElse p c s t) = if_else_typed p.line (typed scope.env false c) (stmt_typed scope s) (stmt_typed scope t)
+  stmt_typed scope (written.While p c s) = while_typed p.line (typed scope.env false c) (stmt_typed (loop_of scope) s)
+  stmt_typed scope (written.DoWhile p s c) = do_while_typed p.line (stmt_typed (loop_of scope) s) (typed scope.env false c)
+  stmt_typed scope (written.For p f c es s) = for_typed p.line (stmt_typed (block_of scope) f) (maybe_typed (behind (block_of scope) f).env c) (all_typed (behind (block_of scope) f).env (written.exprs es)) (stmt_typed (loop_of (behind (block_of scope) f)) s)
+  stmt_typed scope (written.Switch p e cs) = typed scope.env false e >>= λ v. cases_typed (switch_of scope) (kind_in v.ty) [] cs >>= λ rows. integer_of v.at v.ty >>= λ kind. Ok (Switch p.line v.tree rows)
+  stmt_typed scope (written.Break p) = break_typed (scope.in_loop || scope.in_switch) p
+  stmt_typed scope (written.Continue p) = continue_typed scope.in_loop p
+  stmt_typed scope (written.Return p e) = return_typed scope p e
+
+  -- statements, each with the variables of those before it
+  pub stmts_typed : Scope → written.Stmts → Checking Stmts
+  stmts_typed scope written.no_stmt = Ok no_stmt
+  stmts_typed scope (written.stmt s ss) = stmt_typed scope s >>= λ t. stmts_typed (behind scope s) ss >>= λ ts. Ok (stmt t ts)
+
+  -- labels, each behind those before it, with the statements behind them
+  pub cases_typed : Scope → Option Kind → List Label → written.Cases → Checking Cases
+  cases_typed scope kind before written.no_case = Ok no_case
+  cases_typed scope kind before (written.next_case (written.labelled p l ss) cs) = label_typed kind before (is_last cs) p.at l >>= λ label. stmts_typed scope ss >>= λ body. cases_typed scope kind (before ++ l ∷ []) cs >>= λ rest. Ok (next_case (labelled label body) rest)

@@ -1,0 +1,201 @@
+-- The typed tree of a module, one case for each phrase. Items see each other in any order, so that each is typed in the
+-- environment that all of them make.
+use Rattle.std.specs.Prelude.{◌≡◌, ◌≤◌, ◌⊎◌, ◌+◌, ℕ, List, [], ◌∷◌, ◌++◌, Bool, true, false, Option, Some, None, map, length}
+use Rattle.std.specs.Bool.{IsTrue}
+use Rattle.std.specs.List.{AllByRecursion, AllZip, IsDistinct}
+use Rattle.std.specs.Str.{bytes_eq}
+use Rattle.ash_registry.specs.Calls as host
+use Rattle.ash_tree.specs.Tree as written
+use Rattle.ash_typed.specs.declared.types.Ty.{Ty}
+use Rattle.ash_typed.specs.declared.types.Ty.TheVariants as ty
+use Rattle.ash_typing.specs.Environment.{Declared, Environment, named_in}
+use Rattle.ash_typing.specs.Typing.{IsKnownType, IsDeclared}
+use Rattle.ash_typing.specs.Heads.{heads, result_named}
+use Rattle.ash_typing.specs.Declarations.{ty_in}
+use Rattle.ash_typing.specs.Bodies.{Body, body_scope, returns_in, with_locals}
+use Rattle.ash_typing.specs.TypedStatements.{AreStmts}
+use Rattle.ash_typed.specs.Modules.{Variables, Function, Class, Module}
+use Rattle.ash_typing.specs.Items.{Routine, routine_of, constructing, inside, seen}
+
+-- what is written, by kind
+
+abbrev pub classes_of : List written.Item → List written.Class
+classes_of [] = []
+classes_of (written.AClass c ∷ is) = c ∷ classes_of is
+classes_of (written.AnInterface i ∷ is) = classes_of is
+classes_of (written.AFunction f ∷ is) = classes_of is
+classes_of (written.AGlobal v ∷ is) = classes_of is
+
+abbrev pub functions_of : List written.Item → List written.Function
+functions_of [] = []
+functions_of (written.AFunction f ∷ is) = f ∷ functions_of is
+functions_of (written.AClass c ∷ is) = functions_of is
+functions_of (written.AnInterface i ∷ is) = functions_of is
+functions_of (written.AGlobal v ∷ is) = functions_of is
+
+abbrev pub globals_of : List written.Item → List written.Vars
+globals_of [] = []
+globals_of (written.AGlobal v ∷ is) = v ∷ globals_of is
+globals_of (written.AClass c ∷ is) = globals_of is
+globals_of (written.AnInterface i ∷ is) = globals_of is
+globals_of (written.AFunction f ∷ is) = globals_of is
+
+abbrev pub fields_of : List written.Member → List written.Vars
+fields_of [] = []
+fields_of (written.AField v ∷ ms) = v ∷ fields_of ms
+fields_of (written.AMethod f ∷ ms) = fields_of ms
+fields_of (written.AConstructor c ∷ ms) = fields_of ms
+
+abbrev pub methods_of : List written.Member → List written.Function
+methods_of [] = []
+methods_of (written.AMethod f ∷ ms) = f ∷ methods_of ms
+methods_of (written.AField v ∷ ms) = methods_of ms
+methods_of (written.AConstructor c ∷ ms) = methods_of ms
+
+abbrev pub constructors_of : List written.Member → List written.Constructor
+constructors_of [] = []
+constructors_of (written.AConstructor c ∷ ms) = c ∷ constructors_of ms
+constructors_of (written.AMethod f ∷ ms) = constructors_of ms
+constructors_of (written.AField v ∷ ms) = constructors_of ms
+
+-- names
+
+abbrev pub decl_name : written.Decl → List ℕ
+decl_name d = d.name
+
+abbrev pub names_of : written.Vars → List (List ℕ)
+names_of v = map decl_name v.decls
+
+-- the names of variables
+abbrev pub variable_names : List written.Vars → List (List ℕ)
+variable_names [] = []
+variable_names (v ∷ vs) = names_of v ++ variable_names vs
+
+-- the names of a class's fields and methods
+abbrev pub member_names : List written.Member → List (List ℕ)
+member_names [] = []
+member_names (written.AField v ∷ ms) = names_of v ++ member_names ms
+member_names (written.AMethod f ∷ ms) = f.name ∷ member_names ms
+member_names (written.AConstructor c ∷ ms) = member_names ms
+
+-- the names of a module's classes, interfaces, functions and variables
+abbrev pub item_names : List written.Item → List (List ℕ)
+item_names [] = []
+item_names (written.AClass c ∷ is) = c.name ∷ item_names is
+item_names (written.AnInterface i ∷ is) = i.name ∷ item_names is
+item_names (written.AFunction f ∷ is) = f.name ∷ item_names is
+item_names (written.AGlobal v ∷ is) = names_of v ++ item_names is
+
+abbrev pub parameter_name : written.Parameter → List ℕ
+parameter_name p = p.name
+
+-- a name that no type and no function is registered by
+abbrev pub IsFree : List host.Call → List ℕ → Type 0
+IsFree calls name = named_in calls name ≡ None
+
+-- types
+
+-- the type of a parameter or of a result: a primitive type, or a handle, since objects are passed by handles
+abbrev pub is_passed : Ty → Bool
+is_passed ty.Bool = true
+is_passed (ty.Integer k) = true
+is_passed (ty.Handle o) = true
+is_passed _ = false
+
+abbrev pub IsPassed : Ty → Type 0
+IsPassed of = is_passed of ≡ true
+
+abbrev pub type_of_parameter : Environment → written.Parameter → Ty
+type_of_parameter env p = ty_in env p.of
+
+abbrev pub parameter_of : Environment → written.Parameter → Declared
+parameter_of env p = record { name = p.name; of = ty_in env p.of }
+
+abbrev pub IsPassedParameter : Environment → written.Parameter → Type 0
+IsPassedParameter env p = IsPassed (ty_in env p.of)
+
+-- variables of a module or of a class
+
+-- `T x = a, y(b), z`
+pub record AreVariables (env : Environment) (v : written.Vars) (typed : Variables) : Type 0 where
+  pub known : IsKnownType (ty_in env v.of)
+  pub line : typed.line ≡ (written.place_of_type v.of).line
+  pub names : typed.names ≡ names_of v
+  pub values : AllZip (IsDeclared env (ty_in env v.of)) v.decls typed.values
+
+-- functions
+
+-- parameters and the variables of a body are one block
+abbrev pub IsBody : Environment → Ty → List written.Stmt → Body → Type 0
+IsBody env of body typed = AreStmts (body_scope env of) (written.stmts body) typed
+
+-- A function, a method or a constructor that gives this type. Its parameters differ in name, and a function with a result
+-- returns however its conditions turn out.
+pub record IsRoutine (env : Environment) (of : Ty) (r : Routine) (typed : Function) : Type 0 where
+  pub name : typed.name ≡ r.name
+  pub line : typed.line ≡ r.place.line
+  pub result : typed.result ≡ of
+  pub passed : AllByRecursion (IsPassedParameter env) r.parameters
+  pub differ : IsDistinct bytes_eq (map parameter_name r.parameters)
+  pub parameters : typed.parameters ≡ map (type_of_parameter env) r.parameters
+  pub body : IsBody (with_locals env (map (parameter_of env) r.parameters)) of r.body typed.body
+  pub returns : (of ≡ ty.Void) ⊎ IsTrue (returns_in r.body)
+
+-- a function without a result is void
+abbrev pub IsResult : Environment → Option written.Named → Type 0
+IsResult env None = Unit {0}
+IsResult env (Some of) = IsPassed (ty_in env of)
+
+abbrev pub result_in : Environment → Option written.Named → Ty
+result_in env of = result_named env.registered env.heads.classes of
+
+-- `T f(..) { .. }`
+pub record IsFunction (env : Environment) (f : written.Function) (typed : Function) : Type 0 where
+  pub passed : IsResult env f.result
+  pub routine : IsRoutine env (result_in env f.result) (routine_of f) typed
+
+-- classes
+
+-- a constructor has its class's name
+pub record IsConstructor (env : Environment) (class : List ℕ) (c : written.Constructor) (typed : Function) : Type 0 where
+  pub named : c.name ≡ class
+  pub routine : IsRoutine env ty.Void (constructing c) typed
+
+-- a class has at most one
+abbrev pub HasConstructor : Environment → List ℕ → List written.Constructor → Option Function → Type 0
+HasConstructor env class [] None = Unit {0}
+HasConstructor env class (c ∷ []) (Some typed) = IsConstructor env class c typed
+HasConstructor env class _ _ = ⊥
+
+-- A class, of this place among those of the module. It has at most 32 fields and methods, which differ in name.
+pub record IsClass (env : Environment) (place : ℕ) (c : written.Class) (typed : Class) : Type 0 where
+  pub name : typed.name ≡ c.name
+  pub line : typed.line ≡ c.place.line
+  pub differ : IsDistinct bytes_eq (member_names c.members)
+  pub few : length (member_names c.members) ≤ 32
+  pub fields : AllZip (AreVariables (inside env place)) (fields_of c.members) typed.fields
+  pub methods : AllZip (IsFunction (inside env place)) (methods_of c.members) typed.methods
+  pub constructor : HasConstructor (inside env place) c.name (constructors_of c.members) typed.constructor
+
+-- classes, of which the first has this place
+abbrev pub AreClasses : Environment → ℕ → List written.Class → List Class → Type 0
+AreClasses env place [] [] = Unit {0}
+AreClasses env place (c ∷ cs) (typed ∷ more) = IsClass env place c typed × AreClasses env (place + 1) cs more
+AreClasses env place _ _ = ⊥
+
+-- modules
+
+-- what each item of a module sees
+abbrev pub environment : List host.Call → List written.Item → Environment
+environment calls is = seen calls (heads calls is)
+
+-- A module, where these calls are registered. It has at most 256 classes and 256 variables. What it declares differs in
+-- name, and has no registered name.
+pub record IsTyped (calls : List host.Call) (is : List written.Item) (typed : Module) : Type 0 where
+  pub differ : IsDistinct bytes_eq (item_names is)
+  pub free : AllByRecursion (IsFree calls) (item_names is)
+  pub few_classes : length (classes_of is) ≤ 256
+  pub few_globals : length (variable_names (globals_of is)) ≤ 256
+  pub classes : AreClasses (environment calls is) 0 (classes_of is) typed.classes
+  pub functions : AllZip (IsFunction (environment calls is)) (functions_of is) typed.functions
+  pub globals : AllZip (AreVariables (environment calls is)) (globals_of is) typed.globals

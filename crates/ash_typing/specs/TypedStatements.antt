@@ -1,0 +1,150 @@
+-- The rules of typing of statements (AngelScript manual, "Statements"), one case for each, where every type that is named
+-- is known. A rule says when a statement has a typed tree, and which; it says neither in which order its parts are walked
+-- nor what is told where it does not hold.
+--
+-- `IsStmt scope s t`: in this scope the statement `s` has the typed tree `t`.
+use Rattle.std.specs.Prelude.{◌≡◌, List, [], ◌∷◌, ◌++◌, Bool, true, false, ◌||◌, Option, Some, None, map}
+use Rattle.std.specs.List.{list_any}
+use Rattle.ash_tree.specs.declared.tree.places.Place as place
+use Rattle.ash_tree.specs.declared.tree.statements.Label.{Label}
+use Rattle.ash_tree.specs.declared.tree.statements.Label.TheVariants as labels
+use Rattle.ash_tree.specs.Tree as written
+use Rattle.ash_typed.specs.declared.types.Kind.{Kind}
+use Rattle.ash_typed.specs.declared.types.Ty.{Ty}
+use Rattle.ash_typed.specs.declared.types.Ty.TheVariants as ty
+use Rattle.ash_typing.specs.Types.{fits}
+use Rattle.ash_typed.specs.Tree.{Expr}
+use Rattle.ash_typed.specs.StatementTree.{Initialization, Stmt, Empty, Declare, Evaluate, Block, If, IfElse, While, DoWhile, For, Switch, Break, Continue, Return, Stmts, no_stmt, stmt, labelled, Cases, no_case, next_case}
+use Rattle.ash_typing.specs.Environment.{Environment}
+use Rattle.ash_typing.specs.Heads.{declared}
+use Rattle.ash_typing.specs.Declarations.{ty_in}
+use Rattle.ash_typing.specs.Typing.{IsKnown, IsKnownType, Term, converted_to, HasType, AllHaveType, IsDeclared}
+use Rattle.ash_typing.specs.Returning.{is_default}
+use Rattle.ash_typing.specs.Switches.{holds_label, is_same_constant}
+use Rattle.ash_typing.specs.Statements.{Scope, block_of, loop_of, switch_of, with_variables, behind, is_taken, is_last}
+
+-- a scope whose types are known
+pub record IsKnownScope (scope : Scope) : Type 0 where
+  pub env : IsKnown scope.env
+  pub gives : IsKnownType scope.gives
+
+-- variables of a type, each seen from the end of its own on: none of their names is taken in the block
+pub data AreDeclared : Scope → Ty → List written.Decl → List Initialization → Type 0 where
+  none_declared : {scope : Scope} {of : Ty} → AreDeclared scope of [] []
+  and_declared : {scope : Scope} {of : Ty} {d : written.Decl} {ds : List written.Decl} {value : Initialization} {values : List Initialization}
+      → is_taken scope d.name ≡ false
+      → IsDeclared scope.env of d value
+      → AreDeclared (with_variables scope (declared of d ∷ [])) of ds values
+      → AreDeclared scope of (d ∷ ds) (value ∷ values)
+
+-- a condition, of type `bool`
+pub data IsCondition : Environment → written.Expr → Expr → Type 0 where
+  condition : {env : Environment} {e : written.Expr} {t : Term}
+      → HasType env false e t
+      → t.ty ≡ ty.Bool
+      → IsCondition env e t.tree
+
+-- the head of a `for` may have no condition
+pub data MayBeCondition : Environment → Option written.Expr → Option Expr → Type 0 where
+  endless : {env : Environment} → MayBeCondition env None None
+  until : {env : Environment} {e : written.Expr} {tree : Expr}
+      → IsCondition env e tree
+      → MayBeCondition env (Some e) (Some tree)
+
+-- The label of a `case` has a constant of the type, which no label before it has; `default` is the last label.
+pub data IsLabel : Kind → List Label → Bool → Label → Type 0 where
+  constant : {k : Kind} {before : List Label} {last : Bool} {l : Label}
+      → is_default l ≡ false
+      → holds_label k l ≡ true
+      → list_any (is_same_constant l) before ≡ false
+      → IsLabel k before last l
+  otherwise : {k : Kind} {before : List Label} → IsLabel k before true labels.Default
+
+abbrev pub tree_of_term : Term → Expr
+tree_of_term t = t.tree
+
+mutual
+  pub data IsStmt : Scope → written.Stmt → Stmt → Type 0 where
+    -- ;
+    empty : {scope : Scope} {p : place.Place} → IsStmt scope (written.Empty p) (Empty p.line)
+    -- T x, y = e;
+    declare : {scope : Scope} {p : place.Place} {v : written.Vars} {values : List Initialization}
+        → IsKnownType (ty_in scope.env v.of)
+        → AreDeclared scope (ty_in scope.env v.of) v.decls values
+        → IsStmt scope (written.Declare p v) (Declare p.line values)
+    -- e;
+    evaluate : {scope : Scope} {p : place.Place} {e : written.Expr} {t : Term}
+        → HasType scope.env false e t
+        → IsStmt scope (written.Evaluate p e) (Evaluate p.line t.tree)
+    -- { s .. }
+    block : {scope : Scope} {p : place.Place} {ss : written.Stmts} {ts : Stmts}
+        → AreStmts (block_of scope) ss ts
+        → IsStmt scope (written.Block p ss) (Block p.line ts)
+    -- if (c) s
+    if_only : {scope : Scope} {p : place.Place} {c : written.Expr} {s : written.Stmt} {tree : Expr} {t : Stmt}
+        → IsCondition scope.env c tree
+        → IsStmt scope s t
+        → IsStmt scope (written.If p c s) (If p.line tree t)
+    -- if (c) s else r
+    if_else : {scope : Scope} {p : place.Place} {c : written.Expr} {s r : written.Stmt} {tree : Expr} {t u : Stmt}
+        → IsCondition scope.env c tree
+        → IsStmt scope s t
+        → IsStmt scope r u
+        → IsStmt scope (written.IfElse p c s r) (IfElse p.line tree t u)
+    -- while (c) s
+    while_loop : {scope : Scope} {p : place.Place} {c : written.Expr} {s : written.Stmt} {tree : Expr} {t : Stmt}
+        → IsCondition scope.env c tree
+        → IsStmt (loop_of scope) s t
+        → IsStmt scope (written.While p c s) (While p.line tree t)
+    -- do s while (c);
+    do_loop : {scope : Scope} {p : place.Place} {c : written.Expr} {s : written.Stmt} {tree : Expr} {t : Stmt}
+        → IsStmt (loop_of scope) s t
+        → IsCondition scope.env c tree
+        → IsStmt scope (written.DoWhile p s c) (DoWhile p.line t tree)
+    -- for (f c; e ..) s: what f declares is seen by the others
+    for_loop : {scope : Scope} {p : place.Place} {f s : written.Stmt} {c : Option written.Expr} {es : List written.Expr} {g t : Stmt} {tree : Option Expr} {ts : List Term}
+        → IsStmt (block_of scope) f g
+        → MayBeCondition (behind (block_of scope) f).env c tree
+        → AllHaveType (behind (block_of scope) f).env (written.exprs es) ts
+        → IsStmt (loop_of (behind (block_of scope) f)) s t
+        → IsStmt scope (written.For p f c es s) (For p.line g tree (map tree_of_term ts) t)
+    -- switch (e) { case .. }
+    switch : {scope : Scope} {p : place.Place} {e : written.Expr} {cs : written.Cases} {t : Term} {k : Kind} {rows : Cases}
+        → HasType scope.env false e t
+        → t.ty ≡ ty.Integer k
+        → AreCases (switch_of scope) k [] cs rows
+        → IsStmt scope (written.Switch p e cs) (Switch p.line t.tree rows)
+    -- break; in a loop or a switch
+    break_out : {scope : Scope} {p : place.Place}
+        → (scope.in_loop || scope.in_switch) ≡ true
+        → IsStmt scope (written.Break p) (Break p.line)
+    -- continue; in a loop
+    continue_on : {scope : Scope} {p : place.Place}
+        → scope.in_loop ≡ true
+        → IsStmt scope (written.Continue p) (Continue p.line)
+    -- return; and return e;
+    return_nothing : {scope : Scope} {p : place.Place}
+        → scope.gives ≡ ty.Void
+        → IsStmt scope (written.Return p None) (Return p.line None)
+    return_value : {scope : Scope} {p : place.Place} {e : written.Expr} {t : Term}
+        → HasType scope.env false e t
+        → fits scope.gives t.ty ≡ true
+        → IsStmt scope (written.Return p (Some e)) (Return p.line (Some (converted_to scope.gives t)))
+
+  -- statements, each of which sees the variables of those before it
+  pub data AreStmts : Scope → written.Stmts → Stmts → Type 0 where
+    no_more_stmts : {scope : Scope} → AreStmts scope written.no_stmt no_stmt
+    more_stmts : {scope : Scope} {s : written.Stmt} {ss : written.Stmts} {t : Stmt} {ts : Stmts}
+        → IsStmt scope s t
+        → AreStmts (behind scope s) ss ts
+        → AreStmts scope (written.stmt s ss) (stmt t ts)
+
+  -- labels, behind those before them, with the statements behind each
+  pub data AreCases : Scope → Kind → List Label → written.Cases → Cases → Type 0 where
+    no_more_cases : {scope : Scope} {k : Kind} {before : List Label}
+        → AreCases scope k before written.no_case no_case
+    more_cases : {scope : Scope} {k : Kind} {before : List Label} {p : place.Place} {l : Label} {ss : written.Stmts} {cs : written.Cases} {ts : Stmts} {rows : Cases}
+        → IsLabel k before (is_last cs) l
+        → AreStmts scope ss ts
+        → AreCases scope k (before ++ l ∷ []) cs rows
+        → AreCases scope k before (written.next_case (written.labelled p l ss) cs) (next_case (labelled l ts) rows)

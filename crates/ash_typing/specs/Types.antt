@@ -1,0 +1,202 @@
+-- Types (AngelScript manual, "Data types" and "Conversions").
+use Rattle.std.specs.Prelude.{ℕ, ◌^◌, Bool, true, false, ◌||◌, Option, Some, None, nat_eq, nat_lt, if◌then◌else◌}
+use Rattle.ash_tree.specs.declared.tree.types.Primitive.{Primitive}
+use Rattle.ash_tree.specs.declared.tree.types.Primitive.TheVariants as primitives
+use Rattle.ash_tree.specs.declared.tree.operators.BinaryOp.{BinaryOp}
+use Rattle.ash_tree.specs.declared.tree.operators.BinaryOp.TheVariants as binary
+use Rattle.ash_typed.specs.declared.types.Kind.{Kind}
+use Rattle.ash_typed.specs.declared.types.Kind.TheVariants.{Int, Uint, Int64, Uint64}
+use Rattle.ash_typed.specs.declared.types.ObjectType.{ObjectType}
+use Rattle.ash_typed.specs.declared.types.ObjectType.TheVariants.{Class, Host}
+use Rattle.ash_typed.specs.declared.types.Ty.{Ty}
+use Rattle.ash_typed.specs.declared.types.Ty.TheVariants as ty
+use Rattle.ash_typing.specs.declared.forms.Sort.{Sort}
+use Rattle.ash_typing.specs.declared.forms.Sort.TheVariants as sort
+use Rattle.ash_typed.specs.declared.tree.operations.Operands.{Operands}
+use Rattle.ash_typed.specs.declared.tree.operations.Operands.TheVariants as operands
+
+-- integer types
+
+abbrev pub is_signed : Kind → Bool
+is_signed Int = true
+is_signed Uint = false
+is_signed Int64 = true
+is_signed Uint64 = false
+
+abbrev pub is_wide : Kind → Bool
+is_wide Int = false
+is_wide Uint = false
+is_wide Int64 = true
+is_wide Uint64 = true
+
+-- the integer type with a sign or without, of 64 bits or of 32
+abbrev pub kind_by : (signed wide : Bool) → Kind
+kind_by true false = Int
+kind_by false false = Uint
+kind_by true true = Int64
+kind_by false true = Uint64
+
+-- where two integer types meet: at the greater width, signed where either is
+abbrev pub meeting : Kind → Kind → Kind
+meeting j k = kind_by (is_signed j || is_signed k) (is_wide j || is_wide k)
+
+-- the signed type of the same width
+abbrev pub signed : Kind → Kind
+signed k = kind_by true (is_wide k)
+
+abbrev pub is_same_kind : Kind → Kind → Bool
+is_same_kind Int Int = true
+is_same_kind Uint Uint = true
+is_same_kind Int64 Int64 = true
+is_same_kind Uint64 Uint64 = true
+is_same_kind _ _ = false
+
+-- whether a type holds a number that is not negative
+abbrev pub holds : Kind → ℕ → Bool
+holds Int n = nat_lt n (2 ^ 31)
+holds Uint n = nat_lt n (2 ^ 32)
+holds Int64 n = nat_lt n (2 ^ 63)
+holds Uint64 n = true
+
+-- the type of a number that stands for itself: the first that holds it
+abbrev pub kind_of : ℕ → Kind
+kind_of n = if holds Int n then Int else (if holds Uint n then Uint else (if holds Int64 n then Int64 else Uint64))
+
+-- objects
+
+abbrev pub is_same_object : ObjectType → ObjectType → Bool
+is_same_object (Class a) (Class b) = nat_eq a b
+is_same_object (Host a) (Host b) = nat_eq a b
+is_same_object _ _ = false
+
+-- the type of the objects that an expression of a type gives
+abbrev pub object_of : Ty → Option ObjectType
+object_of (ty.Object o) = Some o
+object_of (ty.Handle o) = Some o
+object_of _ = None
+
+-- types that are written
+
+abbrev pub ty_of : Primitive → Ty
+ty_of primitives.Bool = ty.Bool
+ty_of primitives.Int = ty.Integer Int
+ty_of primitives.Int64 = ty.Integer Int64
+ty_of primitives.Uint = ty.Integer Uint
+ty_of primitives.Uint64 = ty.Integer Uint64
+
+-- Whether a value of the second type may be stored in a variable of the first. Nothing converts between `bool` and
+-- integers. What is of an unknown type fits everywhere, since the fault is told at the type.
+abbrev pub fits_object : ObjectType → Ty → Bool
+fits_object o (ty.Object p) = is_same_object o p
+fits_object o (ty.Handle p) = is_same_object o p
+fits_object o ty.Null = true
+fits_object o ty.Unknown = true
+fits_object _ _ = false
+
+abbrev pub fits : Ty → Ty → Bool
+fits ty.Unknown ty.Void = false
+fits ty.Unknown _ = true
+fits ty.Bool ty.Bool = true
+fits ty.Bool ty.Unknown = true
+fits (ty.Integer _) (ty.Integer _) = true
+fits (ty.Integer _) ty.Unknown = true
+fits (ty.Object o) t = fits_object o t
+fits (ty.Handle o) t = fits_object o t
+fits _ _ = false
+
+-- whether two types are of objects that can be one
+abbrev pub agrees : Ty → Ty → Bool
+agrees (ty.Object o) t = fits_object o t
+agrees (ty.Handle o) t = fits_object o t
+agrees ty.Null (ty.Object _) = true
+agrees ty.Null (ty.Handle _) = true
+agrees ty.Null ty.Null = true
+agrees ty.Null ty.Unknown = true
+agrees ty.Unknown (ty.Object _) = true
+agrees ty.Unknown (ty.Handle _) = true
+agrees ty.Unknown ty.Null = true
+agrees ty.Unknown ty.Unknown = true
+agrees _ _ = false
+
+-- the type of `c ? a : b`, from those of its branches
+abbrev pub common_object : ObjectType → Ty → Option Ty
+common_object o t = if fits_object o t then Some (ty.Handle o) else None
+
+abbrev pub common : Ty → Ty → Option Ty
+common ty.Bool ty.Bool = Some ty.Bool
+common ty.Bool ty.Unknown = Some ty.Bool
+common (ty.Integer j) (ty.Integer k) = Some (ty.Integer (meeting j k))
+common (ty.Integer j) ty.Unknown = Some (ty.Integer j)
+common (ty.Object o) t = common_object o t
+common (ty.Handle o) t = common_object o t
+common ty.Null (ty.Object o) = Some (ty.Handle o)
+common ty.Null (ty.Handle o) = Some (ty.Handle o)
+common ty.Null ty.Unknown = Some ty.Unknown
+common ty.Unknown ty.Void = None
+common ty.Unknown t = Some t
+common _ _ = None
+
+-- operators
+
+-- what an operator between two operands is of
+abbrev pub sort_of : BinaryOp → Sort
+sort_of binary.Multiply = sort.Arithmetic
+sort_of binary.Divide = sort.Arithmetic
+sort_of binary.Remainder = sort.Arithmetic
+sort_of binary.Add = sort.Arithmetic
+sort_of binary.Subtract = sort.Arithmetic
+sort_of binary.ShiftLeft = sort.Shift
+sort_of binary.ShiftRight = sort.Shift
+sort_of binary.ShiftRightArithmetic = sort.Shift
+sort_of binary.BitAnd = sort.Arithmetic
+sort_of binary.BitXor = sort.Arithmetic
+sort_of binary.BitOr = sort.Arithmetic
+sort_of binary.Less = sort.Order
+sort_of binary.LessOrEqual = sort.Order
+sort_of binary.Greater = sort.Order
+sort_of binary.GreaterOrEqual = sort.Order
+sort_of binary.Equal = sort.Equality
+sort_of binary.NotEqual = sort.Equality
+sort_of binary.Is = sort.Identity
+sort_of binary.NotIs = sort.Identity
+sort_of binary.Xor = sort.Logic
+sort_of binary.And = sort.Logic
+sort_of binary.Or = sort.Logic
+
+-- whether an operator takes a type anywhere
+abbrev pub takes : Sort → Ty → Bool
+takes _ ty.Unknown = true
+takes sort.Arithmetic (ty.Integer _) = true
+takes sort.Shift (ty.Integer _) = true
+takes sort.Order (ty.Integer _) = true
+takes sort.Equality (ty.Integer _) = true
+takes sort.Equality ty.Bool = true
+takes sort.Identity (ty.Object _) = true
+takes sort.Identity (ty.Handle _) = true
+takes sort.Identity ty.Null = true
+takes sort.Logic ty.Bool = true
+takes _ _ = false
+
+-- what an operand of an unknown type is taken for, beside one of another type
+abbrev pub assumed : Sort → Ty → Ty → Ty
+assumed sort.Equality ty.Bool ty.Unknown = ty.Bool
+assumed sort.Identity _ ty.Unknown = ty.Null
+assumed sort.Logic _ ty.Unknown = ty.Bool
+assumed _ _ ty.Unknown = ty.Integer Int
+assumed _ _ t = t
+
+-- what an operator does with operands of these types, where it takes them: what both become, and what comes out
+abbrev pub meets : Sort → Ty → Ty → Option Operands
+meets sort.Arithmetic (ty.Integer j) (ty.Integer k) = Some (operands.Integers (meeting j k))
+meets sort.Shift (ty.Integer j) (ty.Integer k) = Some (operands.Integers j)
+meets sort.Order (ty.Integer j) (ty.Integer k) = Some (operands.Integers (meeting j k))
+meets sort.Equality (ty.Integer j) (ty.Integer k) = Some (operands.Integers (meeting j k))
+meets sort.Equality ty.Bool ty.Bool = Some operands.Bools
+meets sort.Identity a b = if agrees a b then Some operands.Handles else None
+meets sort.Logic ty.Bool ty.Bool = Some operands.Bools
+meets _ _ _ = None
+
+abbrev pub outcome : Sort → Operands → Ty
+outcome sort.Arithmetic (operands.Integers k) = ty.Integer k
+outcome sort.Shift (operands.Integers k) = ty.Integer k
+outcome _ _ = ty.Bool

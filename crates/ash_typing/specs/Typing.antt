@@ -1,0 +1,348 @@
+-- The rules of typing of expressions and of variables (AngelScript manual, "Expressions", "Conversions" and "Variables"),
+-- one case for each, where every type that is named is known. A rule says when a phrase has a type, and by which typed
+-- tree; it says neither in which order its parts are walked nor what is told where it does not hold.
+--
+-- `HasType env left e t`: the expression `e` has the type of the term `t`, and its tree. `left` says that `e` stands left
+-- of `=`, where `@e` is what is written to.
+use Rattle.std.specs.Prelude.{◌≡◌, ℕ, List, [], ◌∷◌, Bool, true, false, Option, Some, None, if◌then◌else◌}
+use Rattle.std.specs.List.{AllByRecursion}
+use Rattle.ash_tree.specs.declared.tree.places.Place as place
+use Rattle.ash_tree.specs.declared.tree.types.Primitive.{Primitive}
+use Rattle.ash_tree.specs.declared.tree.operators.UnaryOp.TheVariants as unary
+use Rattle.ash_tree.specs.declared.tree.operators.BinaryOp.{BinaryOp}
+use Rattle.ash_tree.specs.declared.tree.operators.AssignOp.{AssignOp}
+use Rattle.ash_tree.specs.declared.tree.operators.AssignOp.TheVariants as assigns
+use Rattle.ash_tree.specs.Tree as written
+use Rattle.ash_typed.specs.declared.types.Kind.{Kind}
+use Rattle.ash_typed.specs.declared.types.ObjectType.{ObjectType}
+use Rattle.ash_typed.specs.declared.types.ObjectType.TheVariants as objects
+use Rattle.ash_typed.specs.declared.types.Ty.{Ty}
+use Rattle.ash_typed.specs.declared.types.Ty.TheVariants as ty
+use Rattle.ash_typing.specs.declared.forms.Sort.{Sort}
+use Rattle.ash_typing.specs.declared.forms.Sort.TheVariants as sort
+use Rattle.ash_typing.specs.declared.forms.Alone.{Alone}
+use Rattle.ash_typing.specs.declared.forms.Alone.TheVariants as alone
+use Rattle.ash_typed.specs.declared.tree.operations.Change.TheVariants as changes
+use Rattle.ash_typed.specs.declared.tree.operations.Member.{Member}
+use Rattle.ash_typed.specs.declared.tree.operations.Operands.{Operands}
+use Rattle.ash_typed.specs.declared.tree.operations.Step.TheVariants as steps
+use Rattle.ash_typing.specs.Types.{kind_of, holds, signed, fits, common, object_of, ty_of, sort_of, meets, outcome}
+use Rattle.ash_typed.specs.Tree.{Expr, Number, Truth, Null, This, Read, Invoke, Alter, Operate, Conditional, Assign, Update, Count, Call, Place, Held, Exprs, no_expr, expr, place_in, converted}
+use Rattle.ash_typing.specs.Environment.{Environment, Declared, Function, Class, Known, Callee, Invoked, variable_in, callee_in, member_in, method_in}
+use Rattle.ash_typing.specs.Expressions.{Typed, conversion, operand_type, operator_of, is_stored}
+use Rattle.ash_typing.specs.Declarations.{Initialization, initialization, construction}
+
+-- an environment whose types are known
+
+abbrev pub is_known : Ty → Bool
+is_known ty.Unknown = false
+is_known _ = true
+
+abbrev pub IsKnownType : Ty → Type 0
+IsKnownType of = is_known of ≡ true
+
+abbrev pub IsKnownVariable : Declared → Type 0
+IsKnownVariable v = IsKnownType v.of
+
+pub record IsKnownFunction (f : Function) : Type 0 where
+  pub result : IsKnownType f.result
+  pub parameters : AllByRecursion IsKnownType f.parameters
+
+pub record IsKnownClass (c : Class) : Type 0 where
+  pub fields : AllByRecursion IsKnownVariable c.fields
+  pub methods : AllByRecursion IsKnownFunction c.methods
+  pub parameters : AllByRecursion IsKnownType c.parameters
+
+pub record IsKnown (env : Environment) : Type 0 where
+  pub classes : AllByRecursion IsKnownClass env.heads.classes
+  pub functions : AllByRecursion IsKnownFunction env.heads.functions
+  pub globals : AllByRecursion IsKnownVariable env.heads.globals
+  pub locals : AllByRecursion IsKnownVariable env.locals
+
+-- terms
+
+-- what an expression is typed as, and what it is by itself
+pub record Term : Type 0 where
+  pub ty : Ty
+  pub alone : Alone
+  pub tree : Expr
+
+abbrev pub term : Ty → Expr → Term
+term of tree = record { ty = of; alone = alone.Other; tree = tree }
+
+-- a number has the first of the four integer types that holds it
+abbrev pub number_term : ℕ → Term
+number_term n = record { ty = ty.Integer (kind_of n); alone = alone.Number n; tree = Number (kind_of n) n }
+
+-- converted to a type
+abbrev pub converted_to : Ty → Term → Expr
+converted_to of t = converted (conversion of t.ty) t.tree
+
+-- A number alone takes the type of the other operand, where that holds it and the other is no number.
+abbrev pub taking : Alone → Ty → Alone → Term → Term
+taking (alone.Number m) of (alone.Number n) t = t
+taking _ (ty.Integer k) (alone.Number n) t = if holds k n then record { ty = ty.Integer k; alone = alone.Number n; tree = Number k n } else t
+taking _ _ _ t = t
+
+-- the operand of an operator beside another operand: the two of a shift have a type each
+abbrev pub beside : Sort → Term → Term → Term
+beside sort.Shift other t = t
+beside _ other t = taking other.alone other.ty t.alone t
+
+-- The operator takes the two terms, each beside the other, for these operands.
+abbrev pub Meet : BinaryOp → Term → Term → Operands → Type 0
+Meet op t u o = meets (sort_of op) (beside (sort_of op) u t).ty (beside (sort_of op) t u).ty ≡ Some o
+
+-- what becomes of the left one
+abbrev pub left_of : BinaryOp → Operands → Term → Term → Expr
+left_of op o t u = converted_to (operand_type o) (beside (sort_of op) u t)
+
+-- the count of a shift keeps its type
+abbrev pub right_by : Sort → Operands → Term → Expr
+right_by sort.Shift o u = u.tree
+right_by _ o u = converted_to (operand_type o) u
+
+-- what becomes of the right one
+abbrev pub right_of : BinaryOp → Operands → Term → Term → Expr
+right_of op o t u = right_by (sort_of op) o (beside (sort_of op) t u)
+
+-- As many arguments as parameters, each of which fits its parameter and is converted to its type.
+pub data AreArguments : List Ty → List Term → Exprs → Type 0 where
+  no_arguments : AreArguments [] [] no_expr
+  argument : {of : Ty} {t : Term} {parameters : List Ty} {ts : List Term} {trees : Exprs}
+      → fits of t.ty ≡ true
+      → AreArguments parameters ts trees
+      → AreArguments (of ∷ parameters) (t ∷ ts) (expr (converted_to of t) trees)
+
+mutual
+  pub data HasType (env : Environment) : Bool → written.Expr → Term → Type 0 where
+    number : {left : Bool} {p : place.Place} {n : ℕ} → HasType env left (written.Number p n) (number_term n)
+    truth : {left : Bool} {p : place.Place} {b : Bool}
+        → HasType env left (written.Truth p b) (term ty.Bool (Truth b))
+    null : {left : Bool} {p : place.Place} → HasType env left (written.Null p) (term ty.Null Null)
+    this : {left : Bool} {p : place.Place} {class : ℕ}
+        → env.this ≡ Some class
+        → HasType env left (written.This p) (term (ty.Handle (objects.Class class)) This)
+    name : {left : Bool} {p : place.Place} {text : List ℕ} {known : Known}
+        → variable_in env text ≡ Some known
+        → HasType env left (written.Name p text) (term known.1 known.0)
+    call : {left : Bool} {p : place.Place} {text : List ℕ} {es : written.Exprs} {callee : Callee} {parameters : List Ty} {ts : List Term} {trees : Exprs}
+        → callee_in env text ≡ Some callee
+        → callee.parameters ≡ Some parameters
+        → AllHaveType env es ts
+        → AreArguments parameters ts trees
+        → HasType env left (written.Call p text es) (term callee.result (Call callee.target trees))
+    -- (e), which is no number alone
+    brackets : {left : Bool} {p : place.Place} {e : written.Expr} {t : Term}
+        → HasType env false e t
+        → HasType env left (written.Brackets p e) (term t.ty t.tree)
+    -- `prim(e)`
+    to_integer : {left : Bool} {p : place.Place} {to : Primitive} {e : written.Expr} {t : Term} {j k : Kind}
+        → HasType env false e t
+        → ty_of to ≡ ty.Integer k
+        → t.ty ≡ ty.Integer j
+        → HasType env left (written.Convert p to e) (term (ty.Integer k) (Alter changes.Keep (converted_to (ty.Integer k) t)))
+    to_bool : {left : Bool} {p : place.Place} {to : Primitive} {e : written.Expr} {t : Term}
+        → HasType env false e t
+        → ty_of to ≡ ty.Bool
+        → t.ty ≡ ty.Bool
+        → HasType env left (written.Convert p to e) (term ty.Bool (Alter changes.Keep t.tree))
+    -- e with suffixes
+    postfix : {left : Bool} {p : place.Place} {e : written.Expr} {ss : written.Suffixes} {t u : Term}
+        → HasType env false e t
+        → SuffixesHaveType env t ss u
+        → HasType env left (written.Postfix p e ss) u
+    -- + e, - e, ~ e
+    plus : {left : Bool} {p : place.Place} {e : written.Expr} {t : Term} {k : Kind}
+        → HasType env false e t
+        → t.ty ≡ ty.Integer k
+        → HasType env left (written.Unary p unary.Plus e) (term (ty.Integer k) (Alter changes.Keep t.tree))
+    minus : {left : Bool} {p : place.Place} {e : written.Expr} {t : Term} {k : Kind}
+        → HasType env false e t
+        → t.ty ≡ ty.Integer k
+        → HasType env left (written.Unary p unary.Minus e) (term (ty.Integer (signed k)) (Alter (changes.Negate (signed k)) (converted_to (ty.Integer (signed k)) t)))
+    complement : {left : Bool} {p : place.Place} {e : written.Expr} {t : Term} {k : Kind}
+        → HasType env false e t
+        → t.ty ≡ ty.Integer k
+        → HasType env left (written.Unary p unary.BitNot e) (term (ty.Integer k) (Alter (changes.Complement k) t.tree))
+    -- ! e
+    not : {left : Bool} {p : place.Place} {e : written.Expr} {t : Term}
+        → HasType env false e t
+        → t.ty ≡ ty.Bool
+        → HasType env left (written.Unary p unary.Not e) (term ty.Bool (Alter changes.Not t.tree))
+    -- ++ e, -- e
+    increment : {left : Bool} {p : place.Place} {e : written.Expr} {t : Term} {at : Place} {k : Kind}
+        → HasType env false e t
+        → place_in t.tree ≡ Some at
+        → t.ty ≡ ty.Integer k
+        → HasType env left (written.Unary p unary.Increment e) (term (ty.Integer k) (Count at k steps.Increment))
+    decrement : {left : Bool} {p : place.Place} {e : written.Expr} {t : Term} {at : Place} {k : Kind}
+        → HasType env false e t
+        → place_in t.tree ≡ Some at
+        → t.ty ≡ ty.Integer k
+        → HasType env left (written.Unary p unary.Decrement e) (term (ty.Integer k) (Count at k steps.Decrement))
+    -- @ e, of an object or a handle; left of `=` it is what is written to
+    handle : {p : place.Place} {e : written.Expr} {t : Term} {o : ObjectType}
+        → HasType env false e t
+        → object_of t.ty ≡ Some o
+        → HasType env false (written.Unary p unary.Handle e) (term (ty.Handle o) (Alter changes.Keep t.tree))
+    handle_written : {p : place.Place} {e : written.Expr} {t : Term}
+        → HasType env false e t
+        → HasType env true (written.Unary p unary.Handle e) (record { ty = t.ty; alone = alone.Handle; tree = t.tree })
+    -- operators of one level, which group to the left
+    binary : {left : Bool} {p : place.Place} {e : written.Expr} {ls : written.Links} {t u : Term}
+        → HasType env false e t
+        → LinksHaveType env t ls u
+        → HasType env left (written.Binary p e ls) u
+    -- c ? a : b
+    conditional : {left : Bool} {p : place.Place} {c a b : written.Expr} {t x y : Term} {of : Ty}
+        → HasType env false c t
+        → t.ty ≡ ty.Bool
+        → HasType env false a x
+        → HasType env false b y
+        → common x.ty y.ty ≡ Some of
+        → HasType env left (written.Conditional p c a b) (term of (Conditional t.tree (converted_to of x) (converted_to of y)))
+    -- e = v, where e is a place of a primitive type, or `@` with a place of a handle
+    assign : {left : Bool} {p : place.Place} {e v : written.Expr} {t u : Term} {at : Place}
+        → HasType env true e t
+        → place_in t.tree ≡ Some at
+        → is_stored t.alone t.ty ≡ true
+        → HasType env false v u
+        → fits t.ty u.ty ≡ true
+        → HasType env left (written.Assign p e assigns.Assign v) (term t.ty (Assign at (converted_to t.ty u)))
+    -- e op= v: what stands at e is an operand of its type
+    update : {left : Bool} {p : place.Place} {op : AssignOp} {operator : BinaryOp} {e v : written.Expr} {t u : Term} {at : Place} {k : Kind} {o : Operands}
+        → operator_of op ≡ Some operator
+        → HasType env false e t
+        → place_in t.tree ≡ Some at
+        → t.ty ≡ ty.Integer k
+        → HasType env false v u
+        → Meet operator (term t.ty Null) u o
+        → HasType env left (written.Assign p e op v) (term t.ty (Update at k (record { operator = operator; operands = o }) (right_of operator o (term t.ty Null) u)))
+
+  -- each of the arguments
+  pub data AllHaveType (env : Environment) : written.Exprs → List Term → Type 0 where
+    none_left : AllHaveType env written.no_expr []
+    each : {e : written.Expr} {es : written.Exprs} {t : Term} {ts : List Term}
+        → HasType env false e t
+        → AllHaveType env es ts
+        → AllHaveType env (written.expr e es) (t ∷ ts)
+
+  -- operators of one level, and what stands before the first
+  pub data LinksHaveType (env : Environment) : Term → written.Links → Term → Type 0 where
+    no_more : {t : Term} → LinksHaveType env t written.no_link t
+    operated : {op : BinaryOp} {e : written.Expr} {ls : written.Links} {t u v : Term} {o : Operands}
+        → HasType env false e u
+        → Meet op t u o
+        → LinksHaveType env (term (outcome (sort_of op) o) (Operate (record { operator = op; operands = o }) (left_of op o t u) (right_of op o t u))) ls v
+        → LinksHaveType env t (written.link op e ls) v
+
+  -- suffixes, and what stands before the first
+  pub data SuffixesHaveType (env : Environment) : Term → written.Suffixes → Term → Type 0 where
+    no_suffixes : {t : Term} → SuffixesHaveType env t written.no_suffix t
+    suffixed : {s : written.Suffix} {ss : written.Suffixes} {t u v : Term}
+        → SuffixHasType env t s u
+        → SuffixesHaveType env u ss v
+        → SuffixesHaveType env t (written.suffix s ss) v
+
+  pub data SuffixHasType (env : Environment) : Term → written.Suffix → Term → Type 0 where
+    -- .name
+    field : {p : place.Place} {text : List ℕ} {t : Term} {o : ObjectType} {found : Member × Ty}
+        → object_of t.ty ≡ Some o
+        → member_in env o text ≡ Some found
+        → SuffixHasType env t (written.Field p text) (term found.1 (Read (Held t.tree found.0)))
+    -- .name(e ..)
+    method : {p : place.Place} {text : List ℕ} {es : written.Exprs} {t : Term} {o : ObjectType} {m : Invoked} {ts : List Term} {trees : Exprs}
+        → object_of t.ty ≡ Some o
+        → method_in env o text ≡ Some m
+        → AllHaveType env es ts
+        → AreArguments m.parameters ts trees
+        → SuffixHasType env t (written.Method p text es) (term m.result (Invoke t.tree m.method trees))
+    -- ++
+    increment_after : {t : Term} {at : Place} {k : Kind}
+        → place_in t.tree ≡ Some at
+        → t.ty ≡ ty.Integer k
+        → SuffixHasType env t written.Increment (term (ty.Integer k) (Count at k steps.IncrementAfter))
+    -- --
+    decrement_after : {t : Term} {at : Place} {k : Kind}
+        → place_in t.tree ≡ Some at
+        → t.ty ≡ ty.Integer k
+        → SuffixHasType env t written.Decrement (term (ty.Integer k) (Count at k steps.DecrementAfter))
+
+-- variables
+
+abbrev pub is_object : Ty → Bool
+is_object (ty.Object o) = true
+is_object _ = false
+
+-- a constructed object
+pub data IsConstructed (env : Environment) : ObjectType → List Term → Expr → Type 0 where
+  construct : {o : ObjectType} {callee : Callee} {parameters : List Ty} {ts : List Term} {trees : Exprs}
+      → construction env o ≡ Some callee
+      → callee.parameters ≡ Some parameters
+      → AreArguments parameters ts trees
+      → IsConstructed env o ts (Call callee.target trees)
+
+-- what a variable of a type begins with: where nothing is named, with zero, `false` or null
+pub data BeginsWith (env : Environment) : Ty → written.Initializer → Option Expr → Type 0 where
+  -- T x
+  empty : {of : Ty}
+      → is_object of ≡ false
+      → BeginsWith env of written.Default None
+  default : {o : ObjectType} {tree : Expr}
+      → IsConstructed env o [] tree
+      → BeginsWith env (ty.Object o) written.Default (Some tree)
+  -- T x = e, but of objects
+  value : {of : Ty} {e : written.Expr} {t : Term}
+      → is_object of ≡ false
+      → HasType env false e t
+      → fits of t.ty ≡ true
+      → BeginsWith env of (written.Value e) (Some (converted_to of t))
+  -- T x(e), of a primitive type
+  one : {of : Ty} {e : written.Expr} {t : Term}
+      → object_of of ≡ None
+      → HasType env false e t
+      → fits of t.ty ≡ true
+      → BeginsWith env of (written.Arguments (e ∷ [])) (Some (converted_to of t))
+  -- T x(e ..), of objects
+  built_by : {o : ObjectType} {es : List written.Expr} {ts : List Term} {tree : Expr}
+      → AllHaveType env (written.exprs es) ts
+      → IsConstructed env o ts tree
+      → BeginsWith env (ty.Object o) (written.Arguments es) (Some tree)
+
+-- a declared variable of a type
+pub data IsDeclared (env : Environment) : Ty → written.Decl → Initialization → Type 0 where
+  declared : {of : Ty} {d : written.Decl} {value : Option Expr}
+      → BeginsWith env of d.initializer value
+      → IsDeclared env of d (initialization of value)
+
+-- offsets
+
+-- where the first token of an expression stands
+abbrev pub first_at : written.Expr → ℕ
+first_at (written.Number p n) = p.at
+first_at (written.Truth p b) = p.at
+first_at (written.Null p) = p.at
+first_at (written.This p) = p.at
+first_at (written.Name p text) = p.at
+first_at (written.Call p text es) = p.at
+first_at (written.Brackets p e) = p.at
+first_at (written.Convert p to e) = p.at
+first_at (written.NewArray p of es) = p.at
+first_at (written.Cast p to e) = p.at
+first_at (written.Postfix p e ss) = first_at e
+first_at (written.Unary p op e) = p.at
+first_at (written.Binary p e ls) = first_at e
+first_at (written.Conditional p c a b) = first_at c
+first_at (written.Assign p e op v) = first_at e
+
+-- what the walk answers of a term
+abbrev pub placed : ℕ → Term → Typed
+placed at t = record { at = at; ty = t.ty; alone = t.alone; tree = t.tree }
+
+abbrev pub all_placed : written.Exprs → List Term → List Typed
+all_placed (written.expr e es) (t ∷ ts) = placed (first_at e) t ∷ all_placed es ts
+all_placed _ _ = []
+
+abbrev pub term_of : Typed → Term
+term_of t = record { ty = t.ty; alone = t.alone; tree = t.tree }

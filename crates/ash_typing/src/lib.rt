@@ -1,0 +1,20 @@
+//! The rules of typing: which script has which typed tree, and where a script has none, its first fault.
+//!
+//! The rules stand in `specs/`, one case for each: of expressions and of variables in `Typing`, of statements in
+//! `TypedStatements`, of modules in `TypedModules`. The walk that finds the first fault stands in `Expressions`,
+//! `Declarations`, `Statements` and `Items`. `typing` and `modules` say that the two are one.
+//! The crate stands on `ash_tree`, whose trees are typed, on `ash_registry`, and on `ash_typed`, whose trees are the
+//! typed ones. It types nothing itself: `ash_expressions` and `ash_check` do, by these definitions.
+//!
+//! In reading order: `forms`, `fault`, `typing`, `modules`.
+#![tactic(auto)]
+
+mod fault;
+mod forms;
+mod modules;
+mod typing;
+
+pub use fault::{Fault, Rule};
+pub use forms::{Alone, Sort};
+pub use modules::{typing_of_modules, typing_of_statements};
+pub use typing::{typing_of_arguments, typing_of_expressions, typing_of_variables};

@@ -1,0 +1,39 @@
+//! The typing rules of statements and of modules, and the walk that types: there is no fault exactly where a typed tree
+//! exists.
+
+ghost use Rattle.std.specs.Prelude.{◌≡◌, ◌↔◌, List, Ok, IsOk};
+ghost use Rattle.ash_registry.specs.Calls.{Call};
+ghost use Rattle.ash_tree.specs.Tree as written;
+ghost use Rattle.ash_typing.specs.Items.{module_typed};
+ghost use Rattle.ash_typed.specs.Modules as modules;
+ghost use Rattle.ash_typed.specs.StatementTree.{Stmts};
+ghost use Rattle.ash_typing.specs.Statements.{Scope, stmts_typed};
+ghost use Rattle.ash_typing.specs.TypedModules.{environment, IsTyped};
+ghost use Rattle.ash_typing.specs.TypedStatements.{IsKnownScope, AreStmts};
+ghost use Rattle.ash_typing.specs.Typing.{IsKnown};
+
+/// That the walk types the statements that have a typed tree by the rules, and no others where all types are known; and
+/// then its answer is that tree. It does nothing when it runs.
+pub fn typing_of_statements()
+    ensures complete { (scope : Scope) (ss : written.Stmts) (ts : Stmts) →
+        AreStmts scope ss ts → stmts_typed scope ss ≡ Ok ts }
+    ensures sound { (scope : Scope) → IsKnownScope scope → (ss : written.Stmts) (ts : Stmts) →
+        stmts_typed scope ss ≡ Ok ts → AreStmts scope ss ts }
+    ensures no_fault { (scope : Scope) → IsKnownScope scope → (ss : written.Stmts) →
+        IsOk (stmts_typed scope ss) ↔ ((ts : Stmts) × AreStmts scope ss ts) }
+    ensures one_tree { (scope : Scope) (ss : written.Stmts) (ts us : Stmts) →
+        AreStmts scope ss ts → AreStmts scope ss us → ts ≡ us }
+{}
+
+/// That the walk tells no fault of a module exactly where the rules give it a typed tree, whatever is registered; and
+/// then its answer is that tree, the only one. All types that such a module names are known. It does nothing when it runs.
+pub fn typing_of_modules()
+    ensures agrees { (calls : List Call) (is : List written.Item) (typed : modules.Module) →
+        (module_typed calls is ≡ Ok typed) ↔ IsTyped calls is typed }
+    ensures no_fault { (calls : List Call) (is : List written.Item) →
+        IsOk (module_typed calls is) ↔ ((typed : modules.Module) × IsTyped calls is typed) }
+    ensures one_tree { (calls : List Call) (is : List written.Item) (t u : modules.Module) →
+        IsTyped calls is t → IsTyped calls is u → t ≡ u }
+    ensures known { (calls : List Call) (is : List written.Item) (typed : modules.Module) →
+        IsTyped calls is typed → IsKnown (environment calls is) }
+{}
