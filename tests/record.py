@@ -74,6 +74,22 @@ def write(record):
     os.replace(FILE + ".new", FILE)
 
 
+# How many edits one run of the gate tries at the most. All of them are off record at once where the toolchain has changed,
+# and would take longer than a run has on a slow machine.
+MAX_EDITS = 300
+
+
+def put_off(known):
+    """The crates off record whose edits one run of the gate does not try, since it has as many of crates below them."""
+    found, count = [], 0
+    for name in crates():
+        if name not in known and edits(name):
+            count += len(edits(name))
+            if count > MAX_EDITS:
+                found.append(name)
+    return found
+
+
 def on_record(identity):
     """The crates with edits whose text and toolchain are those on record, each with the number of its edits and the day."""
     record = read()
