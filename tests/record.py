@@ -76,7 +76,7 @@ def write(record):
 
 # How many edits one run of the gate tries at the most. All of them are off record at once where the toolchain has changed,
 # and would take longer than a run has on a slow machine.
-MAX_EDITS = 350
+MAX_EDITS = 150
 
 
 def put_off(known):
