@@ -14,4 +14,6 @@ mod reporter;
 #[cfg(test)]
 mod sequences;
 #[cfg(test)]
+mod steps;
+#[cfg(test)]
 mod table;

@@ -1,163 +1,145 @@
 //! Sequences of calls, with the events that they leave.
 
-use crate::table::{draw, hold, invoke, make, new_table, set_field, sweep_but};
-use ash_host::{Event, HostAnswer, Target, Word};
-use ash_objects::MakeFault;
+use crate::steps::{Sequence, Step, check};
+use crate::table::{draw, new_table, sweep_but};
+use ash_host::{Event, Target, Word};
 use std::test::Fail;
 
-#[test]
-fn an_object_that_is_let_go_is_dropped(rt: HostRuntime) -> Result<(), Fail> {
-    let (mut objects, log) = new_table(rt.alloc(), 1)?;
-    let mut events = Vec::new(rt.alloc());
-    assert_eq!(rt; draw(&mut objects, 1, &mut events)?, 1);
-    assert!(rt;
-        matches!(
-            invoke(&mut objects, 1, 1, 1, &mut events)?,
-            HostAnswer::Value(Word::Int(2))
-        )
-    );
-    objects.sweep(&mut events)?;
-    let expected = [
+static LET_GO: Sequence<'static> = Sequence {
+    counters: 1,
+    steps: &[Step::Draw(1, 1), Step::Add(1, 1, 2), Step::Sweep],
+    events: &[
         Event::Drew(1),
         Event::Called(Target::Object(1), 1),
         Event::Dropped(1),
-    ];
-    assert_eq!(rt; events.as_slice(), expected.as_slice());
-    assert_eq!(rt;
-        log.try_borrow()
-            .ok()
-            .map(|it| it.as_slice() == [2].as_slice()),
-        Some(true)
-    );
-    Ok(())
-}
+    ],
+    given_up: &[2],
+    with_the_table: &[2],
+};
 
 #[test]
-fn each_is_dropped_where_it_is_let_go(rt: HostRuntime) -> Result<(), Fail> {
-    let (mut objects, _log) = new_table(rt.alloc(), 2)?;
-    let mut events = Vec::new(rt.alloc());
-    draw(&mut objects, 1, &mut events)?;
-    draw(&mut objects, 5, &mut events)?;
-    assert!(rt;
-        matches!(
-            invoke(&mut objects, 2, 1, 1, &mut events)?,
-            HostAnswer::Value(Word::Int(6))
-        )
-    );
-    sweep_but(&mut objects, 2, &mut events)?;
-    assert!(rt;
-        matches!(
-            invoke(&mut objects, 2, 1, 1, &mut events)?,
-            HostAnswer::Value(Word::Int(7))
-        )
-    );
-    objects.sweep(&mut events)?;
-    let expected = [
+fn an_object_that_is_let_go_is_dropped(rt: HostRuntime) -> Result<(), Fail> {
+    check(&rt, rt.alloc(), &LET_GO)
+}
+
+static EACH: Sequence<'static> = Sequence {
+    counters: 2,
+    steps: &[
+        Step::Draw(1, 1),
+        Step::Draw(2, 5),
+        Step::Add(2, 1, 6),
+        Step::SweepBut(2),
+        Step::Add(2, 1, 7),
+        Step::Sweep,
+    ],
+    events: &[
         Event::Drew(1),
         Event::Drew(2),
         Event::Called(Target::Object(2), 1),
         Event::Dropped(1),
         Event::Called(Target::Object(2), 1),
         Event::Dropped(2),
-    ];
-    assert_eq!(rt; events.as_slice(), expected.as_slice());
-    Ok(())
-}
+    ],
+    given_up: &[1, 7],
+    with_the_table: &[1, 7],
+};
 
 #[test]
-fn boxes_are_given_up_by_ascending_number(rt: HostRuntime) -> Result<(), Fail> {
-    let (mut objects, log) = new_table(rt.alloc(), 3)?;
-    let mut events = Vec::new(rt.alloc());
-    assert_eq!(rt; make(rt.alloc(), &mut objects, 1)?, Ok(1));
-    assert_eq!(rt; make(rt.alloc(), &mut objects, 1)?, Ok(2));
-    assert_eq!(rt; draw(&mut objects, 3, &mut events)?, 3);
-    set_field(&mut objects, 1, 0, Word::Object(3))?;
-    assert_eq!(rt; make(rt.alloc(), &mut objects, 1)?, Ok(4));
-    assert_eq!(rt; draw(&mut objects, 5, &mut events)?, 5);
-    set_field(&mut objects, 2, 0, Word::Object(5))?;
-    set_field(&mut objects, 4, 0, Word::Object(3))?;
-    assert_eq!(rt; objects.count(3), 2);
-    assert_eq!(rt; objects.count(5), 1);
-    objects.sweep(&mut events)?;
-    let expected = [
+fn each_is_dropped_where_it_is_let_go(rt: HostRuntime) -> Result<(), Fail> {
+    check(&rt, rt.alloc(), &EACH)
+}
+
+// The box that is never drawn is the pool's, and goes with the table.
+static ASCENDING: Sequence<'static> = Sequence {
+    counters: 3,
+    steps: &[
+        Step::Make(1, 1),
+        Step::Make(1, 2),
+        Step::Draw(3, 3),
+        Step::SetField(1, 0, Word::Object(3)),
+        Step::Make(1, 4),
+        Step::Draw(5, 5),
+        Step::SetField(2, 0, Word::Object(5)),
+        Step::SetField(4, 0, Word::Object(3)),
+        Step::HasCount(3, 2),
+        Step::HasCount(5, 1),
+        Step::Sweep,
+    ],
+    events: &[
         Event::Drew(3),
         Event::Drew(5),
         Event::Dropped(3),
         Event::Dropped(5),
-    ];
-    assert_eq!(rt; events.as_slice(), expected.as_slice());
-    assert_eq!(rt;
-        log.try_borrow()
-            .ok()
-            .map(|it| it.as_slice() == [3, 5].as_slice()),
-        Some(true)
-    );
-    // The box that was never drawn is the pool's, and goes with the table.
-    drop(objects);
-    assert_eq!(rt;
-        log.try_borrow()
-            .ok()
-            .map(|it| it.as_slice() == [3, 5, 0].as_slice()),
-        Some(true)
-    );
-    Ok(())
+    ],
+    given_up: &[3, 5],
+    with_the_table: &[3, 5, 0],
+};
+
+#[test]
+fn boxes_are_given_up_by_ascending_number(rt: HostRuntime) -> Result<(), Fail> {
+    check(&rt, rt.alloc(), &ASCENDING)
 }
+
+static CHAIN: Sequence<'static> = Sequence {
+    counters: 1,
+    steps: &[
+        Step::Make(1, 1),
+        Step::Make(1, 2),
+        Step::Make(1, 3),
+        Step::Draw(4, 7),
+        Step::SetField(1, 0, Word::Object(2)),
+        Step::SetField(2, 0, Word::Object(3)),
+        Step::SetField(3, 0, Word::Object(4)),
+        Step::Hold(3),
+        Step::Sweep,
+        Step::IsGone(1),
+        Step::IsGone(2),
+        Step::HasCount(3, 1),
+        Step::HasCount(4, 1),
+    ],
+    events: &[Event::Drew(4)],
+    given_up: &[],
+    with_the_table: &[7],
+};
 
 #[test]
 fn a_chain_goes_at_once(rt: HostRuntime) -> Result<(), Fail> {
-    let (mut objects, _log) = new_table(rt.alloc(), 1)?;
-    let mut events = Vec::new(rt.alloc());
-    for _ in 0..3 {
-        make(rt.alloc(), &mut objects, 1)?.ok();
-    }
-    draw(&mut objects, 7, &mut events)?;
-    set_field(&mut objects, 1, 0, Word::Object(2))?;
-    set_field(&mut objects, 2, 0, Word::Object(3))?;
-    set_field(&mut objects, 3, 0, Word::Object(4))?;
-    hold(&mut objects, 3)?;
-    objects.sweep(&mut events)?;
-    assert_eq!(rt; objects.slot(1), None);
-    assert_eq!(rt; objects.slot(2), None);
-    assert_eq!(rt; objects.count(3), 1);
-    assert_eq!(rt; objects.count(4), 1);
-    assert_eq!(rt; events.as_slice(), [Event::Drew(4)].as_slice());
-    Ok(())
+    check(&rt, rt.alloc(), &CHAIN)
 }
+
+static ONCE: Sequence<'static> = Sequence {
+    counters: 1,
+    steps: &[
+        Step::Draw(1, 1),
+        Step::Sweep,
+        Step::LacksKind(1),
+        Step::LacksKind(2),
+    ],
+    events: &[Event::Drew(1), Event::Dropped(1)],
+    given_up: &[1],
+    with_the_table: &[1],
+};
 
 #[test]
 fn a_box_is_drawn_once(rt: HostRuntime) -> Result<(), Fail> {
-    let (mut objects, _log) = new_table(rt.alloc(), 1)?;
-    let mut events = Vec::new(rt.alloc());
-    draw(&mut objects, 1, &mut events)?;
-    objects.sweep(&mut events)?;
-    assert_eq!(rt; objects.draw(1, &mut events), Err(MakeFault::PoolEmpty));
-    assert_eq!(rt; objects.draw(2, &mut events), Err(MakeFault::PoolEmpty));
-    assert_eq!(rt;
-        events.as_slice(),
-        [Event::Drew(1), Event::Dropped(1)].as_slice()
-    );
-    Ok(())
+    check(&rt, rt.alloc(), &ONCE)
 }
 
-#[test]
-fn an_object_that_raised_is_dropped(rt: HostRuntime) -> Result<(), Fail> {
-    let (mut objects, _log) = new_table(rt.alloc(), 1)?;
-    let mut events = Vec::new(rt.alloc());
-    draw(&mut objects, 1, &mut events)?;
-    assert!(rt;
-        matches!(
-            invoke(&mut objects, 1, 2, 9, &mut events)?,
-            HostAnswer::Raise(9)
-        )
-    );
-    objects.sweep(&mut events)?;
-    let expected = [
+static RAISED: Sequence<'static> = Sequence {
+    counters: 1,
+    steps: &[Step::Draw(1, 1), Step::Raise(1, 9), Step::Sweep],
+    events: &[
         Event::Drew(1),
         Event::Called(Target::Object(1), 2),
         Event::Dropped(1),
-    ];
-    assert_eq!(rt; events.as_slice(), expected.as_slice());
-    Ok(())
+    ],
+    given_up: &[1],
+    with_the_table: &[1],
+};
+
+#[test]
+fn an_object_that_raised_is_dropped(rt: HostRuntime) -> Result<(), Fail> {
+    check(&rt, rt.alloc(), &RAISED)
 }
 
 #[test]
@@ -184,22 +166,25 @@ fn a_slot_is_used_again_and_a_number_is_not(rt: HostRuntime) -> Result<(), Fail>
     Ok(())
 }
 
+static OVER_ITSELF: Sequence<'static> = Sequence {
+    counters: 1,
+    steps: &[
+        Step::Make(1, 1),
+        Step::Draw(2, 1),
+        Step::SetField(1, 0, Word::Object(2)),
+        Step::SetField(1, 0, Word::Object(2)),
+        Step::HasCount(2, 1),
+        Step::SweepBut(1),
+        Step::HasCount(2, 1),
+        Step::SetField(1, 0, Word::Null),
+        Step::SweepBut(1),
+    ],
+    events: &[Event::Drew(2), Event::Dropped(2)],
+    given_up: &[1],
+    with_the_table: &[1],
+};
+
 #[test]
 fn a_handle_that_is_written_over_itself_stays(rt: HostRuntime) -> Result<(), Fail> {
-    let (mut objects, _log) = new_table(rt.alloc(), 1)?;
-    let mut events = Vec::new(rt.alloc());
-    make(rt.alloc(), &mut objects, 1)?.ok();
-    draw(&mut objects, 1, &mut events)?;
-    set_field(&mut objects, 1, 0, Word::Object(2))?;
-    set_field(&mut objects, 1, 0, Word::Object(2))?;
-    assert_eq!(rt; objects.count(2), 1);
-    sweep_but(&mut objects, 1, &mut events)?;
-    assert_eq!(rt; objects.count(2), 1);
-    set_field(&mut objects, 1, 0, Word::Null)?;
-    sweep_but(&mut objects, 1, &mut events)?;
-    assert_eq!(rt;
-        events.as_slice(),
-        [Event::Drew(2), Event::Dropped(2)].as_slice()
-    );
-    Ok(())
+    check(&rt, rt.alloc(), &OVER_ITSELF)
 }
