@@ -11,3 +11,9 @@ pub mod Collecting
 pub mod Collected
 pub mod Newcomers
 pub mod Refilling
+pub mod Pointwise
+pub mod Drawing
+pub mod Recounting
+pub mod Putting
+pub mod Stocking
+pub mod Restored

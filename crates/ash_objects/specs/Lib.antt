@@ -6,3 +6,4 @@ pub mod Sweeping
 pub mod Collecting
 pub mod Marking
 pub mod Arrays
+pub mod Restoring

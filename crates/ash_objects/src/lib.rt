@@ -6,7 +6,8 @@
 //!
 //! In reading order: `objects` (the table, and its calls on fields and holds), `making` (new objects), `arrays` (calls
 //! of arrays), `host_calls` (calls of host objects and services), `sweeping` (the sweep), `marking` (what was made,
-//! changed or taken away), `counting` (the counts of what an object's words are handles to).
+//! changed or taken away), `restoring` (a table from what a state holds), `counting` (the counts of what an object's
+//! words are handles to).
 #![tactic(auto)]
 
 mod arrays;
@@ -15,6 +16,7 @@ mod host_calls;
 mod making;
 mod marking;
 mod objects;
+mod restoring;
 mod sweeping;
 
 pub use arrays::{IndexOutOfBounds, LengthFault};
@@ -22,3 +24,4 @@ pub use ash_slots::{Array, Body, Element, Script, Words};
 pub use making::{MAX_ELEMENTS, MAX_OBJECTS, MakeFault};
 pub use marking::Touched;
 pub use objects::Objects;
+pub use restoring::{Saved, Stored, TableFault};

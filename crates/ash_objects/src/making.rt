@@ -34,8 +34,8 @@ pub enum MakeFault {
     NoMemory,
 }
 
-// The place of the first box of a kind.
-fn place_of_kind<B: HostObject>(pool: &[B], kind: u16) -> Option<usize>
+/// The place of the first box of a kind.
+pub(crate) fn place_of_kind<B: HostObject>(pool: &[B], kind: u16) -> Option<usize>
     ensures { result ≡ position (λ box. nat_eq (B.kind_of box) kind) pool.now }
 {
     pool.iter().position(|object| object.kind() == kind)

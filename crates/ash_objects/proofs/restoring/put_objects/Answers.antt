@@ -1,0 +1,21 @@
+use Rattle.std.proofs.Common.{refl, true, false}
+use Rattle.ash_objects.proofs.Putting.{put_begin, put_fits, put_new, put_more}
+use Rattle.ash_objects.proofs.restoring.put_objects.Goals as goal
+
+pub loop-object-init : goal.loop-object-init
+loop-object-init g c = record {
+  state = put_begin c.args.objects.items c.args.boxes.items c.args.store.now.objects c.requires.fit c.requires.empty;
+}
+
+pub join-requires : goal.join-requires
+join-requires g c =
+    put_fits c.args.objects.items c.args.boxes.items c.loop-object.objects.items c.pop.new.self.items c.loop-object.boxes.items c.pop-in-Some.new.self.items c.in-Some.object c.in-Some-pop.taken c.loop-object.store.objects c.requires.in_order c.requires.fit c.loop-object.invariant.state c.in-Some.ensures.items c.in-Some-pop.ensures.items
+
+pub insert-requires : goal.insert-requires
+insert-requires g c =
+    put_new c.args.objects.items c.args.boxes.items c.loop-object.objects.items c.pop.new.self.items c.loop-object.boxes.items c.pop-in-Some.new.self.items c.in-Some.object c.in-Some-pop.taken c.loop-object.store.objects c.requires.in_order c.requires.fit c.loop-object.invariant.state c.in-Some.ensures.items c.in-Some-pop.ensures.items
+
+pub loop-object-preserved : goal.loop-object-preserved
+loop-object-preserved g c = record {
+  state = rw c.in-Ok.ensures.objects (put_more c.args.objects.items c.args.boxes.items c.loop-object.objects.items c.pop.new.self.items c.loop-object.boxes.items c.pop-in-Some.new.self.items c.in-Some.object c.in-Some-pop.taken c.loop-object.store.objects c.requires.in_order c.requires.fit c.loop-object.invariant.state c.in-Some.ensures.items c.in-Some-pop.ensures.items (record { slot = c.in-Ok._slot; waiting = true; item = record { count = 0; touched = false; body = c.join.result } }) c.join.ensures (record { uncounted = refl; waits = refl; unmarked = refl }));
+}

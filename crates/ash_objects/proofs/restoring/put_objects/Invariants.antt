@@ -1,0 +1,12 @@
+use Rattle.std.proofs.Common.{vec_len}
+use Rattle.ash_objects.proofs.Putting.{PutState}
+use Rattle.ash_objects.proofs.restoring.put_objects.Given as goal
+
+abbrev pub invariant-loop-object : goal.invariant-loop-object
+invariant-loop-object g l = record {
+  state : PutState l.initial.objects.items l.initial.boxes.items l.objects.items l.boxes.items l.store.objects;
+}
+
+-- each turn takes one of them
+abbrev pub decreases-loop-object : goal.decreases-loop-object
+decreases-loop-object g l = vec_len l.objects

@@ -1,0 +1,150 @@
+-- A table from what a state holds.
+use Rattle.std.specs.Prelude.{◌≡◌, ℕ, ◌≤◌, true, false, List, [], ◌∷◌, length, map, Option, None, Some, IsSome, IfSome, slice_get, nat_eq}
+use Rattle.std.specs.Option.{option_map, option_and_then}
+use Rattle.std.specs.List.{remove, position}
+use Rattle.std.specs.declared.vec.Vec.{Vec}
+use Rattle.std.specs.declared.alloc.Global.{Global}
+use Rattle.ash_host.specs.declared.host_object.HostObject.{Ghosts}
+use Rattle.ash_host.specs.Calls.{SameRelation}
+use Rattle.ash_host.specs.Objects.{object_at}
+use Rattle.ash_slots.specs.declared.body.Body.{Body}
+use Rattle.ash_slots.specs.declared.body.Body.TheVariants.{Script, Array, Host}
+use Rattle.ash_slots.specs.Responses.{box_of}
+use Rattle.ash_slots.specs.Store.{Placed}
+use Rattle.ash_objects.specs.declared.restoring.Stored.{Stored}
+use Rattle.ash_objects.specs.declared.restoring.Saved.{Saved}
+use Rattle.ash_objects.specs.Table.{Living, Table, holds_of}
+use Rattle.ash_objects.specs.Counting.{refer_all, words_at}
+
+-- the objects of a state by their numbers
+abbrev pub stored_in : List Stored → List (ℕ × Body Saved)
+stored_in objects = map (λ object. (object.number, object.body)) objects
+
+-- the states of services
+abbrev pub states_in : List (Vec ℕ Global) → List (List ℕ)
+states_in states = map (λ state. state.items) states
+
+-- the kind of a host object; what is none has none
+abbrev pub kind_wanted : Stored → Option ℕ
+kind_wanted object = option_map (λ saved. saved.kind) (box_of object.body)
+
+-- the state of a host object; what is none has none
+abbrev pub bytes_of : Body Saved → List ℕ
+bytes_of (Script _) = []
+bytes_of (Array _) = []
+bytes_of (Host saved) = saved.state.items
+
+-- What objects take from a pool, each its box or nothing, and what is left of it; or a kind of which no box is left.
+pub data Drawn (B : Type 0) : Type 0 where
+  Short : (kind : ℕ) → Drawn B
+  Enough : (boxes : List (Option B)) (left : List B) → Drawn B
+
+module _ {B : Type 0} where
+  -- the first box of a kind, and the others in order
+  abbrev pub draw_box : Ghosts B → ℕ → List B → Option (B × List B)
+  draw_box G kind pool = option_and_then (λ place. option_map (λ box. (box, remove pool place)) (slice_get pool place)) (position (λ box. nat_eq (G.kind_of box) kind) pool)
+
+  -- with what one object took before the others
+  abbrev pub with_box_first : Option B → Drawn B → Drawn B
+  with_box_first box (Short kind) = Short kind
+  with_box_first box (Enough boxes left) = Enough (box ∷ boxes) left
+
+  -- a host object took a box from a pool, or there was none; the others take theirs from what is left
+  abbrev pub draw_others : ℕ → Option (B × List B) → (List B → Drawn B) → Drawn B
+  draw_others kind None others = Short kind
+  draw_others kind (Some taken) others = with_box_first (Some taken.0) (others taken.1)
+
+  -- an object takes its box from a pool, if it is a host object, and the others take theirs from what is left
+  abbrev pub draw_then : Ghosts B → Option ℕ → List B → (List B → Drawn B) → Drawn B
+  draw_then G None pool others = with_box_first None (others pool)
+  draw_then G (Some kind) pool others = draw_others kind (draw_box G kind pool) others
+
+  -- each host object takes the first box of its kind that is left, in order
+  abbrev pub draw_boxes : Ghosts B → List Stored → List B → Drawn B
+  draw_boxes G [] pool = Enough [] pool
+  draw_boxes G (object ∷ objects) pool = draw_then G (kind_wanted object) pool (λ left. draw_boxes G objects left)
+
+  -- A host object took a state: it has it now, and keeps its kind and its relation.
+  pub record BroughtBack (G : Ghosts B) (before : B) (bytes : List ℕ) (after : B) : Type 0 where
+    pub has : G.state after ≡ bytes
+    pub same_kind : G.kind_of after ≡ G.kind_of before
+    pub same_relation : SameRelation (G.allows before) (G.allows after)
+    pub bounded : length (G.state after) ≤ 1024
+
+  -- what an object was stored as is what it is in a table, with what became of its box in place of its kind and state
+  abbrev pub IsBody : Ghosts B → Body Saved → Option B → Body B → Type 0
+  IsBody G (Script script) box body = body ≡ Script script
+  IsBody G (Array array) box body = body ≡ Array array
+  IsBody G (Host saved) None body = ⊥
+  IsBody G (Host saved) (Some before) body = (after : B) × (body ≡ Host after) × BroughtBack G before saved.state.items after
+
+  -- the same of all, in order
+  abbrev pub AreBodies : Ghosts B → List Stored → List (Option B) → List (ℕ × Body B) → Type 0
+  AreBodies G [] [] [] = Unit {0}
+  AreBodies G (object ∷ objects) (box ∷ boxes) (e ∷ entries) = (e.0 ≡ object.number) × IsBody G object.body box e.1 × AreBodies G objects boxes entries
+  AreBodies G [] [] (e ∷ entries) = ⊥
+  AreBodies G [] (box ∷ boxes) entries = ⊥
+  AreBodies G (object ∷ objects) [] entries = ⊥
+  AreBodies G (object ∷ objects) (box ∷ boxes) [] = ⊥
+
+  -- the objects of a table by their numbers, without what the table keeps of them
+  abbrev pub bodies_of : List (ℕ × Living B) → List (ℕ × Body B)
+  bodies_of objects = map (λ e. (e.0, (e.1).body)) objects
+
+  -- A table has the objects of a state: each host object took the first box of its kind that was left, which has its
+  -- state now; nothing is held but by fields and elements, and nothing is marked.
+  pub record IsRestored (G : Ghosts B) (objects : List Stored) (pool : List B) (table : Table B) : Type 0 where
+    pub boxes : List (Option B)
+    pub drawn : draw_boxes G objects pool ≡ Enough boxes table.pool
+    pub bodies : AreBodies G objects boxes (bodies_of table.objects)
+    pub not_held : (number : ℕ) → holds_of number table ≡ 0
+    pub unmarked : (number : ℕ) → IfSome (object_at number table.objects) (λ object. object.touched ≡ false)
+
+  -- services, each with the state that it had
+  pub record AreBack (G : Ghosts B) (before : List B) (states : List (List ℕ)) (after : List B) : Type 0 where
+    pub many : length after ≡ length before
+    pub each : (place : ℕ) (one other : B) (bytes : List ℕ) → slice_get before place ≡ Some one → slice_get after place ≡ Some other → slice_get states place ≡ Some bytes → BroughtBack G one bytes other
+
+  -- what was refused: the state of a service, or that of the host object of a number by the box that it took
+  pub data IsRefused (G : Ghosts B) (objects : List Stored) (states : List (List ℕ)) (pool services : List B) : ℕ → Type 0 where
+    Service : (place : ℕ) (service : B) (bytes : List ℕ) → slice_get services place ≡ Some service → slice_get states place ≡ Some bytes → G.refuses service bytes → IsRefused G objects states pool services 0
+    Object : (place : ℕ) (object : Stored) (boxes : List (Option B)) (left : List B) (box : B) → draw_boxes G objects pool ≡ Enough boxes left → slice_get objects place ≡ Some object → slice_get boxes place ≡ Some (Some box) → G.refuses box (bytes_of object.body) → IsRefused G objects states pool services object.number
+
+  -- the same step by step: what became of what an object took
+  abbrev pub IsBack : Ghosts B → Body Saved → Option B → Option B → Type 0
+  IsBack G body None after = after ≡ None
+  IsBack G body (Some before) after = (box : B) × (after ≡ Some box) × BroughtBack G before (bytes_of body) box
+
+  -- an object with what it took in place of its kind and state; nothing where it took nothing and had to
+  abbrev pub with_taken : Body Saved → Option B → Option (Body B)
+  with_taken (Script script) box = Some (Script script)
+  with_taken (Array array) box = Some (Array array)
+  with_taken (Host saved) None = None
+  with_taken (Host saved) (Some box) = Some (Host box)
+
+  -- each host object took something
+  abbrev pub AreFit : List Stored → List (Option B) → Type 0
+  AreFit [] [] = Unit {0}
+  AreFit [] (box ∷ boxes) = ⊥
+  AreFit (object ∷ objects) [] = ⊥
+  AreFit (object ∷ objects) (box ∷ boxes) = IsSome (with_taken object.body box) × AreFit objects boxes
+
+  -- an object as it is put into its slot
+  pub record IsFresh (object : Placed B) : Type 0 where
+    pub uncounted : (object.item).count ≡ 0
+    pub waits : object.waiting ≡ true
+    pub unmarked : (object.item).touched ≡ false
+
+  -- objects as they are put into their slots, with what they took
+  abbrev pub ArePut : List Stored → List (Option B) → List (ℕ × Placed B) → Type 0
+  ArePut [] [] [] = Unit {0}
+  ArePut (object ∷ objects) (box ∷ boxes) (e ∷ entries) = (e.0 ≡ object.number) × (with_taken object.body box ≡ Some ((e.1).item).body) × IsFresh e.1 × ArePut objects boxes entries
+  ArePut [] [] (e ∷ entries) = ⊥
+  ArePut [] (box ∷ boxes) entries = ⊥
+  ArePut (object ∷ objects) [] entries = ⊥
+  ArePut (object ∷ objects) (box ∷ boxes) [] = ⊥
+
+  -- the objects, each counted once more for each word of these that is a handle to it
+  abbrev pub refer_objects : List ℕ → List (ℕ × Placed B) → List (ℕ × Placed B)
+  refer_objects [] objects = objects
+  refer_objects (number ∷ numbers) objects = refer_objects numbers (refer_all (words_at number objects) objects)

@@ -1,0 +1,282 @@
+//! A table from what a state holds.
+ghost use Rattle.std.specs.Prelude.{◌≡◌, ◌≤◌, ℕ, List, Option, Some, [], All, length, slice_get, IsSome, IfSome, IfOk, OnOk, IsErrOf, vec_len};
+ghost use Rattle.ash_host.specs.Objects.{object_at, numbers, Lives, IsInOrder, AreNumbered, handle};
+ghost use Rattle.ash_slots.specs.Bodies.{words_of};
+ghost use Rattle.ash_slots.specs.Counting.{counted};
+ghost use Rattle.ash_objects.specs.declared.restoring.TableFault.{TableFault};
+ghost use Rattle.ash_objects.specs.declared.restoring.Stored.{Stored};
+ghost use Rattle.ash_objects.specs.Counting.{words_at, AllLive};
+ghost use Rattle.ash_objects.specs.Restoring.{stored_in, states_in, kind_wanted, bytes_of, Drawn, Enough, Short, draw_then, draw_boxes, with_box_first, BroughtBack, IsBack, AreBack, IsRefused, IsRestored, with_taken, AreFit, ArePut, refer_objects};
+
+use crate::counting::refer_words;
+use crate::making::place_of_kind;
+use crate::objects::Objects;
+use ash_host::{HostObject, RestoreFault};
+use ash_slots::{Body, Item, Store};
+use std::alloc::Global;
+
+/// A host object as a state has it.
+#[derive(Drop)]
+pub struct Saved {
+    /// The number of its kind.
+    pub kind: u16,
+    /// Its state in bytes.
+    pub state: Vec<u8>,
+}
+
+/// An object as a state has it: a host object with its kind and its state in place of its box.
+#[derive(Drop)]
+pub struct Stored {
+    pub number: u64,
+    pub body: Body<Saved>,
+}
+
+/// Why a table is not made.
+#[derive(Clone, Copy, Debug, PartialEq, Eq)]
+pub enum TableFault {
+    /// There are too few free boxes of a kind.
+    PoolShort(u16),
+    /// The host object of a number does not take its state; a service, where the number is 0.
+    RestoreRefused(u64),
+    /// Memory ran out.
+    NoMemory,
+}
+
+impl Stored {
+    // The state of a host object; none of what is none.
+    fn bytes(&self) -> &[u8]
+        ensures { result.now ≡ bytes_of self.now.body }
+    {
+        match &self.body {
+            Body::Host(saved) => saved.state.as_slice(),
+            Body::Script(_) | Body::Array(_) => &[],
+        }
+    }
+}
+
+// Takes the first box of an object's kind from the pool, if it is a host object.
+fn take_box<B: HostObject>(pool: &mut Vec<B>, object: &Stored) -> Result<Option<B>, TableFault>
+    ensures taken { IfOk result (λ taken. (others : List B → Drawn B)
+        → draw_then B.HostObject (kind_wanted object.now) pool.old.items others ≡ with_box_first taken (others pool.new.items)) }
+    ensures short { (kind : ℕ) → IsErrOf result (TableFault.PoolShort kind) → (others : List B → Drawn B)
+        → draw_then B.HostObject (kind_wanted object.now) pool.old.items others ≡ Short kind }
+    ensures not_refused { (number : ℕ) → IsErrOf result (TableFault.RestoreRefused number) → ⊥ }
+    ensures memory { IsErrOf result TableFault.NoMemory → ⊥ }
+{
+    let saved = match &object.body {
+        Body::Host(saved) => saved,
+        Body::Script(_) | Body::Array(_) => return Ok(None),
+    };
+    let Some(place) = place_of_kind(pool, saved.kind) else {
+        return Err(TableFault::PoolShort(saved.kind));
+    };
+    Ok(Some(pool.remove(place)))
+}
+
+// Takes the boxes of these objects from the pool, in order.
+fn take_boxes<B: HostObject>(
+    alloc: Global,
+    objects: &[Stored],
+    pool: &mut Vec<B>,
+) -> Result<Vec<Option<B>>, TableFault>
+    ensures enough { IfOk result (λ boxes. draw_boxes B.HostObject objects.now pool.old.items ≡ Enough boxes.items pool.new.items) }
+    ensures short { (kind : ℕ) → IsErrOf result (TableFault.PoolShort kind)
+        → draw_boxes B.HostObject objects.now pool.old.items ≡ Short kind }
+    ensures not_refused { (number : ℕ) → IsErrOf result (TableFault.RestoreRefused number) → ⊥ }
+{
+    let mut boxes = Vec::new(alloc);
+    if boxes.reserve(objects.len()).is_err() {
+        return Err(TableFault::NoMemory);
+    }
+    for object in objects {
+        boxes.push_reserved(take_box(pool, object)?);
+    }
+    Ok(boxes)
+}
+
+// Gives a host object the state that it had under a number.
+fn bring_back<B: HostObject>(object: &mut B, number: u64, bytes: &[u8]) -> Result<(), TableFault>
+    ensures back { OnOk result (BroughtBack B.HostObject object.old bytes.now object.new) }
+    ensures refused { (other : ℕ) → IsErrOf result (TableFault.RestoreRefused other)
+        → (other ≡ number) × B.refuses object.old bytes.now }
+    ensures enough { (kind : ℕ) → IsErrOf result (TableFault.PoolShort kind) → ⊥ }
+{
+    match object.restore(bytes) {
+        Ok(()) => Ok(()),
+        Err(RestoreFault::Refused) => Err(TableFault::RestoreRefused(number)),
+        Err(RestoreFault::NoMemory) => Err(TableFault::NoMemory),
+    }
+}
+
+// Gives services the states that they had, in order.
+fn restore_services<B: HostObject>(
+    services: &mut Vec<B>,
+    states: &[Vec<u8>],
+) -> Result<(), TableFault>
+    requires { length states.now ≡ vec_len services.old }
+    ensures back { OnOk result (AreBack B.HostObject services.old.items (states_in states.now) services.new.items) }
+    ensures refused { (number : ℕ) → IsErrOf result (TableFault.RestoreRefused number) → (number ≡ 0)
+        × ((place : ℕ) × (service : B) × (bytes : List ℕ) × (slice_get services.old.items place ≡ Some service)
+        × (slice_get (states_in states.now) place ≡ Some bytes) × B.refuses service bytes) }
+    ensures enough { (kind : ℕ) → IsErrOf result (TableFault.PoolShort kind) → ⊥ }
+{
+    for place in 0..states.len() {
+        bring_back(&mut services[place], 0, states[place].as_slice())?;
+    }
+    Ok(())
+}
+
+// Gives what an object took the object's state.
+fn restore_box<B: HostObject>(object: &Stored, taken: &mut Option<B>) -> Result<(), TableFault>
+    ensures back { OnOk result (IsBack B.HostObject object.now.body taken.old taken.new) }
+    ensures refused { (number : ℕ) → IsErrOf result (TableFault.RestoreRefused number) → (number ≡ object.now.number)
+        × ((box : B) × (taken.old ≡ Some box) × B.refuses box (bytes_of object.now.body)) }
+    ensures enough { (kind : ℕ) → IsErrOf result (TableFault.PoolShort kind) → ⊥ }
+{
+    match taken {
+        Some(host) => bring_back(host, object.number, object.bytes()),
+        None => Ok(()),
+    }
+}
+
+// Gives what each object took the object's state, in order.
+fn restore_boxes<B: HostObject>(
+    objects: &[Stored],
+    boxes: &mut Vec<Option<B>>,
+) -> Result<(), TableFault>
+    requires { length objects.now ≡ vec_len boxes.old }
+    ensures many { vec_len boxes.new ≡ vec_len boxes.old }
+    ensures back { OnOk result ((place : ℕ) (object : Stored) (one other : Option B) → slice_get objects.now place ≡ Some object
+        → slice_get boxes.old.items place ≡ Some one → slice_get boxes.new.items place ≡ Some other
+        → IsBack B.HostObject object.body one other) }
+    ensures refused { (number : ℕ) → IsErrOf result (TableFault.RestoreRefused number) → (place : ℕ) × (object : Stored) × (box : B)
+        × (slice_get objects.now place ≡ Some object) × (object.number ≡ number)
+        × (slice_get boxes.old.items place ≡ Some (Some box)) × B.refuses box (bytes_of object.body) }
+    ensures enough { (kind : ℕ) → IsErrOf result (TableFault.PoolShort kind) → ⊥ }
+{
+    for place in 0..objects.len() {
+        restore_box(&objects[place], &mut boxes[place])?;
+    }
+    Ok(())
+}
+
+// An object with what it took in place of its kind and state.
+fn join<B: HostObject>(body: Body<Saved>, taken: Option<B>) -> Body<B>
+    requires { IsSome (with_taken body taken) }
+    ensures { with_taken body taken ≡ Some result }
+{
+    match body {
+        Body::Script(script) => Body::Script(script),
+        Body::Array(array) => Body::Array(array),
+        Body::Host(_) => {
+            let Some(host) = taken else { unreachable!() };
+            Body::Host(host)
+        }
+    }
+}
+
+// Puts these objects into slots, each with what it took, the last first. Nothing is counted.
+fn put_objects<B: HostObject>(
+    store: &mut Store<B>,
+    mut objects: Vec<Stored>,
+    mut boxes: Vec<Option<B>>,
+) -> Result<(), TableFault>
+    requires empty { store.old.objects ≡ [] }
+    requires in_order { IsInOrder (stored_in objects.items) }
+    requires fit { AreFit objects.items boxes.items }
+    ensures put { OnOk result (ArePut objects.items boxes.items store.new.objects) }
+    ensures memory { (fault : TableFault) → IsErrOf result fault → fault ≡ TableFault.NoMemory }
+{
+    while let Some(object) = objects.pop() {
+        let Some(taken) = boxes.pop() else {
+            unreachable!()
+        };
+        let item = Item {
+            count: 0,
+            touched: false,
+            body: join(object.body, taken),
+        };
+        let Ok(_slot) = store.insert(object.number, item) else {
+            return Err(TableFault::NoMemory);
+        };
+    }
+    Ok(())
+}
+
+// The numbers of these objects, in order.
+fn numbers_of(alloc: Global, objects: &[Stored]) -> Result<Vec<u64>, TableFault>
+    ensures numbers { IfOk result (λ list. list.items ≡ numbers (stored_in objects.now)) }
+    ensures memory { (fault : TableFault) → IsErrOf result fault → fault ≡ TableFault.NoMemory }
+{
+    let mut list = Vec::new(alloc);
+    if list.reserve(objects.len()).is_err() {
+        return Err(TableFault::NoMemory);
+    }
+    for object in objects {
+        list.push_reserved(object.number);
+    }
+    Ok(list)
+}
+
+// Counts each object once more for each word of the objects of these numbers that is a handle to it.
+fn refer_from<B>(store: &mut Store<B>, list: &[u64])
+    requires there { All (λ number. Lives store.old.objects number × AllLive store.old.objects (words_at number store.old.objects)
+        × (length (words_at number store.old.objects) ≤ 4096)) list.now }
+    requires few { length list.now ≤ 4096 }
+    requires uncounted { (number : ℕ) → counted number store.old.objects ≡ 0 }
+    ensures { store.new.objects ≡ refer_objects list.now store.old.objects }
+{
+    for number in list {
+        let Some(slot) = store.slot(*number) else {
+            unreachable!()
+        };
+        refer_words(store, slot);
+    }
+}
+
+impl<B: HostObject> Objects<B> {
+    /// A table with the objects of a state, of which this is the last number that was given and these are the states of
+    /// services, over a pool and the services. Each host object takes the first box of its kind that is left, by
+    /// ascending number; then the services take their states, and then the boxes. Nothing is held but by fields and
+    /// elements, and nothing is marked. Where it is refused the boxes are given up.
+    pub fn restored(
+        alloc: Global,
+        objects: Vec<Stored>,
+        last: u64,
+        states: &[Vec<u8>],
+        mut pool: Vec<B>,
+        mut services: Vec<B>,
+    ) -> Result<Objects<B>, TableFault>
+        requires numbered { AreNumbered last (stored_in objects.items) }
+        requires few { vec_len objects ≤ 4096 }
+        requires short { (number : ℕ) → IfSome (object_at number (stored_in objects.items)) (λ body. length (words_of body) ≤ 4096) }
+        requires alive { (number : ℕ) → IfSome (object_at number (stored_in objects.items))
+            (λ body. All (λ word. IfSome (handle word) (Lives (stored_in objects.items))) (words_of body)) }
+        requires as_many { length states.now ≡ vec_len services }
+        ensures objects { IfOk result (λ table. IsRestored B.HostObject objects.items pool.items table) }
+        ensures services { IfOk result (λ table. AreBack B.HostObject services.items (states_in states.now) table.services) }
+        ensures last { IfOk result (λ table. table.last ≡ last) }
+        ensures settled { IfOk result (λ table. table.settled ≡ last) }
+        ensures gone { IfOk result (λ table. table.gone ≡ []) }
+        ensures short { (kind : ℕ) → IsErrOf result (TableFault.PoolShort kind)
+            → draw_boxes B.HostObject objects.items pool.items ≡ Short kind }
+        ensures refused { (number : ℕ) → IsErrOf result (TableFault.RestoreRefused number)
+            → IsRefused B.HostObject objects.items (states_in states.now) pool.items services.items number }
+    {
+        let mut boxes = take_boxes(alloc, &objects, &mut pool)?;
+        restore_services(&mut services, states)?;
+        restore_boxes(&objects, &mut boxes)?;
+        let list = numbers_of(alloc, &objects)?;
+        let mut store = Store::new(alloc);
+        put_objects(&mut store, objects, boxes)?;
+        refer_from(&mut store, &list);
+        Ok(Objects {
+            store,
+            pool,
+            services,
+            last,
+            settled: last,
+            gone: Vec::new(alloc),
+        })
+    }
+}
