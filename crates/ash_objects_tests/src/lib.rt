@@ -1,6 +1,6 @@
 //! Tests of the table of objects, with memory that is ample: sequences of its calls with the events that they leave, a
-//! kind whose boxes report that they are given up, and a table at its limits. It has tests alone, so that the crate with
-//! the code is proved once.
+//! kind whose boxes report that they are given up, a table at its limits, and tables from what a state holds. It has
+//! tests alone, so that the crate with the code is proved once.
 #![tactic(auto)]
 
 #[cfg(test)]
@@ -11,6 +11,8 @@ mod limits;
 mod marks;
 #[cfg(test)]
 mod reporter;
+#[cfg(test)]
+mod restoring;
 #[cfg(test)]
 mod sequences;
 #[cfg(test)]

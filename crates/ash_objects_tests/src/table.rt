@@ -15,15 +15,32 @@ use std::test::Fail;
 
 pub type Table = Objects<Reporter>;
 
-/// A table with so many free counters, and what they report to.
-pub fn new_table(alloc: Global, counters: usize) -> Result<(Table, Log), Fail> {
-    let log = Rc::new(alloc, RefCell::new(Vec::new(alloc)))?;
+/// What counters report to.
+pub fn new_log(alloc: Global) -> Result<Log, Fail> {
+    Ok(Rc::new(alloc, RefCell::new(Vec::new(alloc)))?)
+}
+
+/// A counter that reports to a log.
+pub fn new_reporter(log: &Log) -> Result<Reporter, Fail> {
+    Ok(Reporter {
+        counter: Counter::new(),
+        log: log.clone()?,
+    })
+}
+
+/// So many counters.
+pub fn new_pool(alloc: Global, log: &Log, counters: usize) -> Result<Vec<Reporter>, Fail> {
     let mut pool = Vec::new(alloc);
     for _ in 0..counters {
-        let counter = Counter::new();
-        let log = log.clone()?;
-        pool.push(Reporter { counter, log })?;
+        pool.push(new_reporter(log)?)?;
     }
+    Ok(pool)
+}
+
+/// A table with so many free counters, and what they report to.
+pub fn new_table(alloc: Global, counters: usize) -> Result<(Table, Log), Fail> {
+    let log = new_log(alloc)?;
+    let pool = new_pool(alloc, &log, counters)?;
     Ok((Objects::new(alloc, pool, Vec::new(alloc)), log))
 }
 
