@@ -108,7 +108,7 @@ fn fault(
 }
 
 #[test]
-fn a_pool_that_is_short_is_told_first(rt: HostRuntime) -> Result<(), Fail> {
+fn a_short_pool_is_reported_first(rt: HostRuntime) -> Result<(), Fail> {
     assert_eq!(rt;
         fault(rt.alloc(), 1, &[3], &[3])?,
         Some(TableFault::PoolShort(1))
@@ -117,7 +117,7 @@ fn a_pool_that_is_short_is_told_first(rt: HostRuntime) -> Result<(), Fail> {
 }
 
 #[test]
-fn a_service_that_is_refused_is_told_next(rt: HostRuntime) -> Result<(), Fail> {
+fn a_refused_service_is_reported_next(rt: HostRuntime) -> Result<(), Fail> {
     assert_eq!(rt;
         fault(rt.alloc(), 2, &[3], &[3])?,
         Some(TableFault::RestoreRefused(0))
@@ -126,7 +126,7 @@ fn a_service_that_is_refused_is_told_next(rt: HostRuntime) -> Result<(), Fail> {
 }
 
 #[test]
-fn an_object_that_is_refused_is_told(rt: HostRuntime) -> Result<(), Fail> {
+fn a_refused_object_is_reported(rt: HostRuntime) -> Result<(), Fail> {
     assert_eq!(rt;
         fault(rt.alloc(), 2, &[3], &[8, 0, 0, 0])?,
         Some(TableFault::RestoreRefused(3))
