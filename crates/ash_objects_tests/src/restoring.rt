@@ -6,8 +6,8 @@ ghost use Rattle.ash_slots.specs.Bodies.{words_of};
 ghost use Rattle.ash_objects.specs.Restoring.{stored_in};
 
 use crate::reporter::Log;
-use crate::table::{Table, new_log, new_pool, new_reporter};
-use ash_host::Word;
+use crate::table::{Table, draw, new_log, new_pool, new_reporter};
+use ash_host::{Event, Word};
 use ash_objects::{Body, Objects, Saved, Script, Stored, TableFault, Words};
 use std::alloc::Global;
 use std::test::Fail;
@@ -93,6 +93,25 @@ fn counts_of_a_state_are_its_handles(rt: HostRuntime) -> Result<(), Fail> {
     assert_eq!(rt; objects.count(3), 2);
     assert_eq!(rt; objects.count(5), 1);
     assert_eq!(rt; objects.count(6), 0);
+    Ok(())
+}
+
+#[test]
+fn numbers_rise_from_the_last_of_a_state(rt: HostRuntime) -> Result<(), Fail> {
+    let log = new_log(rt.alloc())?;
+    let Ok(mut objects) = restored(rt.alloc(), &log, 3, &[3, 0, 0, 0], &[8, 0, 0, 0])? else {
+        return Err("it was refused")?;
+    };
+    let mut events = Vec::new(rt.alloc());
+    assert_eq!(rt; draw(&mut objects, 1, &mut events)?, 10);
+    objects.sweep(&mut events)?;
+    let expected = [
+        Event::Drew(10),
+        Event::Dropped(3),
+        Event::Dropped(5),
+        Event::Dropped(10),
+    ];
+    assert_eq!(rt; events.as_slice(), expected.as_slice());
     Ok(())
 }
 
