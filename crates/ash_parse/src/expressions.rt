@@ -371,7 +371,7 @@ fn new_array(alloc: Global, room: u32, place: Place, tokens: &[Token]) -> Readin
 {
     let (of, rest) = element(alloc, tokens)?;
     let (arguments, rest) = arguments(alloc, room, rest)?;
-    Ok((nodes::new_array(place, of, arguments), rest))
+    Ok((nodes::new_array(alloc, place, of, arguments)?, rest))
 }
 
 /// `"<" NAME ">" "(" assign ")"`, behind the word `cast`

@@ -202,7 +202,7 @@ fn handle_names_function(tokens: &[Token]) -> bool
     names_function(tokens)
 }
 
-/// Whether the tokens begin a function, and no declaration of variables. The first ten of them decide.
+/// Whether the tokens begin a function, and no declaration of variables. The first fourteen of them decide.
 #[tactic(auto, unfolding(crate::specs::ItemReader::is_function))]
 fn is_function(tokens: &[Token]) -> bool
     ensures { result ≡ reader.is_function (tokens_of tokens.now) }

@@ -37,7 +37,7 @@ links_of-row (more_of-Link o p k rest) = ap (link o (expr_at p k)) (links_of-row
 pub call_is : (p : Place) (name : String Global) (es : Vec code_expr.Expr Global) → expr_at p (kinds.Call name es) ≡ Call p (string_bytes name) (exprs (map expr_of es.items))
 call_is p name es = search (rules, kinds.the_lemmas, exprs_of-row)
 
-pub new_array_is : (p : Place) (of : code_element.Element) (es : Vec code_expr.Expr Global) → expr_at p (kinds.NewArray of es) ≡ NewArray p (element_of of) (exprs (map expr_of es.items))
+pub new_array_is : (p : Place) (of : Box code_element.Element Global) (es : Vec code_expr.Expr Global) → expr_at p (kinds.NewArray of es) ≡ NewArray p (element_of of.value) (exprs (map expr_of es.items))
 new_array_is p of es = search (rules, kinds.the_lemmas, exprs_of-row)
 
 pub method_is : (p : Place) (name : String Global) (es : Vec code_expr.Expr Global) → suffix_of (kinds.Method p name es) ≡ Method p (string_bytes name) (exprs (map expr_of es.items))

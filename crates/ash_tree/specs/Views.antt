@@ -68,7 +68,7 @@ abbrev mutual
   expr_at p (exprs_code.Call' t shape es) = Call p (string_bytes t) (exprs_of es)
   expr_at p (exprs_code.Brackets' a q k) = Brackets p (expr_at q k)
   expr_at p (exprs_code.Convert' t a q k) = Convert p t (expr_at q k)
-  expr_at p (exprs_code.NewArray' t shape es) = NewArray p (element_of t) (exprs_of es)
+  expr_at p (exprs_code.NewArray' t shape es) = NewArray p (element_of t.value) (exprs_of es)
   expr_at p (exprs_code.Cast' t a q k) = Cast p (type_name_of t) (expr_at q k)
   expr_at p (exprs_code.Postfix' a q k shape ss) = Postfix p (expr_at q k) (suffixes_of ss)
   expr_at p (exprs_code.Unary' o a q k) = Unary p o (expr_at q k)

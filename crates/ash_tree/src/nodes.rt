@@ -31,13 +31,19 @@ pub fn method(place: Place, name: String, arguments: Vec<Expr>) -> Suffix
 }
 
 /// `array<of>(arguments)`
-pub fn new_array(place: Place, of: Element, arguments: Vec<Expr>) -> Expr
-    ensures { expr_of result ≡ NewArray place (element_of of) (exprs (map expr_of arguments.items)) }
+pub fn new_array(
+    alloc: Global,
+    place: Place,
+    of: Element,
+    arguments: Vec<Expr>,
+) -> Result<Expr, AllocError>
+    ensures { IfOk result (λ e. expr_of e ≡ NewArray place (element_of of) (exprs (map expr_of arguments.items))) }
 {
-    Expr {
+    let of = Box::new(alloc, of)?;
+    Ok(Expr {
         place,
         kind: ExprKind::NewArray { of, arguments },
-    }
+    })
 }
 
 /// The operand alone, or with the operators behind it.

@@ -33,9 +33,9 @@ pub enum ExprKind {
         to: Primitive,
         value: Box<Expr>,
     },
-    /// `array<of>(arguments)`
+    /// `array<of>(arguments)`; the element's type is boxed, so that every other expression stays small
     NewArray {
-        of: Element,
+        of: Box<Element>,
         arguments: Vec<Expr>,
     },
     /// `cast<to>(value)`
