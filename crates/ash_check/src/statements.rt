@@ -303,8 +303,8 @@ fn switch_typed<'n>(
         ..*scope
     };
     let labels = cases_typed(alloc, &chosen, locals, kind_in(value.ty), labels)?;
-    integer(value.at, value.ty)?;
-    Ok(nodes::switch(place.line, value.tree, labels))
+    let of = integer(value.at, value.ty)?;
+    Ok(nodes::switch(place.line, of, value.tree, labels))
 }
 
 /// Labels, each behind those before it, with the statements behind them.

@@ -22,7 +22,7 @@ abbrev mutual
   stmt_at line (kinds.While' c a l k) = While line (expr_of c) (stmt_at l k)
   stmt_at line (kinds.DoWhile' a l k c) = DoWhile line (stmt_at l k) (expr_of c)
   stmt_at line (kinds.For' a l k c es b m j) = For line (stmt_at l k) (option_map expr_of c) (map expr_of es.items) (stmt_at m j)
-  stmt_at line (kinds.Switch' e shape cs) = Switch line (expr_of e) (cases_of cs)
+  stmt_at line (kinds.Switch' of e shape cs) = Switch line of (expr_of e) (cases_of cs)
   stmt_at line kinds.Break = Break line
   stmt_at line kinds.Continue = Continue line
   stmt_at line (kinds.Return e) = Return line (option_map expr_of e)

@@ -1,6 +1,7 @@
 -- The typed tree of a statement, without where its parts lie in memory. Each statement has the line of its first token.
 use Rattle.std.specs.Prelude.{ℕ, List, [], ◌∷◌, Option}
 use Rattle.ash_tree.specs.declared.tree.statements.Label.{Label}
+use Rattle.ash_typed.specs.declared.types.Kind.{Kind}
 use Rattle.ash_typed.specs.declared.types.Ty.{Ty}
 use Rattle.ash_typed.specs.Tree.{Expr}
 
@@ -20,7 +21,7 @@ mutual
     While : ℕ → Expr → Stmt → Stmt
     DoWhile : ℕ → Stmt → Expr → Stmt
     For : ℕ → Stmt → Option Expr → List Expr → Stmt → Stmt
-    Switch : ℕ → Expr → Cases → Stmt
+    Switch : ℕ → Kind → Expr → Cases → Stmt
     Break : ℕ → Stmt
     Continue : ℕ → Stmt
     Return : ℕ → Option Expr → Stmt

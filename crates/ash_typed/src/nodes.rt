@@ -229,13 +229,14 @@ pub fn block(line: usize, body: Vec<Stmt>) -> Stmt
     }
 }
 
-/// `switch (value) { cases }`
-pub fn switch(line: usize, value: Expr, labels: Vec<Case>) -> Stmt
-    ensures { stmt_of result ≡ Switch line (expr_of value) (cases (map case_of labels.items)) }
+/// `switch (value) { cases }`, of this integer type
+pub fn switch(line: usize, of: Kind, value: Expr, labels: Vec<Case>) -> Stmt
+    ensures { stmt_of result ≡ Switch line of (expr_of value) (cases (map case_of labels.items)) }
 {
     Stmt {
         line,
         kind: StmtKind::Switch {
+            kind: of,
             value,
             cases: labels,
         },

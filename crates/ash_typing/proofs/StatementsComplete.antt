@@ -151,7 +151,7 @@ kind_is : (of : Ty) (k : Kind) → of ≡ ty.Integer k → kind_in of ≡ Some k
 kind_is of k h = rw h refl
 
 -- `switch`, of which the labels are typed
-switch_is : (scope : Scope) (p : Place) (e : written.Expr) (cs : written.Cases) (t : Term) (k : Kind) (rows : Cases) → typed scope.env false e ≡ Ok (placed (first_at e) t) → t.ty ≡ ty.Integer k → cases_typed (switch_of scope) (Some k) [] cs ≡ Ok rows → stmt_typed scope (written.Switch p e cs) ≡ Ok (Switch p.line t.tree rows)
+switch_is : (scope : Scope) (p : Place) (e : written.Expr) (cs : written.Cases) (t : Term) (k : Kind) (rows : Cases) → typed scope.env false e ≡ Ok (placed (first_at e) t) → t.ty ≡ ty.Integer k → cases_typed (switch_of scope) (Some k) [] cs ≡ Ok rows → stmt_typed scope (written.Switch p e cs) ≡ Ok (Switch p.line k t.tree rows)
 switch_is scope p e cs t k rows h is i =
     bind_is (typed scope.env false e) _ (placed (first_at e) t) _ h
     (bind_is (cases_typed (switch_of scope) (kind_in t.ty) [] cs) _ rows _ (ap (λ kind. cases_typed (switch_of scope) kind [] cs) (kind_is t.ty k is) ∙ i)

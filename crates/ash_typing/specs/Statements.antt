@@ -136,7 +136,7 @@ abbrev mutual
   stmt_typed scope (written.While p c s) = while_typed p.line (typed scope.env false c) (stmt_typed (loop_of scope) s)
   stmt_typed scope (written.DoWhile p s c) = do_while_typed p.line (stmt_typed (loop_of scope) s) (typed scope.env false c)
   stmt_typed scope (written.For p f c es s) = for_typed p.line (stmt_typed (block_of scope) f) (maybe_typed (behind (block_of scope) f).env c) (all_typed (behind (block_of scope) f).env (written.exprs es)) (stmt_typed (loop_of (behind (block_of scope) f)) s)
-  stmt_typed scope (written.Switch p e cs) = typed scope.env false e >>= λ v. cases_typed (switch_of scope) (kind_in v.ty) [] cs >>= λ rows. integer_of v.at v.ty >>= λ kind. Ok (Switch p.line v.tree rows)
+  stmt_typed scope (written.Switch p e cs) = typed scope.env false e >>= λ v. cases_typed (switch_of scope) (kind_in v.ty) [] cs >>= λ rows. integer_of v.at v.ty >>= λ kind. Ok (Switch p.line kind v.tree rows)
   stmt_typed scope (written.Break p) = break_typed (scope.in_loop || scope.in_switch) p
   stmt_typed scope (written.Continue p) = continue_typed scope.in_loop p
   stmt_typed scope (written.Return p e) = return_typed scope p e

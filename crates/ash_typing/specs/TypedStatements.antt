@@ -113,7 +113,7 @@ mutual
         → HasType scope.env false e t
         → t.ty ≡ ty.Integer k
         → AreCases (switch_of scope) k [] cs rows
-        → IsStmt scope (written.Switch p e cs) (Switch p.line t.tree rows)
+        → IsStmt scope (written.Switch p e cs) (Switch p.line k t.tree rows)
     -- break; in a loop or a switch
     break_out : {scope : Scope} {p : place.Place}
         → (scope.in_loop || scope.in_switch) ≡ true

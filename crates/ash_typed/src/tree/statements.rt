@@ -2,7 +2,7 @@
 //! statement.
 
 use crate::tree::expressions::Expr;
-use crate::types::Ty;
+use crate::types::{Kind, Ty};
 use ash_tree::Label;
 
 /// A variable that is declared, and what it begins with: where nothing is named, with zero, `false` or null.
@@ -54,7 +54,9 @@ pub enum StmtKind {
         steps: Vec<Expr>,
         body: Box<Stmt>,
     },
+    /// The value is of an integer type, which holds the constant of each label.
     Switch {
+        kind: Kind,
         value: Expr,
         cases: Vec<Case>,
     },
