@@ -3,7 +3,7 @@
 ghost use Rattle.std.specs.Prelude.{◌≡◌, Ok, map, option_map, IfOk};
 ghost use Rattle.ash_tree.specs.Views as written;
 ghost use Rattle.ash_typed.specs.Views.{expr_of};
-ghost use Rattle.ash_typed.specs.StatementTree.{If, IfElse, While, DoWhile, For};
+ghost use Rattle.ash_typed.specs.StatementTree.{If, no_branch, branch, While, DoWhile, For};
 ghost use Rattle.ash_typed.specs.BodyViews.{stmt_of};
 ghost use Rattle.ash_typing.specs.Statements as definition;
 ghost use Rattle.ash_expressions.specs.Gives.{Gives};
@@ -26,11 +26,15 @@ pub(crate) fn if_made(line: usize, condition: Typed, inner: Box<Stmt>) -> Checki
 }
 
 fn if_of(line: usize, condition: TypedExpr, then: Box<Stmt>) -> Stmt
-    ensures { stmt_of result ≡ If line (expr_of condition) (stmt_of then.value) }
+    ensures { stmt_of result ≡ If line (expr_of condition) (stmt_of then.value) no_branch }
 {
     Stmt {
         line,
-        kind: StmtKind::If { condition, then },
+        kind: StmtKind::If {
+            condition,
+            then,
+            otherwise: None,
+        },
     }
 }
 
@@ -49,14 +53,14 @@ pub(crate) fn if_else_made(
 }
 
 fn if_else_of(line: usize, condition: TypedExpr, then: Box<Stmt>, otherwise: Box<Stmt>) -> Stmt
-    ensures { stmt_of result ≡ IfElse line (expr_of condition) (stmt_of then.value) (stmt_of otherwise.value) }
+    ensures { stmt_of result ≡ If line (expr_of condition) (stmt_of then.value) (branch (stmt_of otherwise.value)) }
 {
     Stmt {
         line,
-        kind: StmtKind::IfElse {
+        kind: StmtKind::If {
             condition,
             then,
-            otherwise,
+            otherwise: Some(otherwise),
         },
     }
 }

@@ -5,7 +5,7 @@ use Rattle.ash_typed.specs.declared.tree.statements.StmtKind.TheVariants as kind
 use Rattle.ash_typed.specs.declared.tree.statements.Stmt as stmt_code
 use Rattle.ash_typed.specs.declared.tree.statements.Case as case_code
 use Rattle.ash_typed.specs.declared.tree.statements.Initialization as initialization_code
-use Rattle.ash_typed.specs.StatementTree.{Initialization, Stmt, Empty, Declare, Evaluate, Block, If, IfElse, While, DoWhile, For, Switch, Break, Continue, Return, Stmts, no_stmt, stmt, stmts, Case, labelled, Cases, no_case, next_case}
+use Rattle.ash_typed.specs.StatementTree.{Initialization, Stmt, Empty, Declare, Evaluate, Block, If, Branch, no_branch, branch, While, DoWhile, For, Switch, Break, Continue, Return, Stmts, no_stmt, stmt, stmts, Case, labelled, Cases, no_case, next_case}
 use Rattle.ash_typed.specs.Views.{expr_of}
 
 abbrev pub value_of : initialization_code.Initialization → Initialization
@@ -17,8 +17,7 @@ abbrev mutual
   stmt_at line (kinds.Declare values) = Declare line (map value_of values.items)
   stmt_at line (kinds.Evaluate e) = Evaluate line (expr_of e)
   stmt_at line (kinds.Block' shape ss) = Block line (stmts_of ss)
-  stmt_at line (kinds.If' c a l k) = If line (expr_of c) (stmt_at l k)
-  stmt_at line (kinds.IfElse' c a l k b m j) = IfElse line (expr_of c) (stmt_at l k) (stmt_at m j)
+  stmt_at line (kinds.If' c a l k other) = If line (expr_of c) (stmt_at l k) (branch_of other)
   stmt_at line (kinds.While' c a l k) = While line (expr_of c) (stmt_at l k)
   stmt_at line (kinds.DoWhile' a l k c) = DoWhile line (stmt_at l k) (expr_of c)
   stmt_at line (kinds.For' a l k c es b m j) = For line (stmt_at l k) (option_map expr_of c) (map expr_of es.items) (stmt_at m j)
@@ -26,6 +25,10 @@ abbrev mutual
   stmt_at line kinds.Break = Break line
   stmt_at line kinds.Continue = Continue line
   stmt_at line (kinds.Return e) = Return line (option_map expr_of e)
+
+  pub branch_of : stmt_kind.Held-StmtKind-If-2 → Branch
+  branch_of stmt_kind.None' = no_branch
+  branch_of (stmt_kind.Some' a l k) = branch (stmt_at l k)
 
   pub stmts_of : {n : _} → stmt_kind.Row_of-Stmt n → Stmts
   stmts_of stmt_kind.end_of-Stmt = no_stmt

@@ -16,8 +16,7 @@ mutual
     Declare : ℕ → List Initialization → Stmt
     Evaluate : ℕ → Expr → Stmt
     Block : ℕ → Stmts → Stmt
-    If : ℕ → Expr → Stmt → Stmt
-    IfElse : ℕ → Expr → Stmt → Stmt → Stmt
+    If : ℕ → Expr → Stmt → Branch → Stmt
     While : ℕ → Expr → Stmt → Stmt
     DoWhile : ℕ → Stmt → Expr → Stmt
     For : ℕ → Stmt → Option Expr → List Expr → Stmt → Stmt
@@ -25,6 +24,11 @@ mutual
     Break : ℕ → Stmt
     Continue : ℕ → Stmt
     Return : ℕ → Option Expr → Stmt
+
+  -- what follows `else`, where it is written
+  pub data Branch : Type 0 where
+    no_branch : Branch
+    branch : Stmt → Branch
 
   pub data Stmts : Type 0 where
     no_stmt : Stmts

@@ -11,7 +11,7 @@ use Rattle.ash_typed.specs.declared.types.Ty.TheVariants as ty
 use Rattle.ash_typing.specs.Types.{fits}
 use Rattle.ash_typing.specs.Checking.{Checking}
 use Rattle.ash_typed.specs.Tree.{Expr}
-use Rattle.ash_typed.specs.StatementTree.{Initialization, Stmt, If, IfElse, While, DoWhile, For, Switch, Break, Continue, Return, Stmts, Cases}
+use Rattle.ash_typed.specs.StatementTree.{Initialization, Stmt, If, no_branch, branch, While, DoWhile, For, Switch, Break, Continue, Return, Stmts, Cases}
 use Rattle.ash_typing.specs.Environment.{Environment}
 use Rattle.ash_typing.specs.Expressions.{Typed, typed, all_typed, integer_of, bool_of, is_void}
 use Rattle.ash_typing.specs.Heads.{declared}
@@ -75,11 +75,11 @@ trees_of (t ∷ ts) = ap (λ (es : List Expr). t.tree ∷ es) (trees_of ts)
 
 -- statements of which the parts are typed
 
-if_is : (line : ℕ) (o : Checking Typed) (b : Checking Stmt) (c : Typed) (s : Stmt) (tree : Expr) → o ≡ Ok c → condition_is c ≡ Ok true → c.tree ≡ tree → b ≡ Ok s → if_typed line o b ≡ Ok (If line tree s)
+if_is : (line : ℕ) (o : Checking Typed) (b : Checking Stmt) (c : Typed) (s : Stmt) (tree : Expr) → o ≡ Ok c → condition_is c ≡ Ok true → c.tree ≡ tree → b ≡ Ok s → if_typed line o b ≡ Ok (If line tree s no_branch)
 unfolding if_typed
 if_is line o b c s tree h i j k = rw (h, k, i, sym j) refl
 
-if_else_is : (line : ℕ) (o : Checking Typed) (b r : Checking Stmt) (c : Typed) (s t : Stmt) (tree : Expr) → o ≡ Ok c → condition_is c ≡ Ok true → c.tree ≡ tree → b ≡ Ok s → r ≡ Ok t → if_else_typed line o b r ≡ Ok (IfElse line tree s t)
+if_else_is : (line : ℕ) (o : Checking Typed) (b r : Checking Stmt) (c : Typed) (s t : Stmt) (tree : Expr) → o ≡ Ok c → condition_is c ≡ Ok true → c.tree ≡ tree → b ≡ Ok s → r ≡ Ok t → if_else_typed line o b r ≡ Ok (If line tree s (branch t))
 unfolding if_else_typed
 if_else_is line o b r c s t tree h i j k l = rw (h, k, l, i, sym j) refl
 

@@ -11,7 +11,7 @@ use Rattle.ash_typed.specs.declared.types.Ty.TheVariants as ty
 use Rattle.ash_typing.specs.Types.{fits}
 use Rattle.ash_typing.specs.Checking.{Checking}
 use Rattle.ash_typed.specs.Tree.{Expr}
-use Rattle.ash_typed.specs.StatementTree.{Initialization, Stmt, Declare, If, IfElse, While, DoWhile, For, Return, Stmts, labelled, Cases, next_case}
+use Rattle.ash_typed.specs.StatementTree.{Initialization, Stmt, Declare, If, no_branch, branch, While, DoWhile, For, Return, Stmts, labelled, Cases, next_case}
 use Rattle.ash_typing.specs.Environment.{Environment, Declared}
 use Rattle.ash_typing.specs.Expressions.{Typed, typed, all_typed, integer_of, bool_of, is_void}
 use Rattle.ash_typing.specs.Heads.{declared}
@@ -120,7 +120,7 @@ steps_sound env k es ts h = all_sound env k (written.exprs es) ts h
 
 -- statements, taken apart
 
-if_parts : {P : Type 0} (line : ℕ) (o : Checking Typed) (b : Checking Stmt) (r : Stmt) → if_typed line o b ≡ Ok r → ((c : Typed) (s : Stmt) (fit : Bool) → o ≡ Ok c → b ≡ Ok s → condition_is c ≡ Ok fit → If line c.tree s ≡ r → P) → P
+if_parts : {P : Type 0} (line : ℕ) (o : Checking Typed) (b : Checking Stmt) (r : Stmt) → if_typed line o b ≡ Ok r → ((c : Typed) (s : Stmt) (fit : Bool) → o ≡ Ok c → b ≡ Ok s → condition_is c ≡ Ok fit → If line c.tree s no_branch ≡ r → P) → P
 unfolding if_typed
 if_parts line o b r h k =
     let c = bind_ok o _ r h in
@@ -128,7 +128,7 @@ if_parts line o b r h k =
     let y = bind_ok (condition_is c.0) _ r s.2 in
     k c.0 s.0 y.0 c.1 s.1 y.1 (ok_is _ r y.2)
 
-if_else_parts : {P : Type 0} (line : ℕ) (o : Checking Typed) (b e : Checking Stmt) (r : Stmt) → if_else_typed line o b e ≡ Ok r → ((c : Typed) (s t : Stmt) (fit : Bool) → o ≡ Ok c → b ≡ Ok s → e ≡ Ok t → condition_is c ≡ Ok fit → IfElse line c.tree s t ≡ r → P) → P
+if_else_parts : {P : Type 0} (line : ℕ) (o : Checking Typed) (b e : Checking Stmt) (r : Stmt) → if_else_typed line o b e ≡ Ok r → ((c : Typed) (s t : Stmt) (fit : Bool) → o ≡ Ok c → b ≡ Ok s → e ≡ Ok t → condition_is c ≡ Ok fit → If line c.tree s (branch t) ≡ r → P) → P
 unfolding if_else_typed
 if_else_parts line o b e r h k =
     let c = bind_ok o _ r h in

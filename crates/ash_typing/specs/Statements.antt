@@ -12,7 +12,7 @@ use Rattle.ash_typed.specs.declared.types.Ty.{Ty}
 use Rattle.ash_typed.specs.declared.types.Ty.TheVariants as ty
 use Rattle.ash_typing.specs.Checking.{Checking, ◌>>=◌, broken}
 use Rattle.ash_typed.specs.Tree.{Expr}
-use Rattle.ash_typed.specs.StatementTree.{Initialization, Stmt, Empty, Declare, Evaluate, Block, If, IfElse, While, DoWhile, For, Switch, Break, Continue, Return, Stmts, no_stmt, stmt, labelled, Cases, no_case, next_case}
+use Rattle.ash_typed.specs.StatementTree.{Initialization, Stmt, Empty, Declare, Evaluate, Block, If, no_branch, branch, While, DoWhile, For, Switch, Break, Continue, Return, Stmts, no_stmt, stmt, labelled, Cases, no_case, next_case}
 use Rattle.ash_typing.specs.Environment.{Declared, Environment, declares, with_locals}
 use Rattle.ash_typing.specs.Expressions.{Typed, typed, all_typed, fitted, integer_of, bool_of, is_void}
 use Rattle.ash_typing.specs.Heads.{declared, variables}
@@ -73,10 +73,10 @@ abbrev pub condition_is : Typed → Checking Bool
 condition_is t = bool_of t.at t.ty
 
 unfoldable pub if_typed : ℕ → Checking Typed → Checking Stmt → Checking Stmt
-if_typed line condition branch = condition >>= λ c. branch >>= λ s. condition_is c >>= λ yes. Ok (If line c.tree s)
+if_typed line condition inner = condition >>= λ c. inner >>= λ s. condition_is c >>= λ yes. Ok (If line c.tree s no_branch)
 
 unfoldable pub if_else_typed : ℕ → Checking Typed → Checking Stmt → Checking Stmt → Checking Stmt
-if_else_typed line condition branch other = condition >>= λ c. branch >>= λ s. other >>= λ t. condition_is c >>= λ yes. Ok (IfElse line c.tree s t)
+if_else_typed line condition inner other = condition >>= λ c. inner >>= λ s. other >>= λ t. condition_is c >>= λ yes. Ok (If line c.tree s (branch t))
 
 unfoldable pub while_typed : ℕ → Checking Typed → Checking Stmt → Checking Stmt
 while_typed line condition body = condition >>= λ c. body >>= λ s. condition_is c >>= λ yes. Ok (While line c.tree s)

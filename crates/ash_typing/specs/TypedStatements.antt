@@ -14,7 +14,7 @@ use Rattle.ash_typed.specs.declared.types.Ty.{Ty}
 use Rattle.ash_typed.specs.declared.types.Ty.TheVariants as ty
 use Rattle.ash_typing.specs.Types.{fits}
 use Rattle.ash_typed.specs.Tree.{Expr}
-use Rattle.ash_typed.specs.StatementTree.{Initialization, Stmt, Empty, Declare, Evaluate, Block, If, IfElse, While, DoWhile, For, Switch, Break, Continue, Return, Stmts, no_stmt, stmt, labelled, Cases, no_case, next_case}
+use Rattle.ash_typed.specs.StatementTree.{Initialization, Stmt, Empty, Declare, Evaluate, Block, If, no_branch, branch, While, DoWhile, For, Switch, Break, Continue, Return, Stmts, no_stmt, stmt, labelled, Cases, no_case, next_case}
 use Rattle.ash_typing.specs.Environment.{Environment}
 use Rattle.ash_typing.specs.Heads.{declared}
 use Rattle.ash_typing.specs.Declarations.{ty_in}
@@ -84,13 +84,13 @@ mutual
     if_only : {scope : Scope} {p : place.Place} {c : written.Expr} {s : written.Stmt} {tree : Expr} {t : Stmt}
         → IsCondition scope.env c tree
         → IsStmt scope s t
-        → IsStmt scope (written.If p c s) (If p.line tree t)
+        → IsStmt scope (written.If p c s) (If p.line tree t no_branch)
     -- if (c) s else r
     if_else : {scope : Scope} {p : place.Place} {c : written.Expr} {s r : written.Stmt} {tree : Expr} {t u : Stmt}
         → IsCondition scope.env c tree
         → IsStmt scope s t
         → IsStmt scope r u
-        → IsStmt scope (written.IfElse p c s r) (IfElse p.line tree t u)
+        → IsStmt scope (written.IfElse p c s r) (If p.line tree t (branch u))
     -- while (c) s
     while_loop : {scope : Scope} {p : place.Place} {c : written.Expr} {s : written.Stmt} {tree : Expr} {t : Stmt}
         → IsCondition scope.env c tree

@@ -32,11 +32,7 @@ pub enum StmtKind {
     If {
         condition: Expr,
         then: Box<Stmt>,
-    },
-    IfElse {
-        condition: Expr,
-        then: Box<Stmt>,
-        otherwise: Box<Stmt>,
+        otherwise: Option<Box<Stmt>>,
     },
     While {
         condition: Expr,
