@@ -8,7 +8,7 @@
 //!
 //! In reading order: `checks`, the whole; `faults`, what is told; `items`, the walk over a module, with `names`,
 //! `declarations` and `bodies`; `heads`, what a module declares; `statements`, the walk over a body, with `scopes`, what a
-//! statement sees, `locals`, `conditions`, `switches` and `jumps`. Beside them `returning`, which statements return.
+//! statement sees, `locals`, `conditions`, `loops`, `switches` and `jumps`. Beside them `returning`, which statements return.
 #![tactic(auto)]
 
 mod bodies;
@@ -20,6 +20,7 @@ mod heads;
 mod items;
 mod jumps;
 mod locals;
+mod loops;
 mod names;
 mod returning;
 mod scopes;

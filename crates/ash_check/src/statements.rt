@@ -9,11 +9,10 @@ ghost use Rattle.ash_expressions.specs.Gives.{Gives};
 ghost use Rattle.ash_check.specs.StatementViews.{locals_of, scope_of, stmts_in, cases_in};
 ghost use Rattle.ash_expressions.specs.Views.{declared_of};
 
-use crate::conditions::{
-    boxed, do_while_made, for_made, if_else_made, if_made, maybe_typed, while_made,
-};
+use crate::conditions::{boxed, if_else_made, if_made};
 use crate::jumps::{break_typed, continue_typed, return_typed};
 use crate::locals::vars_typed;
+use crate::loops::{do_while_made, for_made, head_typed, maybe_typed, while_made};
 use crate::scopes::Scope;
 use crate::switches::{is_last, kind_in, label};
 use ash_expressions::{Checking, Declared, all_typed, expression, integer};
@@ -223,7 +222,7 @@ fn while_typed<'n>(
         ..*scope
     };
     let inner = branch(alloc, &repeated, locals, inner)?;
-    while_made(place.line, condition, inner)
+    while_made(alloc, place.line, condition, inner)
 }
 
 /// `do inner while (condition);`
@@ -246,7 +245,7 @@ fn do_while_typed<'n>(
     };
     let inner = branch(alloc, &repeated, locals, inner)?;
     let condition = expression(&(&*scope).environment(locals), alloc, false, condition)?;
-    do_while_made(place.line, inner, condition)
+    do_while_made(alloc, place.line, inner, condition)
 }
 
 /// `for (first; condition; steps) body`
@@ -270,8 +269,7 @@ fn for_typed<'n>(
         first: kept,
         ..*scope
     };
-    let first = statement(alloc, &head, locals, first)?;
-    let first = boxed(alloc, first)?;
+    let first = head_typed(alloc, &head, locals, first)?;
     let env = head.environment(locals);
     let condition = maybe_typed(alloc, &env, condition)?;
     let steps = all_typed(&env, alloc, steps)?;

@@ -4,12 +4,20 @@ use Rattle.ash_typed.specs.declared.tree.statements.StmtKind as stmt_kind
 use Rattle.ash_typed.specs.declared.tree.statements.StmtKind.TheVariants as kinds
 use Rattle.ash_typed.specs.declared.tree.statements.Stmt as stmt_code
 use Rattle.ash_typed.specs.declared.tree.statements.Case as case_code
+use Rattle.ash_typed.specs.declared.tree.statements.Loop as loop_code
+use Rattle.ash_typed.specs.declared.tree.statements.Head as head_code
+use Rattle.ash_typed.specs.declared.tree.statements.Head.TheVariants as heads
 use Rattle.ash_typed.specs.declared.tree.statements.Initialization as initialization_code
-use Rattle.ash_typed.specs.StatementTree.{Initialization, Stmt, Empty, Declare, Evaluate, Block, If, Branch, no_branch, branch, While, DoWhile, For, Switch, Break, Continue, Return, Stmts, no_stmt, stmt, stmts, Case, labelled, Cases, no_case, next_case}
+use Rattle.ash_typed.specs.StatementTree.{Initialization, Stmt, Empty, Declare, Evaluate, Block, If, Branch, no_branch, branch, Head, no_head, declared_head, evaluated_head, Repeat, For, Loop, repeated, Switch, Break, Continue, Return, Stmts, no_stmt, stmt, stmts, Case, labelled, Cases, no_case, next_case}
 use Rattle.ash_typed.specs.Views.{expr_of}
 
 abbrev pub value_of : initialization_code.Initialization → Initialization
 value_of v = record { of = v.of; value = option_map expr_of v.value }
+
+abbrev pub head_of : head_code.Head → Head
+head_of heads.Empty = no_head
+head_of (heads.Declare values) = declared_head (map value_of values.items)
+head_of (heads.Evaluate e) = evaluated_head (expr_of e)
 
 abbrev mutual
   pub stmt_at : ℕ → stmt_kind.StmtKind → Stmt
@@ -18,9 +26,8 @@ abbrev mutual
   stmt_at line (kinds.Evaluate e) = Evaluate line (expr_of e)
   stmt_at line (kinds.Block' shape ss) = Block line (stmts_of ss)
   stmt_at line (kinds.If' c a l k other) = If line (expr_of c) (stmt_at l k) (branch_of other)
-  stmt_at line (kinds.While' c a l k) = While line (expr_of c) (stmt_at l k)
-  stmt_at line (kinds.DoWhile' a l k c) = DoWhile line (stmt_at l k) (expr_of c)
-  stmt_at line (kinds.For' a l k c es b m j) = For line (stmt_at l k) (option_map expr_of c) (map expr_of es.items) (stmt_at m j)
+  stmt_at line (kinds.Repeat inside) = Repeat line (loop_of inside)
+  stmt_at line (kinds.For head inside) = For line (head_of head) (loop_of inside)
   stmt_at line (kinds.Switch' of e shape cs) = Switch line of (expr_of e) (cases_of cs)
   stmt_at line kinds.Break = Break line
   stmt_at line kinds.Continue = Continue line
@@ -29,6 +36,9 @@ abbrev mutual
   pub branch_of : stmt_kind.Held-StmtKind-If-2 → Branch
   branch_of stmt_kind.None' = no_branch
   branch_of (stmt_kind.Some' a l k) = branch (stmt_at l k)
+
+  pub loop_of : loop_code.Loop → Loop
+  loop_of (loop_code.Loop' test c es a l k) = repeated test (option_map expr_of c) (map expr_of es.items) (stmt_at l k)
 
   pub stmts_of : {n : _} → stmt_kind.Row_of-Stmt n → Stmts
   stmts_of stmt_kind.end_of-Stmt = no_stmt

@@ -3,12 +3,19 @@ use Rattle.std.specs.Prelude.{ℕ, List, [], ◌∷◌, Option}
 use Rattle.ash_tree.specs.declared.tree.statements.Label.{Label}
 use Rattle.ash_typed.specs.declared.types.Kind.{Kind}
 use Rattle.ash_typed.specs.declared.types.Ty.{Ty}
+use Rattle.ash_typed.specs.declared.tree.statements.Test.{Test}
 use Rattle.ash_typed.specs.Tree.{Expr}
 
 -- a variable that is declared, and what it begins with: where nothing is named, with zero, `false` or null
 pub record Initialization : Type 0 where
   pub of : Ty
   pub value : Option Expr
+
+-- the head of a `for`: nothing, variables, or an expression
+pub data Head : Type 0 where
+  no_head : Head
+  declared_head : List Initialization → Head
+  evaluated_head : Expr → Head
 
 mutual
   pub data Stmt : Type 0 where
@@ -17,9 +24,8 @@ mutual
     Evaluate : ℕ → Expr → Stmt
     Block : ℕ → Stmts → Stmt
     If : ℕ → Expr → Stmt → Branch → Stmt
-    While : ℕ → Expr → Stmt → Stmt
-    DoWhile : ℕ → Stmt → Expr → Stmt
-    For : ℕ → Stmt → Option Expr → List Expr → Stmt → Stmt
+    Repeat : ℕ → Loop → Stmt
+    For : ℕ → Head → Loop → Stmt
     Switch : ℕ → Kind → Expr → Cases → Stmt
     Break : ℕ → Stmt
     Continue : ℕ → Stmt
@@ -29,6 +35,10 @@ mutual
   pub data Branch : Type 0 where
     no_branch : Branch
     branch : Stmt → Branch
+
+  -- what is repeated: when its condition is evaluated, the condition, the steps and the body
+  pub data Loop : Type 0 where
+    repeated : Test → Option Expr → List Expr → Stmt → Loop
 
   pub data Stmts : Type 0 where
     no_stmt : Stmts

@@ -19,5 +19,5 @@ pub use tree::items::{Class, Function, Module, Variables};
 pub use tree::operations::{
     Change, Conversion, Member, Method, Operands, Operation, Step, Target, Variable,
 };
-pub use tree::statements::{Case, Initialization, Stmt, StmtKind};
+pub use tree::statements::{Case, Head, Initialization, Loop, Stmt, StmtKind, Test};
 pub use types::{Kind, ObjectType, Ty};

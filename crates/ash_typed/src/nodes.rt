@@ -2,14 +2,14 @@
 
 ghost use Rattle.std.specs.Prelude.{◌≡◌, [], ◌∷◌, ◌++◌, map, option_map, IfOk};
 ghost use Rattle.ash_typed.specs.Tree.{Read, Held, Invoke, Alter, Conditional, Assign, Update, Count, Call, exprs, place_in, converted};
-ghost use Rattle.ash_typed.specs.StatementTree.{Block, Switch, labelled, cases};
+ghost use Rattle.ash_typed.specs.StatementTree.{Block, Repeat, For, repeated, Switch, labelled, cases};
 ghost use Rattle.ash_typed.specs.Views.{expr_of, place_of, linked, chained, all_linked, all_chained};
-ghost use Rattle.ash_typed.specs.BodyViews.{stmt_of, case_of, body_of};
+ghost use Rattle.ash_typed.specs.BodyViews.{stmt_of, head_of, loop_of, case_of, body_of};
 ghost use Rattle.ash_typed.specs.Flat.{base_of, links_of, first_of, operands_of};
 
 use crate::tree::expressions::{Expr, Link, Operand, Place};
 use crate::tree::operations::{Change, Conversion, Member, Method, Operation, Step, Target};
-use crate::tree::statements::{Case, Stmt, StmtKind};
+use crate::tree::statements::{Case, Head, Loop, Stmt, StmtKind, Test};
 use crate::types::Kind;
 use ash_tree::Label;
 use std::alloc::{AllocError, Global};
@@ -226,6 +226,38 @@ pub fn block(line: usize, body: Vec<Stmt>) -> Stmt
     Stmt {
         line,
         kind: StmtKind::Block(body),
+    }
+}
+
+/// What is repeated.
+pub fn repetition(test: Test, condition: Option<Expr>, steps: Vec<Expr>, body: Box<Stmt>) -> Loop
+    ensures { loop_of result ≡ repeated test (option_map expr_of condition) (map expr_of steps.items) (stmt_of body.value) }
+{
+    Loop {
+        test,
+        condition,
+        steps,
+        body,
+    }
+}
+
+/// `while` and `do`
+pub fn repeat(line: usize, inside: Loop) -> Stmt
+    ensures { stmt_of result ≡ Repeat line (loop_of inside) }
+{
+    Stmt {
+        line,
+        kind: StmtKind::Repeat(inside),
+    }
+}
+
+/// `for`
+pub fn for_loop(line: usize, head: Head, inside: Loop) -> Stmt
+    ensures { stmt_of result ≡ For line (head_of head) (loop_of inside) }
+{
+    Stmt {
+        line,
+        kind: StmtKind::For { head, inside },
     }
 }
 

@@ -10,8 +10,9 @@ use Rattle.ash_typed.specs.declared.types.Ty.{Ty}
 use Rattle.ash_typed.specs.declared.types.Ty.TheVariants as ty
 use Rattle.ash_typing.specs.Types.{fits}
 use Rattle.ash_typing.specs.Checking.{Checking}
+use Rattle.ash_typed.specs.declared.tree.statements.Test.TheVariants.{First, Last}
 use Rattle.ash_typed.specs.Tree.{Expr}
-use Rattle.ash_typed.specs.StatementTree.{Initialization, Stmt, If, no_branch, branch, While, DoWhile, For, Switch, Break, Continue, Return, Stmts, Cases}
+use Rattle.ash_typed.specs.StatementTree.{Initialization, Stmt, If, no_branch, branch, Head, no_head, declared_head, evaluated_head, Repeat, For, repeated, Switch, Break, Continue, Return, Stmts, Cases}
 use Rattle.ash_typing.specs.Environment.{Environment}
 use Rattle.ash_typing.specs.Expressions.{Typed, typed, all_typed, integer_of, bool_of, is_void}
 use Rattle.ash_typing.specs.Heads.{declared}
@@ -19,8 +20,8 @@ use Rattle.ash_typing.specs.Declarations.{ty_in, at_type, known_ty, decl_typed}
 use Rattle.ash_typing.specs.Typing.{Term, converted_to, first_at, placed, all_placed}
 use Rattle.ash_typing.specs.Returning.{is_default}
 use Rattle.ash_typing.specs.Switches.{kind_in, is_within, holds_label, is_same_constant, constant_typed, label_typed}
-use Rattle.ash_typing.specs.Statements.{Scope, behind, block_of, loop_of, switch_of, with_variables, is_taken, fresh, decls_typed, vars_typed, condition_is, if_typed, if_else_typed, while_typed, do_while_typed, maybe_typed, maybe_condition_is, tree_of, for_typed, break_typed, continue_typed, returned, return_typed, is_last, stmt_typed, stmts_typed, cases_typed}
-use Rattle.ash_typing.specs.TypedStatements.{AreDeclared, none_declared, and_declared, IsCondition, condition, MayBeCondition, endless, until, IsLabel, constant, otherwise, tree_of_term, IsStmt, empty, declare, evaluate, block, if_only, if_else, while_loop, do_loop, for_loop, switch, break_out, continue_on, return_nothing, return_value, AreStmts, no_more_stmts, more_stmts, AreCases, no_more_cases, more_cases}
+use Rattle.ash_typing.specs.Statements.{Scope, behind, block_of, loop_of, switch_of, with_variables, is_taken, fresh, decls_typed, vars_typed, condition_is, if_typed, if_else_typed, while_typed, do_while_typed, maybe_typed, maybe_condition_is, tree_of, head_typed, for_typed, break_typed, continue_typed, returned, return_typed, is_last, stmt_typed, stmts_typed, cases_typed}
+use Rattle.ash_typing.specs.TypedStatements.{AreDeclared, none_declared, and_declared, IsCondition, condition, MayBeCondition, endless, until, IsHead, heads_nothing, heads_variables, heads_expression, IsLabel, constant, otherwise, tree_of_term, IsStmt, empty, declare, evaluate, block, if_only, if_else, while_loop, do_loop, for_loop, switch, break_out, continue_on, return_nothing, return_value, AreStmts, no_more_stmts, more_stmts, AreCases, no_more_cases, more_cases}
 use Rattle.ash_typing.proofs.Bindings.{bind_is}
 use Rattle.ash_typing.proofs.TypedVariables.{known_complete}
 use Rattle.ash_typing.proofs.TypingComplete.{complete, all_complete, all_terms, terms, fitted_is}
@@ -73,6 +74,14 @@ pub trees_of : (ts : List Typed) → map tree_of ts ≡ map tree_of_term (terms 
 trees_of [] = refl
 trees_of (t ∷ ts) = ap (λ (es : List Expr). t.tree ∷ es) (trees_of ts)
 
+-- heads
+
+head_complete : {scope : Scope} {f : written.Stmt} {g : Head} → IsHead scope f g → head_typed scope f ≡ Ok g
+unfolding head_typed
+head_complete heads_nothing = refl
+head_complete (heads_variables {scope = scope} {v = v} {values = values} known h) = bind_is (vars_typed scope v) _ values _ (vars_complete scope v values (known_complete (at_type v.of) (ty_in scope.env v.of) known) h) refl
+head_complete (heads_expression {scope = scope} {e = e} {t = t} h) = bind_is (typed scope.env false e) _ (placed (first_at e) t) _ (complete h) refl
+
 -- statements of which the parts are typed
 
 if_is : (line : ℕ) (o : Checking Typed) (b : Checking Stmt) (c : Typed) (s : Stmt) (tree : Expr) → o ≡ Ok c → condition_is c ≡ Ok true → c.tree ≡ tree → b ≡ Ok s → if_typed line o b ≡ Ok (If line tree s no_branch)
@@ -83,15 +92,15 @@ if_else_is : (line : ℕ) (o : Checking Typed) (b r : Checking Stmt) (c : Typed)
 unfolding if_else_typed
 if_else_is line o b r c s t tree h i j k l = rw (h, k, l, i, sym j) refl
 
-while_is : (line : ℕ) (o : Checking Typed) (b : Checking Stmt) (c : Typed) (s : Stmt) (tree : Expr) → o ≡ Ok c → condition_is c ≡ Ok true → c.tree ≡ tree → b ≡ Ok s → while_typed line o b ≡ Ok (While line tree s)
+while_is : (line : ℕ) (o : Checking Typed) (b : Checking Stmt) (c : Typed) (s : Stmt) (tree : Expr) → o ≡ Ok c → condition_is c ≡ Ok true → c.tree ≡ tree → b ≡ Ok s → while_typed line o b ≡ Ok (Repeat line (repeated First (Some tree) [] s))
 unfolding while_typed
 while_is line o b c s tree h i j k = rw (h, k, i, sym j) refl
 
-do_while_is : (line : ℕ) (o : Checking Typed) (b : Checking Stmt) (c : Typed) (s : Stmt) (tree : Expr) → o ≡ Ok c → condition_is c ≡ Ok true → c.tree ≡ tree → b ≡ Ok s → do_while_typed line b o ≡ Ok (DoWhile line s tree)
+do_while_is : (line : ℕ) (o : Checking Typed) (b : Checking Stmt) (c : Typed) (s : Stmt) (tree : Expr) → o ≡ Ok c → condition_is c ≡ Ok true → c.tree ≡ tree → b ≡ Ok s → do_while_typed line b o ≡ Ok (Repeat line (repeated Last (Some tree) [] s))
 unfolding do_while_typed
 do_while_is line o b c s tree h i j k = rw (h, k, i, sym j) refl
 
-for_is : (line : ℕ) (f b : Checking Stmt) (o : Checking (Option Typed)) (es : Checking (List Typed)) (g s : Stmt) (c : Option Typed) (ts : List Typed) (tree : Option Expr) (trees : List Expr) → f ≡ Ok g → o ≡ Ok c → maybe_condition_is c ≡ Ok true → option_map tree_of c ≡ tree → es ≡ Ok ts → map tree_of ts ≡ trees → b ≡ Ok s → for_typed line f o es b ≡ Ok (For line g tree trees s)
+for_is : (line : ℕ) (f : Checking Head) (b : Checking Stmt) (o : Checking (Option Typed)) (es : Checking (List Typed)) (g : Head) (s : Stmt) (c : Option Typed) (ts : List Typed) (tree : Option Expr) (trees : List Expr) → f ≡ Ok g → o ≡ Ok c → maybe_condition_is c ≡ Ok true → option_map tree_of c ≡ tree → es ≡ Ok ts → map tree_of ts ≡ trees → b ≡ Ok s → for_typed line f o es b ≡ Ok (For line g (repeated First tree trees s))
 unfolding for_typed
 for_is line f b o es g s c ts tree trees h i j k l m n = rw (h, i, l, n, j, sym k, sym m) refl
 
@@ -177,11 +186,11 @@ mutual
   stmt_complete (do_loop {scope = scope} {p = p} {c = c} {s = s} {tree = tree} {t = t} i h) =
       let k = tested h in
       do_while_is p.line (typed scope.env false c) (stmt_typed (loop_of scope) s) k.of t tree k.typed k.test k.is (stmt_complete i)
-  stmt_complete (for_loop {scope = scope} {p = p} {f = f} {s = s} {c = c} {es = es} {g = g} {t = t} {tree = tree} {ts = ts} h i j k) =
+  stmt_complete (for_loop {scope = scope} {p = p} {f = f} {s = s} {c = c} {es = es} {h = g} {t = t} {tree = tree} {ts = ts} h i j k) =
       let within = behind (block_of scope) f in
       let m = maybe_tested i in
       let us = all_placed (written.exprs es) ts in
-      for_is p.line (stmt_typed (block_of scope) f) (stmt_typed (loop_of within) s) (maybe_typed within.env c) (all_typed within.env (written.exprs es)) g t m.of us tree (map tree_of_term ts) (stmt_complete h) m.typed m.test m.is (all_complete j) (trees_of us ∙ ap (map tree_of_term) (all_terms j)) (stmt_complete k)
+      for_is p.line (head_typed (block_of scope) f) (stmt_typed (loop_of within) s) (maybe_typed within.env c) (all_typed within.env (written.exprs es)) g t m.of us tree (map tree_of_term ts) (head_complete h) m.typed m.test m.is (all_complete j) (trees_of us ∙ ap (map tree_of_term) (all_terms j)) (stmt_complete k)
   stmt_complete (switch {scope = scope} {p = p} {e = e} {cs = cs} {t = t} {k = k} {rows = rows} h is i) =
       switch_is scope p e cs t k rows (complete h) is (cases_complete i)
   stmt_complete (break_out {scope = scope} {p = p} h) = break_is (scope.in_loop || scope.in_switch) p h

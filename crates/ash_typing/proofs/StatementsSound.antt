@@ -10,8 +10,9 @@ use Rattle.ash_typed.specs.declared.types.Ty.{Ty}
 use Rattle.ash_typed.specs.declared.types.Ty.TheVariants as ty
 use Rattle.ash_typing.specs.Types.{fits}
 use Rattle.ash_typing.specs.Checking.{Checking}
+use Rattle.ash_typed.specs.declared.tree.statements.Test.TheVariants.{First, Last}
 use Rattle.ash_typed.specs.Tree.{Expr}
-use Rattle.ash_typed.specs.StatementTree.{Initialization, Stmt, Declare, If, no_branch, branch, While, DoWhile, For, Return, Stmts, labelled, Cases, next_case}
+use Rattle.ash_typed.specs.StatementTree.{Initialization, Stmt, Declare, If, no_branch, branch, Head, no_head, declared_head, evaluated_head, Repeat, For, repeated, Return, Stmts, labelled, Cases, next_case}
 use Rattle.ash_typing.specs.Environment.{Environment, Declared}
 use Rattle.ash_typing.specs.Expressions.{Typed, typed, all_typed, integer_of, bool_of, is_void}
 use Rattle.ash_typing.specs.Heads.{declared}
@@ -19,8 +20,8 @@ use Rattle.ash_typing.specs.Declarations.{ty_in, at_type, known_ty, decl_typed}
 use Rattle.ash_typing.specs.Typing.{converted_to, term_of, AllHaveType, IsKnown, IsKnownType, IsKnownVariable}
 use Rattle.ash_typing.specs.Returning.{is_default}
 use Rattle.ash_typing.specs.Switches.{kind_in, is_within, holds_label, is_same_constant, constant_typed, label_typed}
-use Rattle.ash_typing.specs.Statements.{Scope, behind, block_of, loop_of, switch_of, with_variables, is_taken, fresh, decls_typed, vars_typed, condition_is, if_typed, if_else_typed, while_typed, do_while_typed, maybe_typed, maybe_condition_is, tree_of, for_typed, break_typed, continue_typed, gives_nothing, returned, return_typed, is_last, stmt_typed, stmts_typed, cases_typed}
-use Rattle.ash_typing.specs.TypedStatements.{IsKnownScope, AreDeclared, none_declared, and_declared, IsCondition, condition, MayBeCondition, endless, until, IsLabel, constant, otherwise, IsStmt, empty, declare, evaluate, block, if_only, if_else, while_loop, do_loop, for_loop, switch, break_out, continue_on, return_nothing, return_value, AreStmts, no_more_stmts, more_stmts, AreCases, no_more_cases, more_cases}
+use Rattle.ash_typing.specs.Statements.{Scope, behind, block_of, loop_of, switch_of, with_variables, is_taken, fresh, decls_typed, vars_typed, condition_is, if_typed, if_else_typed, while_typed, do_while_typed, maybe_typed, maybe_condition_is, tree_of, head_typed, for_typed, break_typed, continue_typed, gives_nothing, returned, return_typed, is_last, stmt_typed, stmts_typed, cases_typed}
+use Rattle.ash_typing.specs.TypedStatements.{IsKnownScope, AreDeclared, none_declared, and_declared, IsCondition, condition, MayBeCondition, endless, until, IsHead, heads_nothing, heads_variables, heads_expression, IsLabel, constant, otherwise, IsStmt, empty, declare, evaluate, block, if_only, if_else, while_loop, do_loop, for_loop, switch, break_out, continue_on, return_nothing, return_value, AreStmts, no_more_stmts, more_stmts, AreCases, no_more_cases, more_cases}
 use Rattle.ash_typing.proofs.Bindings.{no_err, ok_is, bind_ok, if_ok}
 use Rattle.ash_typing.proofs.TakenNames.{all_append}
 use Rattle.ash_typing.proofs.TypedVariables.{known_sound}
@@ -59,6 +60,14 @@ behind_known scope (written.Declare p v) t k h =
     more_known scope (map (declared (ty_in scope.env v.of)) v.decls) k (decls_known (ty_in scope.env v.of) v.decls (known_sound (at_type v.of) (ty_in scope.env v.of) known.0 known.1).0)
 behind_known scope _ t k h = k
 
+head_known : (scope : Scope) (f : written.Stmt) (g : Head) → IsKnownScope scope → head_typed scope f ≡ Ok g → IsKnownScope (behind scope f)
+unfolding head_typed vars_typed
+head_known scope (written.Declare p v) g k h =
+    let v_is = bind_ok (vars_typed scope v) _ g h in
+    let known = bind_ok (known_ty (at_type v.of) (ty_in scope.env v.of)) _ v_is.0 v_is.1 in
+    more_known scope (map (declared (ty_in scope.env v.of)) v.decls) k (decls_known (ty_in scope.env v.of) v.decls (known_sound (at_type v.of) (ty_in scope.env v.of) known.0 known.1).0)
+head_known scope _ g k h = k
+
 -- variables
 
 fresh_sound : (scope : Scope) (of : Ty) (d : written.Decl) (v : Declared) → fresh scope of d ≡ Ok v → (is_taken scope d.name ≡ false) × (v ≡ declared of d)
@@ -76,12 +85,39 @@ decls_sound scope k at of known (d ∷ ds) values h =
     subst (AreDeclared scope of (d ∷ ds)) (ok_is (v.0 ∷ r.0) values r.2)
     (and_declared s.0 (declared_sound scope.env k.env at of d v.0 v.1) (decls_sound (with_variables scope (declared of d ∷ [])) (more_known scope (declared of d ∷ []) k (known, tt)) at of known ds r.0 rest))
 
-vars_sound : (scope : Scope) → IsKnownScope scope → (p : Place) (v : written.Vars) (values : List Initialization) → vars_typed scope v ≡ Ok values → IsStmt scope (written.Declare p v) (Declare p.line values)
+vars_declared : (scope : Scope) → IsKnownScope scope → (v : written.Vars) (values : List Initialization) → vars_typed scope v ≡ Ok values → IsKnownType (ty_in scope.env v.of) × AreDeclared scope (ty_in scope.env v.of) v.decls values
 unfolding vars_typed
-vars_sound scope k p v values h =
+vars_declared scope k v values h =
     let o = bind_ok (known_ty (at_type v.of) (ty_in scope.env v.of)) _ values h in
     let s = known_sound (at_type v.of) (ty_in scope.env v.of) o.0 o.1 in
-    declare s.0 (decls_sound scope k (at_type v.of) (ty_in scope.env v.of) s.0 v.decls values (subst (λ (of : Ty). decls_typed scope (at_type v.of) of v.decls ≡ Ok values) s.1 o.2))
+    (s.0, decls_sound scope k (at_type v.of) (ty_in scope.env v.of) s.0 v.decls values (subst (λ (of : Ty). decls_typed scope (at_type v.of) of v.decls ≡ Ok values) s.1 o.2))
+
+vars_sound : (scope : Scope) → IsKnownScope scope → (p : Place) (v : written.Vars) (values : List Initialization) → vars_typed scope v ≡ Ok values → IsStmt scope (written.Declare p v) (Declare p.line values)
+vars_sound scope k p v values h =
+    let are = vars_declared scope k v values h in
+    declare are.0 are.1
+
+-- the head of a `for`
+head_sound : (scope : Scope) → IsKnownScope scope → (f : written.Stmt) (g : Head) → head_typed scope f ≡ Ok g → IsHead scope f g
+unfolding head_typed
+head_sound scope k (written.Empty p) g h = subst (IsHead scope (written.Empty p)) (ok_is _ g h) heads_nothing
+head_sound scope k (written.Declare p v) g h =
+    let values = bind_ok (vars_typed scope v) _ g h in
+    let are = vars_declared scope k v values.0 values.1 in
+    subst (IsHead scope (written.Declare p v)) (ok_is _ g values.2) (heads_variables are.0 are.1)
+head_sound scope k (written.Evaluate p e) g h =
+    let v = bind_ok (typed scope.env false e) _ g h in
+    subst (IsHead scope (written.Evaluate p e)) (ok_is _ g v.2) (heads_expression (sound scope.env k.env false e v.0 v.1))
+head_sound scope k (written.Block p ss) g h = absurd (no_err _ g h)
+head_sound scope k (written.If p c s) g h = absurd (no_err _ g h)
+head_sound scope k (written.IfElse p c s t) g h = absurd (no_err _ g h)
+head_sound scope k (written.While p c s) g h = absurd (no_err _ g h)
+head_sound scope k (written.DoWhile p s c) g h = absurd (no_err _ g h)
+head_sound scope k (written.For p f c es s) g h = absurd (no_err _ g h)
+head_sound scope k (written.Switch p e cs) g h = absurd (no_err _ g h)
+head_sound scope k (written.Break p) g h = absurd (no_err _ g h)
+head_sound scope k (written.Continue p) g h = absurd (no_err _ g h)
+head_sound scope k (written.Return p e) g h = absurd (no_err _ g h)
 
 -- conditions
 
@@ -137,7 +173,7 @@ if_else_parts line o b e r h k =
     let y = bind_ok (condition_is c.0) _ r t.2 in
     k c.0 s.0 t.0 y.0 c.1 s.1 t.1 y.1 (ok_is _ r y.2)
 
-while_parts : {P : Type 0} (line : ℕ) (o : Checking Typed) (b : Checking Stmt) (r : Stmt) → while_typed line o b ≡ Ok r → ((c : Typed) (s : Stmt) (fit : Bool) → o ≡ Ok c → b ≡ Ok s → condition_is c ≡ Ok fit → While line c.tree s ≡ r → P) → P
+while_parts : {P : Type 0} (line : ℕ) (o : Checking Typed) (b : Checking Stmt) (r : Stmt) → while_typed line o b ≡ Ok r → ((c : Typed) (s : Stmt) (fit : Bool) → o ≡ Ok c → b ≡ Ok s → condition_is c ≡ Ok fit → Repeat line (repeated First (Some c.tree) [] s) ≡ r → P) → P
 unfolding while_typed
 while_parts line o b r h k =
     let c = bind_ok o _ r h in
@@ -145,7 +181,7 @@ while_parts line o b r h k =
     let y = bind_ok (condition_is c.0) _ r s.2 in
     k c.0 s.0 y.0 c.1 s.1 y.1 (ok_is _ r y.2)
 
-do_parts : {P : Type 0} (line : ℕ) (b : Checking Stmt) (o : Checking Typed) (r : Stmt) → do_while_typed line b o ≡ Ok r → ((s : Stmt) (c : Typed) (fit : Bool) → b ≡ Ok s → o ≡ Ok c → condition_is c ≡ Ok fit → DoWhile line s c.tree ≡ r → P) → P
+do_parts : {P : Type 0} (line : ℕ) (b : Checking Stmt) (o : Checking Typed) (r : Stmt) → do_while_typed line b o ≡ Ok r → ((s : Stmt) (c : Typed) (fit : Bool) → b ≡ Ok s → o ≡ Ok c → condition_is c ≡ Ok fit → Repeat line (repeated Last (Some c.tree) [] s) ≡ r → P) → P
 unfolding do_while_typed
 do_parts line b o r h k =
     let s = bind_ok b _ r h in
@@ -153,7 +189,7 @@ do_parts line b o r h k =
     let y = bind_ok (condition_is c.0) _ r c.2 in
     k s.0 c.0 y.0 s.1 c.1 y.1 (ok_is _ r y.2)
 
-for_parts : {P : Type 0} (line : ℕ) (f : Checking Stmt) (o : Checking (Option Typed)) (es : Checking (List Typed)) (b : Checking Stmt) (r : Stmt) → for_typed line f o es b ≡ Ok r → ((g : Stmt) (c : Option Typed) (ts : List Typed) (s : Stmt) (fit : Bool) → f ≡ Ok g → o ≡ Ok c → es ≡ Ok ts → b ≡ Ok s → maybe_condition_is c ≡ Ok fit → For line g (option_map tree_of c) (map tree_of ts) s ≡ r → P) → P
+for_parts : {P : Type 0} (line : ℕ) (f : Checking Head) (o : Checking (Option Typed)) (es : Checking (List Typed)) (b : Checking Stmt) (r : Stmt) → for_typed line f o es b ≡ Ok r → ((g : Head) (c : Option Typed) (ts : List Typed) (s : Stmt) (fit : Bool) → f ≡ Ok g → o ≡ Ok c → es ≡ Ok ts → b ≡ Ok s → maybe_condition_is c ≡ Ok fit → For line g (repeated First (option_map tree_of c) (map tree_of ts) s) ≡ r → P) → P
 unfolding for_typed
 for_parts line f o es b r h k =
     let g = bind_ok f _ r h in
@@ -237,10 +273,10 @@ mutual
       subst (IsStmt scope (written.DoWhile p s c)) is (do_loop (stmt_sound (loop_of scope) (loop_known scope k) s u f) (condition_sound scope.env k.env c v fit e g)))
   stmt_sound scope k (written.For p f c es s) t h =
       let within = behind (block_of scope) f in
-      for_parts p.line (stmt_typed (block_of scope) f) (maybe_typed within.env c) (all_typed within.env (written.exprs es)) (stmt_typed (loop_of within) s) t h (λ g v us u fit i e j l m is.
-      let inner = behind_known (block_of scope) f g (block_known scope k) i in
-      subst (IsStmt scope (written.For p f c es s)) (ap (λ (trees : List Expr). For p.line g (option_map tree_of v) trees u) (sym (trees_of us)) ∙ is)
-      (for_loop (stmt_sound (block_of scope) (block_known scope k) f g i) (maybe_sound within.env inner.env c v fit e m) (steps_sound within.env inner.env es us j) (stmt_sound (loop_of within) (loop_known within inner) s u l)))
+      for_parts p.line (head_typed (block_of scope) f) (maybe_typed within.env c) (all_typed within.env (written.exprs es)) (stmt_typed (loop_of within) s) t h (λ g v us u fit i e j l m is.
+      let inner = head_known (block_of scope) f g (block_known scope k) i in
+      subst (IsStmt scope (written.For p f c es s)) (ap (λ (trees : List Expr). For p.line g (repeated First (option_map tree_of v) trees u)) (sym (trees_of us)) ∙ is)
+      (for_loop (head_sound (block_of scope) (block_known scope k) f g i) (maybe_sound within.env inner.env c v fit e m) (steps_sound within.env inner.env es us j) (stmt_sound (loop_of within) (loop_known within inner) s u l)))
   stmt_sound scope k (written.Switch p e cs) t h =
       let v = bind_ok (typed scope.env false e) _ t h in
       let rows = bind_ok (cases_typed (switch_of scope) (kind_in (v.0).ty) [] cs) _ t v.2 in

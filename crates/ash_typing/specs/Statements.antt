@@ -11,8 +11,9 @@ use Rattle.ash_typed.specs.declared.types.Kind.{Kind}
 use Rattle.ash_typed.specs.declared.types.Ty.{Ty}
 use Rattle.ash_typed.specs.declared.types.Ty.TheVariants as ty
 use Rattle.ash_typing.specs.Checking.{Checking, ◌>>=◌, broken}
+use Rattle.ash_typed.specs.declared.tree.statements.Test.TheVariants.{First, Last}
 use Rattle.ash_typed.specs.Tree.{Expr}
-use Rattle.ash_typed.specs.StatementTree.{Initialization, Stmt, Empty, Declare, Evaluate, Block, If, no_branch, branch, While, DoWhile, For, Switch, Break, Continue, Return, Stmts, no_stmt, stmt, labelled, Cases, no_case, next_case}
+use Rattle.ash_typed.specs.StatementTree.{Initialization, Stmt, Empty, Declare, Evaluate, Block, If, no_branch, branch, Head, no_head, declared_head, evaluated_head, Repeat, For, repeated, Switch, Break, Continue, Return, Stmts, no_stmt, stmt, labelled, Cases, no_case, next_case}
 use Rattle.ash_typing.specs.Environment.{Declared, Environment, declares, with_locals}
 use Rattle.ash_typing.specs.Expressions.{Typed, typed, all_typed, fitted, integer_of, bool_of, is_void}
 use Rattle.ash_typing.specs.Heads.{declared, variables}
@@ -67,6 +68,22 @@ decls_typed scope at of (d ∷ ds) = fresh scope of d >>= λ v. decl_typed scope
 unfoldable pub vars_typed : Scope → written.Vars → Checking (List Initialization)
 vars_typed scope v = known_ty (at_type v.of) (ty_in scope.env v.of) >>= λ of. decls_typed scope (at_type v.of) of v.decls
 
+-- the head of a `for`: nothing, variables or an expression, and no other statement
+unfoldable pub head_typed : Scope → written.Stmt → Checking Head
+head_typed scope (written.Empty p) = Ok no_head
+head_typed scope (written.Declare p v) = vars_typed scope v >>= λ values. Ok (declared_head values)
+head_typed scope (written.Evaluate p e) = typed scope.env false e >>= λ t. Ok (evaluated_head t.tree)
+head_typed scope (written.Block p ss) = broken Misplaced p.at
+head_typed scope (written.If p c s) = broken Misplaced p.at
+head_typed scope (written.IfElse p c s t) = broken Misplaced p.at
+head_typed scope (written.While p c s) = broken Misplaced p.at
+head_typed scope (written.DoWhile p s c) = broken Misplaced p.at
+head_typed scope (written.For p f c es s) = broken Misplaced p.at
+head_typed scope (written.Switch p e cs) = broken Misplaced p.at
+head_typed scope (written.Break p) = broken Misplaced p.at
+head_typed scope (written.Continue p) = broken Misplaced p.at
+head_typed scope (written.Return p e) = broken Misplaced p.at
+
 -- statements, once their parts are walked
 
 abbrev pub condition_is : Typed → Checking Bool
@@ -79,10 +96,10 @@ unfoldable pub if_else_typed : ℕ → Checking Typed → Checking Stmt → Chec
 if_else_typed line condition inner other = condition >>= λ c. inner >>= λ s. other >>= λ t. condition_is c >>= λ yes. Ok (If line c.tree s (branch t))
 
 unfoldable pub while_typed : ℕ → Checking Typed → Checking Stmt → Checking Stmt
-while_typed line condition body = condition >>= λ c. body >>= λ s. condition_is c >>= λ yes. Ok (While line c.tree s)
+while_typed line condition body = condition >>= λ c. body >>= λ s. condition_is c >>= λ yes. Ok (Repeat line (repeated First (Some c.tree) [] s))
 
 unfoldable pub do_while_typed : ℕ → Checking Stmt → Checking Typed → Checking Stmt
-do_while_typed line body condition = body >>= λ s. condition >>= λ c. condition_is c >>= λ yes. Ok (DoWhile line s c.tree)
+do_while_typed line body condition = body >>= λ s. condition >>= λ c. condition_is c >>= λ yes. Ok (Repeat line (repeated Last (Some c.tree) [] s))
 
 -- the head of a `for` may have no condition
 abbrev pub maybe_typed : Environment → Option written.Expr → Checking (Option Typed)
@@ -96,8 +113,8 @@ maybe_condition_is (Some t) = condition_is t
 abbrev pub tree_of : Typed → Expr
 tree_of t = t.tree
 
-unfoldable pub for_typed : ℕ → Checking Stmt → Checking (Option Typed) → Checking (List Typed) → Checking Stmt → Checking Stmt
-for_typed line first condition steps body = first >>= λ f. condition >>= λ c. steps >>= λ ts. body >>= λ s. maybe_condition_is c >>= λ yes. Ok (For line f (option_map tree_of c) (map tree_of ts) s)
+unfoldable pub for_typed : ℕ → Checking Head → Checking (Option Typed) → Checking (List Typed) → Checking Stmt → Checking Stmt
+for_typed line head condition steps body = head >>= λ h. condition >>= λ c. steps >>= λ ts. body >>= λ s. maybe_condition_is c >>= λ yes. Ok (For line h (repeated First (option_map tree_of c) (map tree_of ts) s))
 
 -- `break` and `continue`, where there is something that they leave
 unfoldable pub break_typed : Bool → Place → Checking Stmt
@@ -135,7 +152,7 @@ abbrev mutual
   stmt_typed scope (written.IfElse p c s t) = if_else_typed p.line (typed scope.env false c) (stmt_typed scope s) (stmt_typed scope t)
   stmt_typed scope (written.While p c s) = while_typed p.line (typed scope.env false c) (stmt_typed (loop_of scope) s)
   stmt_typed scope (written.DoWhile p s c) = do_while_typed p.line (stmt_typed (loop_of scope) s) (typed scope.env false c)
-  stmt_typed scope (written.For p f c es s) = for_typed p.line (stmt_typed (block_of scope) f) (maybe_typed (behind (block_of scope) f).env c) (all_typed (behind (block_of scope) f).env (written.exprs es)) (stmt_typed (loop_of (behind (block_of scope) f)) s)
+  stmt_typed scope (written.For p f c es s) = for_typed p.line (head_typed (block_of scope) f) (maybe_typed (behind (block_of scope) f).env c) (all_typed (behind (block_of scope) f).env (written.exprs es)) (stmt_typed (loop_of (behind (block_of scope) f)) s)
   stmt_typed scope (written.Switch p e cs) = typed scope.env false e >>= λ v. cases_typed (switch_of scope) (kind_in v.ty) [] cs >>= λ rows. integer_of v.at v.ty >>= λ kind. Ok (Switch p.line kind v.tree rows)
   stmt_typed scope (written.Break p) = break_typed (scope.in_loop || scope.in_switch) p
   stmt_typed scope (written.Continue p) = continue_typed scope.in_loop p

@@ -13,8 +13,9 @@ use Rattle.ash_typed.specs.declared.types.Kind.{Kind}
 use Rattle.ash_typed.specs.declared.types.Ty.{Ty}
 use Rattle.ash_typed.specs.declared.types.Ty.TheVariants as ty
 use Rattle.ash_typing.specs.Types.{fits}
+use Rattle.ash_typed.specs.declared.tree.statements.Test.TheVariants.{First, Last}
 use Rattle.ash_typed.specs.Tree.{Expr}
-use Rattle.ash_typed.specs.StatementTree.{Initialization, Stmt, Empty, Declare, Evaluate, Block, If, no_branch, branch, While, DoWhile, For, Switch, Break, Continue, Return, Stmts, no_stmt, stmt, labelled, Cases, no_case, next_case}
+use Rattle.ash_typed.specs.StatementTree.{Initialization, Stmt, Empty, Declare, Evaluate, Block, If, no_branch, branch, Head, no_head, declared_head, evaluated_head, Repeat, For, repeated, Switch, Break, Continue, Return, Stmts, no_stmt, stmt, labelled, Cases, no_case, next_case}
 use Rattle.ash_typing.specs.Environment.{Environment}
 use Rattle.ash_typing.specs.Heads.{declared}
 use Rattle.ash_typing.specs.Declarations.{ty_in}
@@ -50,6 +51,17 @@ pub data MayBeCondition : Environment → Option written.Expr → Option Expr �
   until : {env : Environment} {e : written.Expr} {tree : Expr}
       → IsCondition env e tree
       → MayBeCondition env (Some e) (Some tree)
+
+-- the head of a `for`: nothing, variables or an expression
+pub data IsHead : Scope → written.Stmt → Head → Type 0 where
+  heads_nothing : {scope : Scope} {p : place.Place} → IsHead scope (written.Empty p) no_head
+  heads_variables : {scope : Scope} {p : place.Place} {v : written.Vars} {values : List Initialization}
+      → IsKnownType (ty_in scope.env v.of)
+      → AreDeclared scope (ty_in scope.env v.of) v.decls values
+      → IsHead scope (written.Declare p v) (declared_head values)
+  heads_expression : {scope : Scope} {p : place.Place} {e : written.Expr} {t : Term}
+      → HasType scope.env false e t
+      → IsHead scope (written.Evaluate p e) (evaluated_head t.tree)
 
 -- The label of a `case` has a constant of the type, which no label before it has; `default` is the last label.
 pub data IsLabel : Kind → List Label → Bool → Label → Type 0 where
@@ -95,19 +107,19 @@ mutual
     while_loop : {scope : Scope} {p : place.Place} {c : written.Expr} {s : written.Stmt} {tree : Expr} {t : Stmt}
         → IsCondition scope.env c tree
         → IsStmt (loop_of scope) s t
-        → IsStmt scope (written.While p c s) (While p.line tree t)
+        → IsStmt scope (written.While p c s) (Repeat p.line (repeated First (Some tree) [] t))
     -- do s while (c);
     do_loop : {scope : Scope} {p : place.Place} {c : written.Expr} {s : written.Stmt} {tree : Expr} {t : Stmt}
         → IsStmt (loop_of scope) s t
         → IsCondition scope.env c tree
-        → IsStmt scope (written.DoWhile p s c) (DoWhile p.line t tree)
+        → IsStmt scope (written.DoWhile p s c) (Repeat p.line (repeated Last (Some tree) [] t))
     -- for (f c; e ..) s: what f declares is seen by the others
-    for_loop : {scope : Scope} {p : place.Place} {f s : written.Stmt} {c : Option written.Expr} {es : List written.Expr} {g t : Stmt} {tree : Option Expr} {ts : List Term}
-        → IsStmt (block_of scope) f g
+    for_loop : {scope : Scope} {p : place.Place} {f s : written.Stmt} {c : Option written.Expr} {es : List written.Expr} {h : Head} {t : Stmt} {tree : Option Expr} {ts : List Term}
+        → IsHead (block_of scope) f h
         → MayBeCondition (behind (block_of scope) f).env c tree
         → AllHaveType (behind (block_of scope) f).env (written.exprs es) ts
         → IsStmt (loop_of (behind (block_of scope) f)) s t
-        → IsStmt scope (written.For p f c es s) (For p.line g tree (map tree_of_term ts) t)
+        → IsStmt scope (written.For p f c es s) (For p.line h (repeated First tree (map tree_of_term ts) t))
     -- switch (e) { case .. }
     switch : {scope : Scope} {p : place.Place} {e : written.Expr} {cs : written.Cases} {t : Term} {k : Kind} {rows : Cases}
         → HasType scope.env false e t

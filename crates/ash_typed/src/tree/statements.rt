@@ -12,6 +12,24 @@ pub struct Initialization {
     pub value: Option<Expr>,
 }
 
+/// The head of a `for`. It takes no tick.
+#[derive(Debug, Drop)]
+pub enum Head {
+    Empty,
+    /// Variables, which the loop inside sees.
+    Declare(Vec<Initialization>),
+    Evaluate(Expr),
+}
+
+/// When the condition of a loop is evaluated.
+#[derive(Clone, Copy, Debug, PartialEq, Eq)]
+pub enum Test {
+    /// Before each turn.
+    First,
+    /// After each turn, so that there is at least one.
+    Last,
+}
+
 /// A statement, with the line of its first token.
 #[cycle(typed_statements)]
 #[derive(Debug, Drop)]
@@ -34,21 +52,12 @@ pub enum StmtKind {
         then: Box<Stmt>,
         otherwise: Option<Box<Stmt>>,
     },
-    While {
-        condition: Expr,
-        body: Box<Stmt>,
-    },
-    DoWhile {
-        body: Box<Stmt>,
-        condition: Expr,
-    },
-    /// The head is a block of its own; `first` declares variables, evaluates an expression, or is empty, and takes no
-    /// tick.
+    /// `while` and `do`
+    Repeat(Loop),
+    /// `for`: the head and the loop inside it are a block of their own.
     For {
-        first: Box<Stmt>,
-        condition: Option<Expr>,
-        steps: Vec<Expr>,
-        body: Box<Stmt>,
+        head: Head,
+        inside: Loop,
     },
     /// The value is of an integer type, which holds the constant of each label.
     Switch {
@@ -59,6 +68,16 @@ pub enum StmtKind {
     Break,
     Continue,
     Return(Option<Expr>),
+}
+
+/// What is repeated: the body, then the steps. An absent condition is `true`.
+#[cycle(typed_statements)]
+#[derive(Debug, Drop)]
+pub struct Loop {
+    pub test: Test,
+    pub condition: Option<Expr>,
+    pub steps: Vec<Expr>,
+    pub body: Box<Stmt>,
 }
 
 /// A label of a `switch`, with the statements behind it.

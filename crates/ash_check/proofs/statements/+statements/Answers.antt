@@ -115,6 +115,6 @@ pub for_typed-returns-clause-kept : goal.for_typed-returns-clause-kept
 for_typed-returns-clause-kept t c =
     let k : c.len-kept.result ≡ length c.args.locals.now.items = omega (arith, c.len-kept.ensures, c.args.locals.now.ok.0) in
     let scope = scope_of c.args.scope.now (locals_of c.args.locals.now) in
-    let first : Extends (locals_of c.args.locals.now) (locals_of c.statement.new.locals) = extends_next (locals_of c.args.locals.now) (at_first scope c.len-kept.result) (at_first (scope_of c.args.scope.now (locals_of c.statement.new.locals)) c.len-kept.result) (stmt_of c.args.first.now) c.in_ok-first.ensures.seen (extends_itself (locals_of c.args.locals.now)) in
+    let first : Extends (locals_of c.args.locals.now) (locals_of c.head_typed.new.locals) = extends_next (locals_of c.args.locals.now) (at_first scope c.len-kept.result) (at_first (scope_of c.args.scope.now (locals_of c.head_typed.new.locals)) c.len-kept.result) (stmt_of c.args.first.now) c.in_ok-first.ensures.seen (extends_itself (locals_of c.args.locals.now)) in
     let go : locals_of c.truncate.new.self ≡ locals_of c.args.locals.now = locals_go c.args.locals.now.items _ c.truncate.new.self.items c.len-kept.result k c.truncate.ensures.items (first.0, c.in_ok-body.ensures.kept ∙ first.1) in
     any_ok _ c.for_made.result go

@@ -37,7 +37,7 @@ abbrev pub decreases-do_while_typed : goal.decreases-do_while_typed
 decreases-do_while_typed l = 3 * size-Stmt l.inner.now + 2
 
 abbrev pub decreases-for_typed : goal.decreases-for_typed
-decreases-for_typed l = 3 * max (size-Stmt l.first.now) (size-Stmt l.body.now) + 2
+decreases-for_typed l = 3 * size-Stmt l.body.now + 2
 
 abbrev pub decreases-switch_typed : goal.decreases-switch_typed
 decreases-switch_typed l = 3 * most size-Case l.labels.now + 2

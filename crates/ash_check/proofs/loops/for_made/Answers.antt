@@ -5,7 +5,7 @@ use Rattle.ash_typing.specs.Statements as definition
 use Rattle.ash_expressions.specs.declared.stop.Stop.{Stop}
 use Rattle.ash_expressions.specs.declared.stop.Stop.TheVariants as stops
 use Rattle.ash_expressions.specs.Gives.{Fails}
-use Rattle.ash_check.proofs.conditions.for_made.Goals as goal
+use Rattle.ash_check.proofs.loops.for_made.Goals as goal
 
 fails_first : (stop : Stop) (first : Checking Bool) (rest : Bool → Checking Stmt) → Fails stop first → Fails stop (first >>= rest)
 fails_first (stops.Fault f) first rest h = ap (λ x. x >>= rest) h
