@@ -197,5 +197,9 @@ pub(crate) fn decl_typed(
     ensures { Gives value_of result (definition.decl_typed (environment_of env.now) at of (decl_of decl.now)) }
 {
     let value = initialized(alloc, env, at, decl.place.at, of, &decl.initializer)?;
-    Ok(Initialization { of, value })
+    Ok(Initialization {
+        name: decl.name.clone()?,
+        of,
+        value,
+    })
 }

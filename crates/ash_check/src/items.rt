@@ -66,13 +66,11 @@ fn vars_typed<'a>(
     let of = known(place.at, ty_in(env, &vars.of))?;
     let mut variables = Variables {
         line: place.line,
-        names: Vec::new(alloc),
         initializations: Vec::new(alloc),
     };
     for decl in &vars.decls {
         names.place(decl.place.at, decl.name.as_str())?;
         let value = decl_typed(alloc, env, place.at, of, decl)?;
-        variables.names.push(decl.name.clone()?)?;
         variables.initializations.push(value)?;
     }
     Ok(variables)

@@ -57,9 +57,9 @@ name_of d = d.name
 decls_free : (env : Environment) (at : ℕ) (of : Ty) (row : Row) (ds : List written.Decl) (done : Row) → decls_typed env at of row ds ≡ Ok done → AreFree row.names.registered (map name_of ds) × (done.names.registered ≡ row.names.registered)
 decls_free env at of row [] done e = (tt, let same : row ≡ done = cc in ap (λ (r : Row). r.names.registered) (sym same))
 decls_free env at of row (d ∷ ds) done e =
-    let h = bound (placed row.names d.place.at d.name) (λ (names : Names). decl_typed env at of d >>= λ (value : Initialization). decls_typed env at of (record { names = names; variables = with_variable row.variables d.name value }) ds) done e in
-    let g = bound (decl_typed env at of d) (λ (value : Initialization). decls_typed env at of (record { names = h.0; variables = with_variable row.variables d.name value }) ds) done h.2 in
-    let rest = decls_free env at of (record { names = h.0; variables = with_variable row.variables d.name g.0 }) ds done g.2 in
+    let h = bound (placed row.names d.place.at d.name) (λ (names : Names). decl_typed env at of d >>= λ (value : Initialization). decls_typed env at of (record { names = names; variables = with_variable row.variables value }) ds) done e in
+    let g = bound (decl_typed env at of d) (λ (value : Initialization). decls_typed env at of (record { names = h.0; variables = with_variable row.variables value }) ds) done h.2 in
+    let rest = decls_free env at of (record { names = h.0; variables = with_variable row.variables g.0 }) ds done g.2 in
     let free = placed_free row.names d.place.at d.name h.0 h.1 in
     ((free.0, subst (λ (r : List Call). AreFree r (map name_of ds)) free.1 rest.0), rest.1 ∙ free.1)
 

@@ -1,5 +1,5 @@
 -- What the code's typed statements stand for.
-use Rattle.std.specs.Prelude.{ℕ, List, map, option_map}
+use Rattle.std.specs.Prelude.{ℕ, List, map, option_map, string_bytes}
 use Rattle.ash_typed.specs.declared.tree.statements.StmtKind as stmt_kind
 use Rattle.ash_typed.specs.declared.tree.statements.StmtKind.TheVariants as kinds
 use Rattle.ash_typed.specs.declared.tree.statements.Stmt as stmt_code
@@ -12,7 +12,7 @@ use Rattle.ash_typed.specs.StatementTree.{Initialization, Stmt, Empty, Declare, 
 use Rattle.ash_typed.specs.Views.{expr_of}
 
 abbrev pub value_of : initialization_code.Initialization → Initialization
-value_of v = record { of = v.of; value = option_map expr_of v.value }
+value_of v = record { name = string_bytes v.name; of = v.of; value = option_map expr_of v.value }
 
 abbrev pub head_of : head_code.Head → Head
 head_of heads.Empty = no_head

@@ -8,10 +8,9 @@ use Rattle.ash_typed.specs.declared.types.Ty.{Ty}
 use Rattle.ash_typed.specs.StatementTree.{Initialization, Body}
 use Rattle.ash_typed.specs.BodyViews.{body_of, value_of}
 
--- variables that are declared together, with the line of their first token
+-- variables of a module that are declared together, with the line of their first token
 pub record Variables : Type 0 where
   pub line : ℕ
-  pub names : List (List ℕ)
   pub values : List Initialization
 
 -- a function, with the line of its name
@@ -39,7 +38,7 @@ pub record Module : Type 0 where
 -- what the code's typed modules stand for
 
 abbrev pub variables_of : variables.Variables → Variables
-variables_of v = record { line = v.line; names = map string_bytes v.names.items; values = map value_of v.initializations.items }
+variables_of v = record { line = v.line; values = map value_of v.initializations.items }
 
 abbrev pub function_of : function.Function → Function
 function_of f = record { name = string_bytes f.name; line = f.line; result = f.result; parameters = f.parameters.items; body = body_of f.body.items }

@@ -40,19 +40,19 @@ known_complete at ty.Null h = refl
 -- more variables behind those so far
 
 abbrev row_with : Row → List (List ℕ) → ℕ → List Initialization → Row
-row_with row names k values = record { names = grown row.names names k; variables = record { line = row.variables.line; names = row.variables.names ++ names; values = row.variables.values ++ values } }
+row_with row names k values = record { names = grown row.names names k; variables = record { line = row.variables.line; values = row.variables.values ++ values } }
 
-abbrev row_of : ℕ → Names → List (List ℕ) → List Initialization → Row
-row_of line taken names values = record { names = taken; variables = record { line = line; names = names; values = values } }
+abbrev row_of : ℕ → Names → List Initialization → Row
+row_of line taken values = record { names = taken; variables = record { line = line; values = values } }
 
-same_row : (line : ℕ) (n m : Names) (xs ys : List (List ℕ)) (vs ws : List Initialization) → n ≡ m → xs ≡ ys → vs ≡ ws → row_of line n xs vs ≡ row_of line m ys ws
-same_row line n m xs ys vs ws h i j = rw (h, i, j) refl
+same_row : (line : ℕ) (n m : Names) (vs ws : List Initialization) → n ≡ m → vs ≡ ws → row_of line n vs ≡ row_of line m ws
+same_row line n m vs ws h i = rw (h, i) refl
 
 row_with-none : (row : Row) → row_with row [] 0 [] ≡ row
-row_with-none row = same_row row.variables.line (grown row.names [] 0) row.names _ _ _ _ (grown-none row.names) (append-nil row.variables.names) (append-nil row.variables.values)
+row_with-none row = same_row row.variables.line (grown row.names [] 0) row.names _ _ (grown-none row.names) (append-nil row.variables.values)
 
 row_with-then : (row : Row) (x : List ℕ) (xs : List (List ℕ)) (k : ℕ) (v : Initialization) (vs : List Initialization) → row_with (row_with row (x ∷ []) 1 (v ∷ [])) xs k vs ≡ row_with row (x ∷ xs) (suc k) (v ∷ vs)
-row_with-then row x xs k v vs = same_row row.variables.line _ (grown row.names (x ∷ xs) (suc k)) _ _ _ _ (grown-then row.names (x ∷ []) xs 1 k (suc k) (omega arith)) (append_assoc row.variables.names (x ∷ []) xs) (append_assoc row.variables.values (v ∷ []) vs)
+row_with-then row x xs k v vs = same_row row.variables.line _ (grown row.names (x ∷ xs) (suc k)) _ _ (grown-then row.names (x ∷ []) xs 1 k (suc k) (omega arith)) (append_assoc row.variables.values (v ∷ []) vs)
 
 -- variables of one type
 
@@ -69,7 +69,7 @@ decls_sound env at of known known_of (x ∷ ds) row after d h =
     let v = bind_ok (decl_typed env at of x) _ after p.2 in
     let s = placed_sound row.names x.place.at x.name p.0 d p.1 in
     let next : Row = row_with row (x.name ∷ []) 1 (v.0 ∷ []) in
-    let there : decls_typed env at of next ds ≡ Ok after = subst (λ (n : Names). decls_typed env at of (record { names = n; variables = with_variable row.variables x.name v.0 }) ds ≡ Ok after) s.1 v.2 in
+    let there : decls_typed env at of next ds ≡ Ok after = subst (λ (n : Names). decls_typed env at of (record { names = n; variables = with_variable row.variables v.0 }) ds ≡ Ok after) s.1 v.2 in
     let go = decls_sound env at of known known_of ds next after s.0.distinct there in
     record {
       can = takes_then row.names (x.name ∷ []) (map decl_name ds) 1 (length ds) (suc (length ds)) (omega arith) s.0 go.can;
@@ -112,7 +112,6 @@ vars_sound env known names v after d h =
       typed = record {
         known = s.0;
         line = ap (λ (r : Row). r.variables.line) go.is;
-        names = ap (λ (r : Row). r.variables.names) go.is;
         values = subst (λ (r : Row). AllZip (IsDeclared env (ty_in env v.of)) v.decls r.variables.values) (sym go.is) go.each;
       };
     }
@@ -120,8 +119,6 @@ vars_sound env known names v after d h =
 pub vars_complete : (env : Environment) → IsKnown env → (names : Names) (v : written.Vars) (typed : Variables) → CanTake names (names_of v) (length v.decls) → AreVariables env v typed → vars_typed env names v ≡ Ok (record { names = grown names (names_of v) (length v.decls); variables = typed })
 unfolding vars_typed begun
 vars_complete env known names v typed can are =
-    let made : Row = row_of (written.place_of_type v.of).line (grown names (names_of v) (length v.decls)) (names_of v) typed.values in
     let l = are.line in
-    let n = are.names in
     bind_is (known_ty (at_type v.of) (ty_in env v.of)) _ (ty_in env v.of) _ (known_complete (at_type v.of) (ty_in env v.of) are.known)
-    (decls_complete env (at_type v.of) (ty_in env v.of) known are.known v.decls typed.values (begun names v) can are.values ∙ ap (λ (r : Row). Ok r) (rw (sym l, sym n) refl))
+    (decls_complete env (at_type v.of) (ty_in env v.of) known are.known v.decls typed.values (begun names v) can are.values ∙ ap (λ (r : Row). Ok r) (rw (sym l) refl))

@@ -122,5 +122,5 @@ begins_sound env known of_at at of (written.Arguments es) begins h =
 pub declared_sound : (env : Environment) → IsKnown env → (at : ℕ) (of : Ty) (d : written.Decl) (i : Initialization) → decl_typed env at of d ≡ Ok i → IsDeclared env of d i
 unfolding decl_typed
 declared_sound env known at of d i h =
-    let begins = bind_ok (initialized env at d.place.at of d.initializer) (λ value. Ok (initialization of value)) i h in
-    at_ok (λ i. IsDeclared env of d i) (initialization of begins.0) i begins.2 (declared (begins_sound env known at d.place.at of d.initializer begins.0 begins.1))
+    let begins = bind_ok (initialized env at d.place.at of d.initializer) (λ value. Ok (initialization d.name of value)) i h in
+    at_ok (λ i. IsDeclared env of d i) (initialization d.name of begins.0) i begins.2 (declared (begins_sound env known at d.place.at of d.initializer begins.0 begins.1))

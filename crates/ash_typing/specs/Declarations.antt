@@ -32,8 +32,8 @@ known_ty at t = Ok t
 
 -- what they begin with
 
-abbrev pub initialization : Ty → Option Expr → Initialization
-initialization of value = record { of = of; value = value }
+abbrev pub initialization : List ℕ → Ty → Option Expr → Initialization
+initialization name of value = record { name = name; of = of; value = value }
 
 -- objects are constructed
 
@@ -89,4 +89,4 @@ initialized env of_at at of (written.Arguments es) = all_typed env (written.expr
 
 -- a variable of this type, which is written at this offset
 unfoldable pub decl_typed : Environment → ℕ → Ty → written.Decl → Checking Initialization
-decl_typed env at of d = initialized env at d.place.at of d.initializer >>= λ value. Ok (initialization of value)
+decl_typed env at of d = initialized env at d.place.at of d.initializer >>= λ value. Ok (initialization d.name of value)

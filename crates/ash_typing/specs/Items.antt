@@ -62,15 +62,15 @@ pub record Row : Type 0 where
   pub names : Names
   pub variables : Variables
 
-abbrev pub with_variable : Variables → List ℕ → Initialization → Variables
-with_variable v name value = record { line = v.line; names = v.names ++ name ∷ []; values = v.values ++ value ∷ [] }
+abbrev pub with_variable : Variables → Initialization → Variables
+with_variable v value = record { line = v.line; values = v.values ++ value ∷ [] }
 
 abbrev pub decls_typed : Environment → ℕ → Ty → Row → List written.Decl → Checking Row
 decls_typed env at of row [] = Ok row
-decls_typed env at of row (d ∷ ds) = placed row.names d.place.at d.name >>= λ names. decl_typed env at of d >>= λ value. decls_typed env at of (record { names = names; variables = with_variable row.variables d.name value }) ds
+decls_typed env at of row (d ∷ ds) = placed row.names d.place.at d.name >>= λ names. decl_typed env at of d >>= λ value. decls_typed env at of (record { names = names; variables = with_variable row.variables value }) ds
 
 abbrev pub no_variables : written.Named → Variables
-no_variables of = record { line = (written.place_of_type of).line; names = []; values = [] }
+no_variables of = record { line = (written.place_of_type of).line; values = [] }
 
 unfoldable pub vars_typed : Environment → Names → written.Vars → Checking Row
 vars_typed env names v = known_ty (at_type v.of) (ty_in env v.of) >>= λ of. decls_typed env (at_type v.of) of (record { names = names; variables = no_variables v.of }) v.decls

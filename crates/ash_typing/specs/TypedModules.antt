@@ -120,7 +120,6 @@ IsPassedParameter env p = IsPassed (ty_in env p.of)
 pub record AreVariables (env : Environment) (v : written.Vars) (typed : Variables) : Type 0 where
   pub known : IsKnownType (ty_in env v.of)
   pub line : typed.line ≡ (written.place_of_type v.of).line
-  pub names : typed.names ≡ names_of v
   pub values : AllZip (IsDeclared env (ty_in env v.of)) v.decls typed.values
 
 -- functions

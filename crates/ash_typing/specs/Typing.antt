@@ -314,7 +314,7 @@ pub data BeginsWith (env : Environment) : Ty → written.Initializer → Option 
 pub data IsDeclared (env : Environment) : Ty → written.Decl → Initialization → Type 0 where
   declared : {of : Ty} {d : written.Decl} {value : Option Expr}
       → BeginsWith env of d.initializer value
-      → IsDeclared env of d (initialization of value)
+      → IsDeclared env of d (initialization d.name of value)
 
 -- offsets
 

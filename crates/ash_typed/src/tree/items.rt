@@ -11,11 +11,10 @@ pub struct Module {
     pub globals: Vec<Variables>,
 }
 
-/// Variables that are declared together, with the line of their first token, and what they begin with.
+/// Variables of a module that are declared together, with the line of their first token.
 #[derive(Debug, Drop)]
 pub struct Variables {
     pub line: usize,
-    pub names: Vec<String>,
     pub initializations: Vec<Initialization>,
 }
 

@@ -5,9 +5,11 @@ use crate::tree::expressions::Expr;
 use crate::types::{Kind, Ty};
 use ash_tree::Label;
 
-/// A variable that is declared, and what it begins with: where nothing is named, with zero, `false` or null.
+/// A variable that is declared: its name, its type, and what it begins with; where nothing is written, with zero, `false`
+/// or null.
 #[derive(Debug, Drop)]
 pub struct Initialization {
+    pub name: String,
     pub of: Ty,
     pub value: Option<Expr>,
 }
