@@ -174,8 +174,8 @@ fn member_typed<'a>(
 {
     match member {
         Member::Vars(vars) => {
-            let variables = vars_typed(alloc, env, names, vars)?;
-            class.fields.push(variables)?;
+            let mut variables = vars_typed(alloc, env, names, vars)?;
+            class.fields.append(&mut variables.initializations)?;
         }
         Member::Function(method) => {
             let of = result_typed(env, &method.result)?;

@@ -25,7 +25,7 @@ pub record Function : Type 0 where
 pub record Class : Type 0 where
   pub name : List ℕ
   pub line : ℕ
-  pub fields : List Variables
+  pub fields : List Initialization
   pub constructor : Option Function
   pub methods : List Function
 
@@ -44,7 +44,7 @@ abbrev pub function_of : function.Function → Function
 function_of f = record { name = string_bytes f.name; line = f.line; result = f.result; parameters = f.parameters.items; body = body_of f.body.items }
 
 abbrev pub class_of : class.Class → Class
-class_of c = record { name = string_bytes c.name; line = c.line; fields = map variables_of c.fields.items; constructor = option_map function_of c.constructor; methods = map function_of c.methods.items }
+class_of c = record { name = string_bytes c.name; line = c.line; fields = map value_of c.fields.items; constructor = option_map function_of c.constructor; methods = map function_of c.methods.items }
 
 abbrev pub module_of : script.Module → Module
 module_of m = record { classes = map class_of m.classes.items; functions = map function_of m.functions.items; globals = map variables_of m.globals.items }

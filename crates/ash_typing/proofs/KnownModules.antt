@@ -11,11 +11,11 @@ use Rattle.ash_typed.specs.declared.types.Ty.{Ty}
 use Rattle.ash_typed.specs.declared.types.Ty.TheVariants as ty
 use Rattle.ash_typing.specs.Environment.{Environment, Class, first_from, is_class}
 use Rattle.ash_typing.specs.Heads.{object_named, object_ty, handle_ty, ty_named, result_named, variables, parameter_ty, function_head, fields_in, methods_in, construction_in, named_classes, classes_in, functions_in, globals_in, heads}
-use Rattle.ash_typing.specs.Declarations.{ty_in, at_type, known_ty}
+use Rattle.ash_typing.specs.Declarations.{Initialization, ty_in, at_type, known_ty}
 use Rattle.ash_typing.specs.Typing.{IsKnown, IsKnownType, IsKnownVariable, IsKnownFunction, IsKnownClass}
 use Rattle.ash_typed.specs.Modules as modules
 use Rattle.ash_typing.specs.Items.{Names, Row, vars_typed, result_typed, parameters_typed, Routine, routine_of, constructing, routine_typed, placed, untaken, Members, constructor_named, member_typed, members_typed, no_members, inside, class_typed, one_more_class, Walked, item_typed, items_typed}
-use Rattle.ash_typing.specs.TypedModules.{classes_of, functions_of, globals_of, fields_of, methods_of, constructors_of, IsPassedParameter, IsResult, AreVariables, IsRoutine, IsFunction, HasConstructor, IsClass, AreClasses, environment}
+use Rattle.ash_typing.specs.TypedModules.{classes_of, functions_of, globals_of, fields_of, methods_of, constructors_of, IsPassedParameter, IsResult, AreVariables, AreFields, IsRoutine, IsFunction, HasConstructor, IsClass, AreClasses, environment}
 use Rattle.ash_typing.proofs.Bindings.{bind_ok}
 use Rattle.ash_typing.proofs.TakenNames.{all_append}
 use Rattle.ash_typing.proofs.StatementsSound.{decls_known}
@@ -141,6 +141,10 @@ zip_known R P one (x ∷ xs) (y ∷ ys) h = (one x y h.0, zip_known R P one xs y
 rule_vars : (env : Environment) (vs : List written.Vars) (ts : List modules.Variables) → AllZip (AreVariables env) vs ts → AllByRecursion (KnownVars (ty_in env)) vs
 rule_vars env vs ts h = zip_known (AreVariables env) (KnownVars (ty_in env)) (λ v t is. is.known) vs ts h
 
+rule_fields : (env : Environment) (vs : List written.Vars) (ts : List Initialization) → AreFields env vs ts → AllByRecursion (KnownVars (ty_in env)) vs
+rule_fields env [] ts h = tt
+rule_fields env (v ∷ vs) ts h = (h.2, rule_fields env vs h.1 h.4)
+
 rule_routine : (env : Environment) (of : Ty) (r : Routine) (t : modules.Function) → IsRoutine env of r t → AllByRecursion (KnownParameter (ty_in env)) r.parameters
 rule_routine env of r t is = passed_are_known env r.parameters is.passed
 
@@ -154,7 +158,7 @@ rule_constructors env class (c ∷ []) None h = absurd h
 rule_constructors env class (c ∷ (d ∷ cs)) t h = absurd h
 
 rule_class : (env : Environment) (place : ℕ) (c : written.Class) (t : modules.Class) → IsClass env place c t → KnownClass (ty_in env) c
-rule_class env place c t is = (rule_vars (inside env place) (fields_of c.members) t.fields is.fields, rule_functions (inside env place) (methods_of c.members) t.methods is.methods, rule_constructors (inside env place) c.name (constructors_of c.members) t.constructor is.constructor)
+rule_class env place c t is = (rule_fields (inside env place) (fields_of c.members) t.fields is.fields, rule_functions (inside env place) (methods_of c.members) t.methods is.methods, rule_constructors (inside env place) c.name (constructors_of c.members) t.constructor is.constructor)
 
 rule_classes : (env : Environment) (place : ℕ) (cs : List written.Class) (ts : List modules.Class) → AreClasses env place cs ts → AllByRecursion (KnownClass (ty_in env)) cs
 rule_classes env place [] ts h = tt

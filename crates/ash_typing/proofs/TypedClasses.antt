@@ -8,9 +8,10 @@ use Rattle.ash_tree.specs.Tree as written
 use Rattle.ash_typed.specs.declared.types.Ty.TheVariants as ty
 use Rattle.ash_typing.specs.Environment.{Environment}
 use Rattle.ash_typing.specs.Typing.{IsKnown}
+use Rattle.ash_typed.specs.StatementTree.{Initialization}
 use Rattle.ash_typed.specs.Modules.{Variables, Function, Class}
 use Rattle.ash_typing.specs.Items.{Names, placed, vars_typed, result_typed, Routine, routine_of, constructing, routine_typed, Members, constructor_named, member_typed, members_typed, no_members, inside, class_of_members, class_typed}
-use Rattle.ash_typing.specs.TypedModules.{decl_name, names_of, fields_of, methods_of, constructors_of, member_names, IsFree, AreVariables, IsFunction, IsConstructor, HasConstructor, result_in, IsClass}
+use Rattle.ash_typing.specs.TypedModules.{decl_name, names_of, fields_of, methods_of, constructors_of, member_names, IsFree, AreVariables, AreFields, IsFunction, IsConstructor, HasConstructor, result_in, IsClass}
 use Rattle.ash_typing.proofs.Bindings.{no_err, ok_is, bind_ok, bind_is, if_ok}
 use Rattle.ash_typing.proofs.TakenNames.{Distinct, grown, grown-none, grown-then, CanTake, takes_none, takes_then, takes_first, takes_rest, placed_sound, placed_complete}
 use Rattle.ash_typing.proofs.TypedVariables.{vars_sound, vars_complete}
@@ -18,19 +19,19 @@ use Rattle.ash_typing.proofs.TypedRoutines.{routine_sound, routine_complete, res
 
 -- a class so far
 
-abbrev members_of : List ℕ → ℕ → Names → List Variables → Option Function → List Function → Members
+abbrev members_of : List ℕ → ℕ → Names → List Initialization → Option Function → List Function → Members
 members_of name line names fields constructor methods = record { names = names; class = record { name = name; line = line; fields = fields; constructor = constructor; methods = methods } }
 
-abbrev members_with : Members → List (List ℕ) → ℕ → List Variables → List Function → Option Function → Members
+abbrev members_with : Members → List (List ℕ) → ℕ → List Initialization → List Function → Option Function → Members
 members_with ms names k fields methods constructor = members_of ms.class.name ms.class.line (grown ms.names names k) (ms.class.fields ++ fields) constructor (ms.class.methods ++ methods)
 
-same_members : (name : List ℕ) (line : ℕ) (n m : Names) (fs gs : List Variables) (c : Option Function) (ts us : List Function) → n ≡ m → fs ≡ gs → ts ≡ us → members_of name line n fs c ts ≡ members_of name line m gs c us
+same_members : (name : List ℕ) (line : ℕ) (n m : Names) (fs gs : List Initialization) (c : Option Function) (ts us : List Function) → n ≡ m → fs ≡ gs → ts ≡ us → members_of name line n fs c ts ≡ members_of name line m gs c us
 same_members name line n m fs gs c ts us h i j = rw (h, i, j) refl
 
 members_with-none : (ms : Members) → members_with ms [] 0 [] [] ms.class.constructor ≡ ms
 members_with-none ms = same_members ms.class.name ms.class.line (grown ms.names [] 0) ms.names _ _ ms.class.constructor _ _ (grown-none ms.names) (append-nil ms.class.fields) (append-nil ms.class.methods)
 
-members_with-then : (ms : Members) (xs ys : List (List ℕ)) (j k l : ℕ) (fs gs : List Variables) (ts us : List Function) (b c : Option Function) → l ≡ j + k → members_with (members_with ms xs j fs ts b) ys k gs us c ≡ members_with ms (xs ++ ys) l (fs ++ gs) (ts ++ us) c
+members_with-then : (ms : Members) (xs ys : List (List ℕ)) (j k l : ℕ) (fs gs : List Initialization) (ts us : List Function) (b c : Option Function) → l ≡ j + k → members_with (members_with ms xs j fs ts b) ys k gs us c ≡ members_with ms (xs ++ ys) l (fs ++ gs) (ts ++ us) c
 members_with-then ms xs ys j k l fs gs ts us b c e = same_members ms.class.name ms.class.line (grown (grown ms.names xs j) ys k) (grown ms.names (xs ++ ys) l) _ _ c _ _ (grown-then ms.names xs ys j k l e) (append_assoc ms.class.fields fs gs) (append_assoc ms.class.methods ts us)
 
 pub count_names : (v : written.Vars) (rest : List (List ℕ)) → length (names_of v ++ rest) ≡ length v.decls + length rest
@@ -86,8 +87,8 @@ named_complete class c h e =
 
 record MembersGone (env : Environment) (ms : Members) (written_members : List written.Member) (after : Members) : Type 0 where
   can : CanTake ms.names (member_names written_members) (length (member_names written_members))
-  fields : List Variables
-  are_fields : AllZip (AreVariables env) (fields_of written_members) fields
+  fields : List Initialization
+  are_fields : AreFields env (fields_of written_members) fields
   methods : List Function
   are_methods : AllZip (IsFunction env) (methods_of written_members) methods
   constructor : Option Function
@@ -99,7 +100,7 @@ unfolding member_typed
 members_sound env known [] ms after d h = record {
   can = takes_none ms.names d;
   fields = [];
-  are_fields = tt;
+  are_fields = refl;
   methods = [];
   are_methods = tt;
   constructor = ms.class.constructor;
@@ -110,19 +111,19 @@ members_sound env known (written.AField v ∷ xs) ms after d h =
     let m = bind_ok (member_typed env ms (written.AField v)) _ after h in
     let r = bind_ok (vars_typed env ms.names v) _ m.0 m.1 in
     let g = vars_sound env known ms.names v r.0 d r.1 in
-    let next : Members = members_with ms (names_of v) (length v.decls) (r.0.variables ∷ []) [] ms.class.constructor in
+    let next : Members = members_with ms (names_of v) (length v.decls) r.0.variables.values [] ms.class.constructor in
     let step : m.0 ≡ next = sym (ok_is _ m.0 r.2) ∙ same_members ms.class.name ms.class.line r.0.names next.names _ _ ms.class.constructor _ _ g.taken refl (sym (append-nil ms.class.methods)) in
     let go = members_sound env known xs next after g.can.distinct (subst (λ (x : Members). members_typed env x xs ≡ Ok after) step m.2) in
     let count = count_names v (member_names xs) in
     record {
       can = takes_then ms.names (names_of v) (member_names xs) (length v.decls) (length (member_names xs)) _ count g.can go.can;
-      fields = r.0.variables ∷ go.fields;
-      are_fields = (g.typed, go.are_fields);
+      fields = r.0.variables.values ++ go.fields;
+      are_fields = (r.0.variables.values, go.fields, g.typed.known, g.typed.values, go.are_fields, refl);
       methods = go.methods;
       are_methods = go.are_methods;
       constructor = go.constructor;
       constructs = go.constructs;
-      is = go.is ∙ members_with-then ms (names_of v) (member_names xs) (length v.decls) (length (member_names xs)) _ (r.0.variables ∷ []) go.fields [] go.methods ms.class.constructor go.constructor count;
+      is = go.is ∙ members_with-then ms (names_of v) (member_names xs) (length v.decls) (length (member_names xs)) _ r.0.variables.values go.fields [] go.methods ms.class.constructor go.constructor count;
     }
 members_sound env known (written.AMethod f ∷ xs) ms after d h =
     let m = bind_ok (member_typed env ms (written.AMethod f)) _ after h in
@@ -166,23 +167,26 @@ members_sound env known (written.AConstructor c ∷ xs) ms after d h =
       is = go.is ∙ members_with-then ms [] (member_names xs) 0 k k [] go.fields [] go.methods (Some t.0) go.constructor (omega arith);
     }
 
-members_complete : (env : Environment) → IsKnown env → (xs : List written.Member) (ms : Members) (fs : List Variables) (ts : List Function) (o : Option Function) → CanTake ms.names (member_names xs) (length (member_names xs)) → AllZip (AreVariables env) (fields_of xs) fs → AllZip (IsFunction env) (methods_of xs) ts → Constructs env ms.class.name ms.class.constructor (constructors_of xs) o → members_typed env ms xs ≡ Ok (members_with ms (member_names xs) (length (member_names xs)) fs ts o)
+members_complete : (env : Environment) → IsKnown env → (xs : List written.Member) (ms : Members) (fs : List Initialization) (ts : List Function) (o : Option Function) → CanTake ms.names (member_names xs) (length (member_names xs)) → AreFields env (fields_of xs) fs → AllZip (IsFunction env) (methods_of xs) ts → Constructs env ms.class.name ms.class.constructor (constructors_of xs) o → members_typed env ms xs ≡ Ok (members_with ms (member_names xs) (length (member_names xs)) fs ts o)
 unfolding member_typed
-members_complete env known [] ms [] [] o can are_fs are_ts constructs = ap (λ (x : Members). Ok x) (sym (members_with-none ms) ∙ ap (members_with ms [] 0 [] []) (sym (constructs_nothing env ms.class.name ms.class.constructor o constructs)))
-members_complete env known [] ms (f ∷ fs) ts o can are_fs are_ts constructs = absurd are_fs
-members_complete env known [] ms [] (t ∷ ts) o can are_fs are_ts constructs = absurd are_ts
-members_complete env known (written.AField v ∷ xs) ms [] ts o can are_fs are_ts constructs = absurd are_fs
-members_complete env known (written.AField v ∷ xs) ms (f ∷ fs) ts o can are_fs are_ts constructs =
+members_complete env known [] ms fs [] o can are_fs are_ts constructs = ap (λ (x : Members). Ok x) (sym (members_with-none ms) ∙ ap (members_with ms [] 0 [] []) (sym (constructs_nothing env ms.class.name ms.class.constructor o constructs)) ∙ ap (λ (xs : List Initialization). members_with ms [] 0 xs [] o) (sym are_fs))
+members_complete env known [] ms fs (t ∷ ts) o can are_fs are_ts constructs = absurd are_ts
+members_complete env known (written.AField v ∷ xs) ms fs ts o can are_fs are_ts constructs =
+    let values = are_fs.0 in
+    let more = are_fs.1 in
+    let f : Variables = record { line = (written.place_of_type v.of).line; values = values } in
+    let are : AreVariables env v f = record { known = are_fs.2; line = refl; values = are_fs.3 } in
     let j = length v.decls in
     let k = length (member_names xs) in
     let count = count_names v (member_names xs) in
     let first = takes_first ms.names (names_of v) (member_names xs) j k _ count can in
     let rest = takes_rest ms.names (names_of v) (member_names xs) j k _ count can in
-    let next : Members = members_with ms (names_of v) j (f ∷ []) [] ms.class.constructor in
+    let next : Members = members_with ms (names_of v) j values [] ms.class.constructor in
     bind_is (member_typed env ms (written.AField v)) _ next _
-    (bind_is (vars_typed env ms.names v) _ _ next (vars_complete env known ms.names v f first are_fs.0)
+    (bind_is (vars_typed env ms.names v) _ _ next (vars_complete env known ms.names v f first are)
     (ap (λ (x : Members). Ok x) (same_members ms.class.name ms.class.line next.names next.names _ _ ms.class.constructor _ _ refl refl (sym (append-nil ms.class.methods)))))
-    (members_complete env known xs next fs ts o rest are_fs.1 are_ts constructs ∙ ap (λ (x : Members). Ok x) (members_with-then ms (names_of v) (member_names xs) j k _ (f ∷ []) fs [] ts ms.class.constructor o count))
+    (members_complete env known xs next more ts o rest are_fs.4 are_ts constructs
+    ∙ ap (λ (x : Members). Ok x) (members_with-then ms (names_of v) (member_names xs) j k _ values more [] ts ms.class.constructor o count ∙ ap (λ (fields : List Initialization). members_with ms (member_names (written.AField v ∷ xs)) (length (member_names (written.AField v ∷ xs))) fields ts o) (sym are_fs.5)))
 members_complete env known (written.AMethod f ∷ xs) ms fs [] o can are_fs are_ts constructs = absurd are_ts
 members_complete env known (written.AMethod f ∷ xs) ms fs (t ∷ ts) o can are_fs are_ts constructs =
     let k = length (member_names xs) in

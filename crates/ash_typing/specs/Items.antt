@@ -112,7 +112,7 @@ pub record Members : Type 0 where
   pub class : Class
 
 abbrev pub with_fields : Class → Variables → Class
-with_fields c v = record { name = c.name; line = c.line; fields = c.fields ++ v ∷ []; constructor = c.constructor; methods = c.methods }
+with_fields c v = record { name = c.name; line = c.line; fields = c.fields ++ v.values; constructor = c.constructor; methods = c.methods }
 
 abbrev pub with_method : Class → Function → Class
 with_method c f = record { name = c.name; line = c.line; fields = c.fields; constructor = c.constructor; methods = c.methods ++ f ∷ [] }

@@ -11,7 +11,7 @@ use Rattle.ash_typed.specs.declared.types.Ty.TheVariants as ty
 use Rattle.ash_typing.specs.Environment.{Declared, Environment, named_in}
 use Rattle.ash_typing.specs.Typing.{IsKnownType, IsDeclared}
 use Rattle.ash_typing.specs.Heads.{heads, result_named}
-use Rattle.ash_typing.specs.Declarations.{ty_in}
+use Rattle.ash_typing.specs.Declarations.{Initialization, ty_in}
 use Rattle.ash_typing.specs.Bodies.{Body, body_scope, returns_in, with_locals}
 use Rattle.ash_typing.specs.TypedStatements.{AreStmts}
 use Rattle.ash_typed.specs.Modules.{Variables, Function, Class, Module}
@@ -122,6 +122,11 @@ pub record AreVariables (env : Environment) (v : written.Vars) (typed : Variable
   pub line : typed.line ≡ (written.place_of_type v.of).line
   pub values : AllZip (IsDeclared env (ty_in env v.of)) v.decls typed.values
 
+-- the fields of a class: the variables of each declaration, in source order
+abbrev pub AreFields : Environment → List written.Vars → List Initialization → Type 0
+AreFields env [] typed = typed ≡ []
+AreFields env (v ∷ vs) typed = (values : List Initialization) × (more : List Initialization) × IsKnownType (ty_in env v.of) × AllZip (IsDeclared env (ty_in env v.of)) v.decls values × AreFields env vs more × (typed ≡ values ++ more)
+
 -- functions
 
 -- parameters and the variables of a body are one block
@@ -172,7 +177,7 @@ pub record IsClass (env : Environment) (place : ℕ) (c : written.Class) (typed 
   pub line : typed.line ≡ c.place.line
   pub differ : IsDistinct bytes_eq (member_names c.members)
   pub few : length (member_names c.members) ≤ 32
-  pub fields : AllZip (AreVariables (inside env place)) (fields_of c.members) typed.fields
+  pub fields : AreFields (inside env place) (fields_of c.members) typed.fields
   pub methods : AllZip (IsFunction (inside env place)) (methods_of c.members) typed.methods
   pub constructor : HasConstructor (inside env place) c.name (constructors_of c.members) typed.constructor
 

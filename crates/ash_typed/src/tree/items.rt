@@ -18,12 +18,12 @@ pub struct Variables {
     pub initializations: Vec<Initialization>,
 }
 
-/// A class, with the line of its name.
+/// A class, with the line of its name. Its fields take no tick, so that they have no line.
 #[derive(Debug, Drop)]
 pub struct Class {
     pub name: String,
     pub line: usize,
-    pub fields: Vec<Variables>,
+    pub fields: Vec<Initialization>,
     /// The constructor, where one is written. Its name is the class's.
     pub constructor: Option<Function>,
     pub methods: Vec<Function>,
