@@ -79,7 +79,7 @@ fn local_in(stmt: &Stmt) -> Option<usize> {
         _ => return None,
     };
     match value {
-        Some(Expr::Variable(Variable::Local(slot))) => Some(*slot),
+        Some(Expr::Variable(Variable::Local { slot, .. })) => Some(*slot),
         _ => None,
     }
 }

@@ -111,7 +111,10 @@ pub(crate) fn this(at: usize, class: Option<usize>) -> Checking<Typed>
 {
     match class {
         None => Err(broken(Rule::Misplaced, at)),
-        Some(class) => Ok(made(at, Ty::Handle(ObjectType::Class(class)), Expr::This)),
+        Some(class) => {
+            let of = Ty::Handle(ObjectType::Class(class));
+            Ok(made(at, of, Expr::This(class)))
+        }
     }
 }
 
@@ -145,7 +148,12 @@ pub(crate) fn field(
     match base.ty {
         Ty::Object(of) | Ty::Handle(of) => member(env, alloc, base, of, at, name),
         Ty::Unknown => {
-            let tree = nodes::member(alloc, base.tree, Member::Field(0))?;
+            let unknown = Member::Field {
+                class: 0,
+                place: 0,
+                of: Ty::Unknown,
+            };
+            let tree = nodes::member(alloc, base.tree, unknown)?;
             Ok(made(base.at, Ty::Unknown, tree))
         }
         _ => Err(broken(Rule::TypeMismatch, base.at)),

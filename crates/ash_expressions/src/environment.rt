@@ -121,12 +121,17 @@ fn gives(primitive: Option<Primitive>) -> Ty
     }
 }
 
-/// A field of a class, with its type.
-fn field_of(class: &Class, name: &str) -> Option<(Member, Ty)>
-    ensures { result ≡ environment.field_in (class_of class.now) name.now }
+/// A field of the class of this place, with its type.
+fn field_of(class: usize, of: &Class, name: &str) -> Option<(Member, Ty)>
+    ensures { result ≡ environment.field_in class (class_of of.now) name.now }
 {
-    let (place, of) = first_declared(&class.fields, name)?;
-    Some((Member::Field(place), of))
+    let (place, ty) = first_declared(&of.fields, name)?;
+    let member = Member::Field {
+        class,
+        place,
+        of: ty,
+    };
+    Some((member, ty))
 }
 
 /// A local, with its type.
@@ -134,7 +139,7 @@ fn local_of(locals: &[Declared], name: &str) -> Option<(Expr, Ty)>
     ensures { option_map known_of result ≡ environment.local_in (map declared_of locals.now) name.now }
 {
     let (slot, of) = last_declared(locals, name)?;
-    Some((Expr::Variable(Variable::Local(slot)), of))
+    Some((Expr::Variable(Variable::Local { slot, of }), of))
 }
 
 /// A global, with its type.
@@ -142,7 +147,7 @@ fn global_of(heads: &Heads, name: &str) -> Option<(Expr, Ty)>
     ensures { option_map known_of result ≡ environment.global_in (map declared_of heads.now.globals.items) name.now }
 {
     let (place, of) = heads.global(name)?;
-    Some((Expr::Variable(Variable::Global(place)), of))
+    Some((Expr::Variable(Variable::Global { place, of }), of))
 }
 
 /// A function of the module, as it is called.
@@ -150,9 +155,13 @@ fn function_called<'a>(heads: &'a Heads<'_>, name: &str) -> Option<Callee<'a>>
     ensures { option_map callee_of result ≡ environment.function_in (map function_of heads.now.functions.items) name.now }
 {
     let (place, function) = heads.function(name)?;
+    let result = function.result;
     Some(Callee {
-        target: Target::Function(place),
-        result: function.result,
+        target: Target::Function {
+            function: place,
+            result,
+        },
+        result,
         parameters: Some(Parameters::Script(&function.parameters)),
     })
 }
@@ -174,9 +183,14 @@ fn method_of<'a>(class: usize, of: &'a Class<'_>, name: &str) -> Option<Invoked<
     ensures { option_map invoked_of result ≡ environment.class_method class name.now (class_of of.now) }
 {
     let (method, function) = first_function(&of.methods, name)?;
+    let result = function.result;
     Some(Invoked {
-        method: Method::Script { class, method },
-        result: function.result,
+        method: Method::Script {
+            class,
+            method,
+            result,
+        },
+        result,
         parameters: Parameters::Script(&function.parameters),
     })
 }
@@ -260,13 +274,13 @@ impl<'a, 'n> Environment<'a, 'n> {
     fn own_field(&self, alloc: Global, name: &str) -> Result<Option<(Expr, Ty)>, AllocError>
         ensures { IfOk result (λ found. option_map known_of found ≡ environment.own_field_in (environment_of self.now) name.now) }
     {
-        let Some((_, class)) = self.this_class() else {
+        let Some((place, class)) = self.this_class() else {
             return Ok(None);
         };
-        let Some((member, of)) = field_of(class, name) else {
+        let Some((member, of)) = field_of(place, class, name) else {
             return Ok(None);
         };
-        Ok(Some((nodes::member(alloc, Expr::This, member)?, of)))
+        Ok(Some((nodes::member(alloc, Expr::This(place), member)?, of)))
     }
 
     /// A name alone: a local, else a field of the object that runs, else a global.
@@ -293,9 +307,14 @@ impl<'a, 'n> Environment<'a, 'n> {
     {
         let (class, of) = self.this_class()?;
         let (method, function) = first_function(&of.methods, name)?;
+        let result = function.result;
         Some(Callee {
-            target: Target::Method { class, method },
-            result: function.result,
+            target: Target::Method {
+                class,
+                method,
+                result,
+            },
+            result,
             parameters: Some(Parameters::Script(&function.parameters)),
         })
     }
@@ -377,7 +396,7 @@ impl<'a, 'n> Environment<'a, 'n> {
         ensures { result ≡ environment.member_in (environment_of self.now) of name.now }
     {
         match of {
-            ObjectType::Class(place) => field_of(self.heads.classes.get(place)?, name),
+            ObjectType::Class(place) => field_of(place, self.heads.classes.get(place)?, name),
             ObjectType::Host(kind) => property(self.host_member(kind, name)?),
         }
     }

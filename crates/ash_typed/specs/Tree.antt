@@ -16,7 +16,7 @@ mutual
     Number : Kind → ℕ → Expr
     Truth : Bool → Expr
     Null : Expr
-    This : Expr
+    This : ℕ → Expr
     Read : Place → Expr
     Invoke : Expr → Method → Exprs → Expr
     Convert : Conversion → Expr → Expr

@@ -14,7 +14,7 @@ abbrev mutual
   expr_of (variants.Number kind value) = Number kind value
   expr_of (variants.Bool b) = Truth b
   expr_of variants.Null = Null
-  expr_of variants.This = This
+  expr_of (variants.This class) = This class
   expr_of (variants.Variable v) = Read (Stored v)
   expr_of (variants.Path' a base shape row) = linked_by (expr_of base) row
   expr_of (variants.Convert' conversion a value) = Convert conversion (expr_of value)

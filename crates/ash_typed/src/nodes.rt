@@ -175,7 +175,7 @@ pub fn place(alloc: Global, expr: Expr) -> Result<Option<Place>, AllocError>
     match expr {
         Expr::Variable(variable) => Ok(Some(Place::Variable(variable))),
         Expr::Path { base, links } => member_of(alloc, base, links),
-        Expr::Number { .. } | Expr::Bool(_) | Expr::Null | Expr::This => Ok(None),
+        Expr::Number { .. } | Expr::Bool(_) | Expr::Null | Expr::This(_) => Ok(None),
         Expr::Chain { first, operands } => chain_place(alloc, first, operands),
         Expr::Convert { .. } | Expr::Change { .. } => Ok(None),
         Expr::Conditional { .. } | Expr::Assign { .. } | Expr::Update { .. } => Ok(None),

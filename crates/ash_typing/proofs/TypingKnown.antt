@@ -130,16 +130,16 @@ beside_known _ other t h = taking_known other.alone other.ty t.alone t h
 class_known : (env : Environment) → IsKnown env → IfSome (this_class env) (λ c. IsKnownClass c.1)
 class_known env known = if_any (λ (c : ℕ × Class). IsKnownClass c.1) (λ (i : ℕ). option_map (λ (c : Class). (i, c)) (slice_get env.heads.classes i)) env.this (λ i. if_map (λ (c : ℕ × Class). IsKnownClass c.1) (λ (c : Class). (i, c)) (slice_get env.heads.classes i) (if_get IsKnownClass env.heads.classes i known.classes))
 
-field_known : (c : Class) (text : List ℕ) → IsKnownClass c → IfSome (field_in c text) (λ found. IsKnownType found.1)
-field_known c text known = if_map (λ (found : Member × Ty). IsKnownType found.1) (λ (found : ℕ × Declared). (Field found.0, found.1.of)) (first_from (declares text) 0 c.fields) (if_first IsKnownVariable (declares text) 0 c.fields known.fields)
+field_known : (class : ℕ) (c : Class) (text : List ℕ) → IsKnownClass c → IfSome (field_in class c text) (λ found. IsKnownType found.1)
+field_known class c text known = if_map (λ (found : Member × Ty). IsKnownType found.1) (λ (found : ℕ × Declared). (Field class found.0 found.1.of, found.1.of)) (first_from (declares text) 0 c.fields) (if_first IsKnownVariable (declares text) 0 c.fields known.fields)
 
 variable_known : (env : Environment) (text : List ℕ) → IsKnown env → IfSome (variable_in env text) (λ found. IsKnownType found.1)
 unfolding variable_in
 variable_known env text known =
     let Q : Known → Type 0 = λ found. IsKnownType found.1 in
-    let local = if_map Q (λ (found : ℕ × Ty). (Read (Stored (variables.Local found.0)), found.1)) (last_named text 0 None env.locals) (if_last text 0 None env.locals known.locals tt) in
-    let own = if_then (λ (c : ℕ × Class). IsKnownClass c.1) Q (λ (c : ℕ × Class). option_map (λ (found : Member × Ty). (Read (Held This found.0), found.1)) (field_in c.1 text)) (this_class env) (λ c h. if_map Q (λ (found : Member × Ty). (Read (Held This found.0), found.1)) (field_in c.1 text) (field_known c.1 text h)) (class_known env known) in
-    let global = if_map Q (λ (found : ℕ × Declared). (Read (Stored (variables.Global found.0)), found.1.of)) (first_from (declares text) 0 env.heads.globals) (if_first IsKnownVariable (declares text) 0 env.heads.globals known.globals) in
+    let local = if_map Q (λ (found : ℕ × Ty). (Read (Stored (variables.Local found.0 found.1)), found.1)) (last_named text 0 None env.locals) (if_last text 0 None env.locals known.locals tt) in
+    let own = if_then (λ (c : ℕ × Class). IsKnownClass c.1) Q (λ (c : ℕ × Class). option_map (λ (found : Member × Ty). (Read (Held (This c.0) found.0), found.1)) (field_in c.0 c.1 text)) (this_class env) (λ c h. if_map Q (λ (found : Member × Ty). (Read (Held (This c.0) found.0), found.1)) (field_in c.0 c.1 text) (field_known c.0 c.1 text h)) (class_known env known) in
+    let global = if_map Q (λ (found : ℕ × Declared). (Read (Stored (variables.Global found.0 found.1.of)), found.1.of)) (first_from (declares text) 0 env.heads.globals) (if_first IsKnownVariable (declares text) 0 env.heads.globals known.globals) in
     if_or Q (local_in env.locals text) (option_or (own_field_in env text) (global_in env.heads.globals text)) local (if_or Q (own_field_in env text) (global_in env.heads.globals text) own global)
 
 function_known : (text : List ℕ) (fs : List Function) → AllByRecursion IsKnownFunction fs → IfSome (first_from (is_called text) 0 fs) (λ found. IsKnownType found.1.result)
@@ -165,8 +165,8 @@ callee_known : (env : Environment) (text : List ℕ) → IsKnown env → IfSome 
 unfolding callee_in
 callee_known env text known =
     let Q : Callee → Type 0 = λ callee. IsKnownType callee.result in
-    let own = if_then (λ (c : ℕ × Class). IsKnownClass c.1) Q (λ (c : ℕ × Class). option_map (λ (found : ℕ × Function). record { target = targets.Method c.0 found.0; result = found.1.result; parameters = Some found.1.parameters }) (first_from (is_called text) 0 c.1.methods)) (this_class env) (λ c h. if_map Q (λ (found : ℕ × Function). record { target = targets.Method c.0 found.0; result = found.1.result; parameters = Some found.1.parameters }) (first_from (is_called text) 0 c.1.methods) (function_known text c.1.methods h.methods)) (class_known env known) in
-    let function = if_map Q (λ (found : ℕ × Function). record { target = targets.Function found.0; result = found.1.result; parameters = Some found.1.parameters }) (first_from (is_called text) 0 env.heads.functions) (function_known text env.heads.functions known.functions) in
+    let own = if_then (λ (c : ℕ × Class). IsKnownClass c.1) Q (λ (c : ℕ × Class). option_map (λ (found : ℕ × Function). record { target = targets.Method c.0 found.0 found.1.result; result = found.1.result; parameters = Some found.1.parameters }) (first_from (is_called text) 0 c.1.methods)) (this_class env) (λ c h. if_map Q (λ (found : ℕ × Function). record { target = targets.Method c.0 found.0 found.1.result; result = found.1.result; parameters = Some found.1.parameters }) (first_from (is_called text) 0 c.1.methods) (function_known text c.1.methods h.methods)) (class_known env known) in
+    let function = if_map Q (λ (found : ℕ × Function). record { target = targets.Function found.0 found.1.result; result = found.1.result; parameters = Some found.1.parameters }) (first_from (is_called text) 0 env.heads.functions) (function_known text env.heads.functions known.functions) in
     let service = if_any Q service_function (named_in env.registered text) service_known in
     let class = if_map Q (λ (found : ℕ × Class). record { target = targets.Class found.0; result = ty.Handle (OfClass found.0); parameters = Some found.1.parameters }) (first_from (is_class text) 0 env.heads.classes) (if_all (first_from (is_class text) 0 env.heads.classes) (λ found. refl)) in
     let kind = if_any Q (host_type env.registered) (named_in env.registered text) (host_known env.registered) in
@@ -174,12 +174,12 @@ callee_known env text known =
 
 member_known : (env : Environment) (o : ObjectType) (text : List ℕ) → IsKnown env → IfSome (member_in env o text) (λ found. IsKnownType found.1)
 unfolding member_in
-member_known env (OfClass i) text known = if_then IsKnownClass (λ (found : Member × Ty). IsKnownType found.1) (λ (c : Class). field_in c text) (slice_get env.heads.classes i) (λ c h. field_known c text h) (if_get IsKnownClass env.heads.classes i known.classes)
+member_known env (OfClass i) text known = if_then IsKnownClass (λ (found : Member × Ty). IsKnownType found.1) (λ (c : Class). field_in i c text) (slice_get env.heads.classes i) (λ c h. field_known i c text h) (if_get IsKnownClass env.heads.classes i known.classes)
 member_known env (OfHost i) text known = if_any (λ (found : Member × Ty). IsKnownType found.1) property (host_member_in env.registered i text) property_known
 
 method_known : (env : Environment) (o : ObjectType) (text : List ℕ) → IsKnown env → IfSome (method_in env o text) (λ m. IsKnownType m.result)
 unfolding method_in method_of_class method_of_kind
-method_known env (OfClass i) text known = if_then IsKnownClass (λ (m : Invoked). IsKnownType m.result) (class_method i text) (slice_get env.heads.classes i) (λ c h. if_map (λ (m : Invoked). IsKnownType m.result) (λ (found : ℕ × Function). record { method = methods.Script i found.0; result = found.1.result; parameters = found.1.parameters }) (first_from (is_called text) 0 c.methods) (function_known text c.methods h.methods)) (if_get IsKnownClass env.heads.classes i known.classes)
+method_known env (OfClass i) text known = if_then IsKnownClass (λ (m : Invoked). IsKnownType m.result) (class_method i text) (slice_get env.heads.classes i) (λ c h. if_map (λ (m : Invoked). IsKnownType m.result) (λ (found : ℕ × Function). record { method = methods.Script i found.0 found.1.result; result = found.1.result; parameters = found.1.parameters }) (first_from (is_called text) 0 c.methods) (function_known text c.methods h.methods)) (if_get IsKnownClass env.heads.classes i known.classes)
 method_known env (OfHost i) text known = if_any (λ (m : Invoked). IsKnownType m.result) host_method (host_member_in env.registered i text) host_method_known
 
 mutual

@@ -94,7 +94,7 @@ AllSound env es = (us : List Typed) → all_typed env es ≡ Ok us → AllHaveTy
 
 this_sound : (env : Environment) (left : Bool) (p : place.Place) (found : Option ℕ) (r : Typed) → env.this ≡ found → this_at p.at found ≡ Ok r → HasType env left (written.This p) (term_of r)
 this_sound env left p None r e h = absurd (no_fault _ r h)
-this_sound env left p (Some class) r e h = at_ok (λ r. HasType env left (written.This p) (term_of r)) (made p.at (ty.Handle (objects.Class class)) This) r h (this e)
+this_sound env left p (Some class) r e h = at_ok (λ r. HasType env left (written.This p) (term_of r)) (made p.at (ty.Handle (objects.Class class)) (This class)) r h (this e)
 
 name_sound : (env : Environment) (left : Bool) (p : place.Place) (text : List ℕ) (found : Option Known) (r : Typed) → variable_in env text ≡ found → known_at p.at found ≡ Ok r → HasType env left (written.Name p text) (term_of r)
 name_sound env left p text None r e h = absurd (no_fault _ r h)

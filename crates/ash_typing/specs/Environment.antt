@@ -83,16 +83,17 @@ abbrev pub Known : Type 0
 Known = Expr × Ty
 
 abbrev pub local_in : List Declared → List ℕ → Option Known
-local_in locals name = option_map (λ (found : ℕ × Ty). (Read (Stored (variables.Local found.0)), found.1)) (last_named name 0 None locals)
+local_in locals name = option_map (λ (found : ℕ × Ty). (Read (Stored (variables.Local found.0 found.1)), found.1)) (last_named name 0 None locals)
 
-abbrev pub field_in : Class → List ℕ → Option (Member × Ty)
-field_in c name = option_map (λ (found : ℕ × Declared). (members.Field found.0, found.1.of)) (first_from (declares name) 0 c.fields)
+-- a field of the class of this place
+abbrev pub field_in : ℕ → Class → List ℕ → Option (Member × Ty)
+field_in class c name = option_map (λ (found : ℕ × Declared). (members.Field class found.0 found.1.of, found.1.of)) (first_from (declares name) 0 c.fields)
 
 abbrev pub own_field_in : Environment → List ℕ → Option Known
-own_field_in env name = option_and_then (λ (c : ℕ × Class). option_map (λ (found : Member × Ty). (Read (Held This found.0), found.1)) (field_in c.1 name)) (this_class env)
+own_field_in env name = option_and_then (λ (c : ℕ × Class). option_map (λ (found : Member × Ty). (Read (Held (This c.0) found.0), found.1)) (field_in c.0 c.1 name)) (this_class env)
 
 abbrev pub global_in : List Declared → List ℕ → Option Known
-global_in globals name = option_map (λ (found : ℕ × Declared). (Read (Stored (variables.Global found.0)), found.1.of)) (first_from (declares name) 0 globals)
+global_in globals name = option_map (λ (found : ℕ × Declared). (Read (Stored (variables.Global found.0 found.1.of)), found.1.of)) (first_from (declares name) 0 globals)
 
 unfoldable pub variable_in : Environment → List ℕ → Option Known
 variable_in env name = option_or (local_in env.locals name) (option_or (own_field_in env name) (global_in env.heads.globals name))
@@ -111,10 +112,10 @@ result_of None = ty.Void
 result_of (Some primitive) = ty_of primitive
 
 abbrev pub own_method_in : Environment → List ℕ → Option Callee
-own_method_in env name = option_and_then (λ (c : ℕ × Class). option_map (λ (found : ℕ × Function). record { target = targets.Method c.0 found.0; result = found.1.result; parameters = Some found.1.parameters }) (first_from (is_called name) 0 c.1.methods)) (this_class env)
+own_method_in env name = option_and_then (λ (c : ℕ × Class). option_map (λ (found : ℕ × Function). record { target = targets.Method c.0 found.0 found.1.result; result = found.1.result; parameters = Some found.1.parameters }) (first_from (is_called name) 0 c.1.methods)) (this_class env)
 
 abbrev pub function_in : List Function → List ℕ → Option Callee
-function_in functions name = option_map (λ (found : ℕ × Function). record { target = targets.Function found.0; result = found.1.result; parameters = Some found.1.parameters }) (first_from (is_called name) 0 functions)
+function_in functions name = option_map (λ (found : ℕ × Function). record { target = targets.Function found.0 found.1.result; result = found.1.result; parameters = Some found.1.parameters }) (first_from (is_called name) 0 functions)
 
 abbrev pub service_function : host.Call → Option Callee
 service_function (host.AFunction service id operation) = Some (record { target = targets.Service service id (result_of operation.result); result = result_of operation.result; parameters = Some (map ty_of operation.parameters) })
@@ -163,7 +164,7 @@ property (host.AProperty of id value name) = Some (members.Property id (ty_of va
 property _ = None
 
 unfoldable pub member_in : Environment → ObjectType → List ℕ → Option (Member × Ty)
-member_in env (OfClass i) name = option_and_then (λ (c : Class). field_in c name) (slice_get env.heads.classes i)
+member_in env (OfClass i) name = option_and_then (λ (c : Class). field_in i c name) (slice_get env.heads.classes i)
 member_in env (OfHost kind) name = option_and_then property (host_member_in env.registered kind name)
 
 -- a method, what it gives and what it takes
@@ -177,7 +178,7 @@ host_method (host.AMethod of id operation) = Some (record { method = methods.Hos
 host_method _ = None
 
 abbrev pub class_method : ℕ → List ℕ → Class → Option Invoked
-class_method i name c = option_map (λ (found : ℕ × Function). record { method = methods.Script i found.0; result = found.1.result; parameters = found.1.parameters }) (first_from (is_called name) 0 c.methods)
+class_method i name c = option_map (λ (found : ℕ × Function). record { method = methods.Script i found.0 found.1.result; result = found.1.result; parameters = found.1.parameters }) (first_from (is_called name) 0 c.methods)
 
 unfoldable pub method_of_class : List Class → ℕ → List ℕ → Option Invoked
 method_of_class classes i name = option_and_then (class_method i name) (slice_get classes i)

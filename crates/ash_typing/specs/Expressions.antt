@@ -241,7 +241,7 @@ known_at at (Some known) = Ok (made at known.1 known.0)
 
 abbrev pub this_at : ℕ → Option ℕ → Checking Typed
 this_at at None = broken Misplaced at
-this_at at (Some class) = Ok (made at (ty.Handle (objects.Class class)) This)
+this_at at (Some class) = Ok (made at (ty.Handle (objects.Class class)) (This class))
 
 -- suffixes
 
@@ -252,7 +252,7 @@ member_at t at (Some (member, of)) = Ok (made t.at of (Read (Held t.tree member)
 unfoldable pub field_of : Environment → Typed → Ty → ℕ → List ℕ → Checking Typed
 field_of env t (ty.Object o) at name = member_at t at (member_in env o name)
 field_of env t (ty.Handle o) at name = member_at t at (member_in env o name)
-field_of env t ty.Unknown at name = Ok (made t.at ty.Unknown (Read (Held t.tree (members.Field 0))))
+field_of env t ty.Unknown at name = Ok (made t.at ty.Unknown (Read (Held t.tree (members.Field 0 0 ty.Unknown))))
 field_of env t _ at name = broken TypeMismatch t.at
 
 -- the method, or nothing where the type of the object is unknown

@@ -122,7 +122,7 @@ mutual
     null : {left : Bool} {p : place.Place} → HasType env left (written.Null p) (term ty.Null Null)
     this : {left : Bool} {p : place.Place} {class : ℕ}
         → env.this ≡ Some class
-        → HasType env left (written.This p) (term (ty.Handle (objects.Class class)) This)
+        → HasType env left (written.This p) (term (ty.Handle (objects.Class class)) (This class))
     name : {left : Bool} {p : place.Place} {text : List ℕ} {known : Known}
         → variable_in env text ≡ Some known
         → HasType env left (written.Name p text) (term known.1 known.0)

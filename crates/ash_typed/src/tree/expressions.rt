@@ -19,7 +19,8 @@ pub enum Expr {
     },
     Bool(bool),
     Null,
-    This,
+    /// The object that runs, of the class of this place.
+    This(usize),
     /// What a variable holds.
     Variable(Variable),
     /// What the links make of it, one after the other.

@@ -3,20 +3,20 @@
 use crate::types::{Kind, Ty};
 use ash_tree::BinaryOp;
 
-/// A variable.
+/// A variable, with its type.
 #[derive(Clone, Copy, Debug, PartialEq, Eq)]
 pub enum Variable {
     /// A local or a parameter, by its slot: how many locals its function has before it. The parameters are the first.
-    Local(usize),
+    Local { slot: usize, of: Ty },
     /// A global of the module, by its place among them.
-    Global(usize),
+    Global { place: usize, of: Ty },
 }
 
 /// What an object holds.
 #[derive(Clone, Copy, Debug, PartialEq, Eq)]
 pub enum Member {
-    /// A field of a class, by its place among them.
-    Field(usize),
+    /// A field of a class, by the place of the class and its own among the fields, with its type.
+    Field { class: usize, place: usize, of: Ty },
     /// A property of a registered type, by its number, with its type.
     Property { id: u16, of: Ty },
 }
@@ -24,21 +24,39 @@ pub enum Member {
 /// A method of an object.
 #[derive(Clone, Copy, Debug, PartialEq, Eq)]
 pub enum Method {
-    /// A method of a class, by their places.
-    Script { class: usize, method: usize },
+    /// A method of a class, by their places, with what it gives.
+    Script {
+        class: usize,
+        method: usize,
+        result: Ty,
+    },
     /// A method of a registered type, by its number, with what it gives.
-    Host { id: u16, result: Ty },
+    Host {
+        id: u16,
+        result: Ty,
+    },
 }
 
 /// What a call by a name calls.
 #[derive(Clone, Copy, Debug, PartialEq, Eq)]
 pub enum Target {
-    /// A method of the object that runs.
-    Method { class: usize, method: usize },
-    /// A function of the module, by its place among them.
-    Function(usize),
+    /// A method of the object that runs, with what it gives.
+    Method {
+        class: usize,
+        method: usize,
+        result: Ty,
+    },
+    /// A function of the module, by its place among them, with what it gives.
+    Function {
+        function: usize,
+        result: Ty,
+    },
     /// A function of a registered service, by its index and its number, with what it gives.
-    Service { service: u16, id: u16, result: Ty },
+    Service {
+        service: u16,
+        id: u16,
+        result: Ty,
+    },
     /// The construction of an object of a class.
     Class(usize),
     /// The construction of an object of a registered type, by its kind.
