@@ -48,6 +48,7 @@ fn what_places_take(rt: HostRuntime) -> Result<(), Fail> {
         304 TypeMismatch 22 | int a; void f() { a = null; }
         304 TypeMismatch 30 | int a; bool b; void f() { b = a = 1; }
         304 TypeMismatch 31 | void f(Counter@ c) { c.value = true; }
+        304 TypeMismatch 33 | class A {} A@ c; void f() { @c = 1; }
         304 TypeMismatch 32 | void g() {} void f(int k) { k = g(); }
         304 TypeMismatch 41 | class A { bool v; } void f(A@ a) { a.v = a.v + 1; }
         ",

@@ -21,6 +21,7 @@ fn arguments(rt: HostRuntime) -> Result<(), Fail> {
         304 TypeMismatch 35 | void g(Counter@ c) {} void f() { g(1); }
         304 TypeMismatch 43 | void g(Counter@ c) {} void f(Plain@ p) { g(p); }
         304 TypeMismatch 42 | void g() {} void h(int k) {} void f() { h(g()); }
+        ok | void g() {} void f() { (g()); }
         ",
     )
 }
