@@ -1,4 +1,5 @@
 pub mod Tree
+pub mod TypeOf
 pub mod StatementTree
 pub mod Views
 pub mod Flat

@@ -1,6 +1,7 @@
 pub mod TypingWords
 pub mod TypingComplete
 pub mod TypingKnown
+pub mod TypingTypes
 pub mod TypingSound
 pub mod TypingVariables
 pub mod Bindings

@@ -31,22 +31,22 @@ use Rattle.ash_typing.specs.Typing.{IsKnown, IsKnownType, IsKnownVariable, IsKno
 
 -- what is looked up
 
-at_some : {A : Type 0} (P : A → Type 0) (o : Option A) (x : A) → IfSome o P → o ≡ Some x → P x
+pub at_some : {A : Type 0} (P : A → Type 0) (o : Option A) (x : A) → IfSome o P → o ≡ Some x → P x
 at_some P o x h e = let k = subst (λ (v : Option _). IfSome v P) e h in k
 
-if_map : {A B : Type 0} (Q : B → Type 0) (f : A → B) (o : Option A) → IfSome o (λ x. Q (f x)) → IfSome (option_map f o) Q
+pub if_map : {A B : Type 0} (Q : B → Type 0) (f : A → B) (o : Option A) → IfSome o (λ x. Q (f x)) → IfSome (option_map f o) Q
 if_map Q f None h = h
 if_map Q f (Some x) h = h
 
-if_or : {A : Type 0} (Q : A → Type 0) (a b : Option A) → IfSome a Q → IfSome b Q → IfSome (option_or a b) Q
+pub if_or : {A : Type 0} (Q : A → Type 0) (a b : Option A) → IfSome a Q → IfSome b Q → IfSome (option_or a b) Q
 if_or Q None b h k = k
 if_or Q (Some x) b h k = h
 
-if_then : {A B : Type 0} (P : A → Type 0) (Q : B → Type 0) (f : A → Option B) (o : Option A) → ((x : A) → P x → IfSome (f x) Q) → IfSome o P → IfSome (option_and_then f o) Q
+pub if_then : {A B : Type 0} (P : A → Type 0) (Q : B → Type 0) (f : A → Option B) (o : Option A) → ((x : A) → P x → IfSome (f x) Q) → IfSome o P → IfSome (option_and_then f o) Q
 if_then P Q f None g h = h
 if_then P Q f (Some x) g h = g x h
 
-if_any : {A B : Type 0} (Q : B → Type 0) (f : A → Option B) (o : Option A) → ((x : A) → IfSome (f x) Q) → IfSome (option_and_then f o) Q
+pub if_any : {A B : Type 0} (Q : B → Type 0) (f : A → Option B) (o : Option A) → ((x : A) → IfSome (f x) Q) → IfSome (option_and_then f o) Q
 if_any Q f None g = tt
 if_any Q f (Some x) g = g x
 
@@ -54,7 +54,7 @@ if_weaker : {A : Type 0} {P Q : A → Type 0} (o : Option A) → ((x : A) → P 
 if_weaker None f h = h
 if_weaker (Some x) f h = f x h
 
-if_all : {A : Type 0} {Q : A → Type 0} (o : Option A) → ((x : A) → Q x) → IfSome o Q
+pub if_all : {A : Type 0} {Q : A → Type 0} (o : Option A) → ((x : A) → Q x) → IfSome o Q
 if_all None f = tt
 if_all (Some x) f = f x
 

@@ -8,10 +8,12 @@ ghost use Rattle.ash_typing.specs.Environment.{Environment};
 ghost use Rattle.ash_typing.specs.Expressions.{Typed, typed, all_typed};
 ghost use Rattle.ash_typing.specs.Declarations.{Initialization, initialized, decl_typed};
 ghost use Rattle.ash_typed.specs.Tree.{Expr};
+ghost use Rattle.ash_typed.specs.TypeOf.{type_of};
 ghost use Rattle.ash_typing.specs.Typing.{IsKnown, Term, HasType, AllHaveType, BeginsWith, IsDeclared, first_at, placed, all_placed, term_of};
 
 /// That the walk types what has a type by the rules, and nothing else where all types are known. Its answer is the term
-/// of the rules, with the offset of the first token. It does nothing when it runs.
+/// of the rules, with the offset of the first token. And that the tree of a term says the term's type. It does nothing when
+/// it runs.
 pub fn typing_of_expressions()
     ensures complete { (env : Environment) (left : Bool) (e : written.Expr) (t : Term) →
         HasType env left e t → typed env left e ≡ Ok (placed (first_at e) t) }
@@ -23,6 +25,8 @@ pub fn typing_of_expressions()
         HasType env left e t → HasType env left e u → t ≡ u }
     ensures known { (env : Environment) → IsKnown env → (left : Bool) (e : written.Expr) (t : Term) →
         HasType env left e t → t.ty ≢ Unknown }
+    ensures typed { (env : Environment) → IsKnown env → (left : Bool) (e : written.Expr) (t : Term) →
+        HasType env left e t → type_of t.tree ≡ t.ty }
 {}
 
 /// The same of expressions that stand as arguments. It does nothing when it runs.

@@ -5,6 +5,7 @@ use Rattle.ash_typing.proofs.TypingWords.{answered, no_fault_at, same_ok}
 use Rattle.ash_typing.proofs.TypingKnown.{known_type}
 use Rattle.ash_typing.proofs.TypingComplete.{complete}
 use Rattle.ash_typing.proofs.TypingSound.{sound}
+use Rattle.ash_typing.proofs.TypingTypes.{type_is}
 use Rattle.ash_typing.proofs.typing.typing_of_expressions.Goals as goal
 
 pub returns-clause-complete : goal.returns-clause-complete
@@ -21,3 +22,6 @@ returns-clause-one_term c = λ env left e t u h k. ap term_of (same_ok (placed (
 
 pub returns-clause-known : goal.returns-clause-known
 returns-clause-known c = λ env known left e t h is. let yes = known_type h known in let no = ap is_known is in cc
+
+pub returns-clause-typed : goal.returns-clause-typed
+returns-clause-typed c = λ env known left e t h. type_is h known

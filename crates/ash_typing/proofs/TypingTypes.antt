@@ -1,0 +1,239 @@
+-- A typed tree says its type: that of the term which the rules give.
+use Rattle.std.specs.Option.{option_and_then, option_map, option_or}
+use Rattle.std.proofs.lemmas.Option.{none-some, same_Some}
+use Rattle.std.proofs.Common.{◌≡◌, ℕ, List, Bool, true, false, cond, Option, Some, None, IfSome, slice_get, refl, sym, ap, subst, ◌∙◌}
+use Rattle.ash_tree.specs.declared.tree.operators.BinaryOp.{BinaryOp}
+use Rattle.ash_tree.specs.declared.tree.operators.BinaryOp.TheVariants as binary
+use Rattle.ash_tree.specs.Tree as written
+use Rattle.ash_registry.specs.Calls as host
+use Rattle.ash_typed.specs.declared.types.Kind.{Kind}
+use Rattle.ash_typed.specs.declared.types.Kind.TheVariants as kinds
+use Rattle.ash_typed.specs.declared.types.ObjectType.{ObjectType}
+use Rattle.ash_typed.specs.declared.types.ObjectType.TheVariants.{Class as OfClass, Host as OfHost}
+use Rattle.ash_typed.specs.declared.types.Ty.{Ty}
+use Rattle.ash_typed.specs.declared.types.Ty.TheVariants as ty
+use Rattle.ash_typed.specs.declared.tree.operations.Variable.TheVariants as variables
+use Rattle.ash_typed.specs.declared.tree.operations.Member.{Member}
+use Rattle.ash_typed.specs.declared.tree.operations.Member.TheVariants.{Field}
+use Rattle.ash_typed.specs.declared.tree.operations.Method.TheVariants as methods
+use Rattle.ash_typed.specs.declared.tree.operations.Target.TheVariants as targets
+use Rattle.ash_typed.specs.declared.tree.operations.Operands.{Operands}
+use Rattle.ash_typed.specs.declared.tree.operations.Operands.TheVariants as operands
+use Rattle.ash_typed.specs.Tree.{Expr, Exprs, Number, Truth, Null, This, Read, Invoke, Convert, Alter, Operate, Conditional, Assign, Update, Count, Call, Place, Stored, Held, place_in, converted}
+use Rattle.ash_typed.specs.TypeOf.{type_of, type_of_place, type_of_member, result_of_method, result_of_target, result_of_operator, kept, chosen_type}
+use Rattle.ash_typing.specs.Types.{is_same_kind, fits_object, common, object_of, meeting, sort_of, outcome, ty_of}
+use Rattle.ash_typing.specs.Environment.{Environment, Declared, Function, Class, Known, Callee, Invoked, first_from, last_named, declares, is_called, is_class, this_class, variable_in, callee_in, member_in, method_in, method_of_class, method_of_kind, host_member_in, service_function, host_type, host_method, property, named_in, own_method_in, class_in, function_in, field_in, local_in, own_field_in, global_in, callee_beside, class_method}
+use Rattle.ash_typing.specs.Expressions.{conversion}
+use Rattle.ash_typing.specs.Typing.{IsKnown, is_known, Term, converted_to, HasType, LinksHaveType, SuffixesHaveType, SuffixHasType, number, truth, null, this, name, call, brackets, to_integer, to_bool, postfix, plus, minus, complement, not, increment, decrement, handle, handle_written, binary as operators, conditional, assign, update, no_more, operated, no_suffixes, suffixed, field, method, increment_after, decrement_after}
+use Rattle.ash_typing.proofs.TypingKnown.{known_type, at_some, if_map, if_or, if_then, if_any, if_all}
+
+-- what names stand for
+
+abbrev IsTyped : Known → Type 0
+IsTyped known = type_of known.0 ≡ known.1
+
+abbrev IsTypedMember : Member × Ty → Type 0
+IsTypedMember found = type_of_member found.0 ≡ found.1
+
+abbrev IsTypedCallee : Callee → Type 0
+IsTypedCallee callee = result_of_target callee.target ≡ callee.result
+
+abbrev IsTypedMethod : Invoked → Type 0
+IsTypedMethod m = result_of_method m.method ≡ m.result
+
+field_type : (class : ℕ) (c : Class) (text : List ℕ) → IfSome (field_in class c text) IsTypedMember
+field_type class c text = if_map IsTypedMember (λ (found : ℕ × Declared). (Field class found.0 found.1.of, found.1.of)) (first_from (declares text) 0 c.fields) (if_all (first_from (declares text) 0 c.fields) (λ found. refl))
+
+variable_type : (env : Environment) (text : List ℕ) → IfSome (variable_in env text) IsTyped
+unfolding variable_in
+variable_type env text =
+    let local = if_map IsTyped (λ (found : ℕ × Ty). (Read (Stored (variables.Local found.0 found.1)), found.1)) (last_named text 0 None env.locals) (if_all (last_named text 0 None env.locals) (λ found. refl)) in
+    let own = if_any IsTyped (λ (c : ℕ × Class). option_map (λ (found : Member × Ty). (Read (Held (This c.0) found.0), found.1)) (field_in c.0 c.1 text)) (this_class env) (λ c. if_map IsTyped (λ (found : Member × Ty). (Read (Held (This c.0) found.0), found.1)) (field_in c.0 c.1 text) (field_type c.0 c.1 text)) in
+    let global = if_map IsTyped (λ (found : ℕ × Declared). (Read (Stored (variables.Global found.0 found.1.of)), found.1.of)) (first_from (declares text) 0 env.heads.globals) (if_all (first_from (declares text) 0 env.heads.globals) (λ found. refl)) in
+    if_or IsTyped (local_in env.locals text) (option_or (own_field_in env text) (global_in env.heads.globals text)) local (if_or IsTyped (own_field_in env text) (global_in env.heads.globals text) own global)
+
+service_type : (call : host.Call) → IfSome (service_function call) IsTypedCallee
+service_type (host.AFunction service id operation) = refl
+service_type _ = tt
+
+host_result : (calls : List host.Call) (call : host.Call) → IfSome (host_type calls call) IsTypedCallee
+host_result calls (host.AType text kind) = refl
+host_result calls _ = tt
+
+property_type : (call : host.Call) → IfSome (property call) IsTypedMember
+property_type (host.AProperty of id value text) = refl
+property_type _ = tt
+
+host_method_type : (call : host.Call) → IfSome (host_method call) IsTypedMethod
+host_method_type (host.AMethod of id operation) = refl
+host_method_type _ = tt
+
+callee_type : (env : Environment) (text : List ℕ) → IfSome (callee_in env text) IsTypedCallee
+unfolding callee_in
+callee_type env text =
+    let own = if_any IsTypedCallee (λ (c : ℕ × Class). option_map (λ (found : ℕ × Function). record { target = targets.Method c.0 found.0 found.1.result; result = found.1.result; parameters = Some found.1.parameters }) (first_from (is_called text) 0 c.1.methods)) (this_class env) (λ c. if_map IsTypedCallee (λ (found : ℕ × Function). record { target = targets.Method c.0 found.0 found.1.result; result = found.1.result; parameters = Some found.1.parameters }) (first_from (is_called text) 0 c.1.methods) (if_all (first_from (is_called text) 0 c.1.methods) (λ found. refl))) in
+    let function = if_map IsTypedCallee (λ (found : ℕ × Function). record { target = targets.Function found.0 found.1.result; result = found.1.result; parameters = Some found.1.parameters }) (first_from (is_called text) 0 env.heads.functions) (if_all (first_from (is_called text) 0 env.heads.functions) (λ found. refl)) in
+    let service = if_any IsTypedCallee service_function (named_in env.registered text) service_type in
+    let class = if_map IsTypedCallee (λ (found : ℕ × Class). record { target = targets.Class found.0; result = ty.Handle (OfClass found.0); parameters = Some found.1.parameters }) (first_from (is_class text) 0 env.heads.classes) (if_all (first_from (is_class text) 0 env.heads.classes) (λ found. refl)) in
+    let kind = if_any IsTypedCallee (host_type env.registered) (named_in env.registered text) (host_result env.registered) in
+    if_or IsTypedCallee (own_method_in env text) (option_or (function_in env.heads.functions text) (callee_beside env text)) own (if_or IsTypedCallee (function_in env.heads.functions text) (callee_beside env text) function (if_or IsTypedCallee (option_and_then service_function (named_in env.registered text)) (option_or (class_in env.heads.classes text) (option_and_then (host_type env.registered) (named_in env.registered text))) service (if_or IsTypedCallee (class_in env.heads.classes text) (option_and_then (host_type env.registered) (named_in env.registered text)) class kind)))
+
+member_type : (env : Environment) (o : ObjectType) (text : List ℕ) → IfSome (member_in env o text) IsTypedMember
+unfolding member_in
+member_type env (OfClass i) text = if_any IsTypedMember (λ (c : Class). field_in i c text) (slice_get env.heads.classes i) (λ c. field_type i c text)
+member_type env (OfHost i) text = if_any IsTypedMember property (host_member_in env.registered i text) property_type
+
+method_type : (env : Environment) (o : ObjectType) (text : List ℕ) → IfSome (method_in env o text) IsTypedMethod
+unfolding method_in method_of_class method_of_kind
+method_type env (OfClass i) text = if_any IsTypedMethod (class_method i text) (slice_get env.heads.classes i) (λ c. if_map IsTypedMethod (λ (found : ℕ × Function). record { method = methods.Script i found.0 found.1.result; result = found.1.result; parameters = found.1.parameters }) (first_from (is_called text) 0 c.methods) (if_all (first_from (is_called text) 0 c.methods) (λ found. refl)))
+method_type env (OfHost i) text = if_any IsTypedMethod host_method (host_member_in env.registered i text) host_method_type
+
+-- conversions
+
+equal_kinds : (j k : Kind) → is_same_kind j k ≡ true → j ≡ k
+equal_kinds kinds.Int kinds.Int h = refl
+equal_kinds kinds.Int kinds.Uint h = absurd (cc)
+equal_kinds kinds.Int kinds.Int64 h = absurd (cc)
+equal_kinds kinds.Int kinds.Uint64 h = absurd (cc)
+equal_kinds kinds.Uint kinds.Int h = absurd (cc)
+equal_kinds kinds.Uint kinds.Uint h = refl
+equal_kinds kinds.Uint kinds.Int64 h = absurd (cc)
+equal_kinds kinds.Uint kinds.Uint64 h = absurd (cc)
+equal_kinds kinds.Int64 kinds.Int h = absurd (cc)
+equal_kinds kinds.Int64 kinds.Uint h = absurd (cc)
+equal_kinds kinds.Int64 kinds.Int64 h = refl
+equal_kinds kinds.Int64 kinds.Uint64 h = absurd (cc)
+equal_kinds kinds.Uint64 kinds.Int h = absurd (cc)
+equal_kinds kinds.Uint64 kinds.Uint h = absurd (cc)
+equal_kinds kinds.Uint64 kinds.Int64 h = absurd (cc)
+equal_kinds kinds.Uint64 kinds.Uint64 h = refl
+
+converted_if : (j k : Kind) (tree : Expr) (b : Bool) → is_same_kind j k ≡ b → type_of tree ≡ ty.Integer j → type_of (converted (cond b None (Some (record { from = j; to = k }))) tree) ≡ ty.Integer k
+converted_if j k tree true h i = i ∙ ap (λ (x : Kind). ty.Integer x) (equal_kinds j k h)
+converted_if j k tree false h i = refl
+
+integer_converted : (k j : Kind) (tree : Expr) → type_of tree ≡ ty.Integer j → type_of (converted (conversion (ty.Integer k) (ty.Integer j)) tree) ≡ ty.Integer k
+integer_converted k j tree h = converted_if j k tree (is_same_kind j k) refl h
+
+converted_type : (k j : Kind) (t : Term) → type_of t.tree ≡ t.ty → t.ty ≡ ty.Integer j → type_of (converted_to (ty.Integer k) t) ≡ ty.Integer k
+converted_type k j t h i = rw i (integer_converted k j t.tree (h ∙ i))
+
+-- places
+
+place_type : (e : Expr) (at : Place) → place_in e ≡ Some at → type_of e ≡ type_of_place at
+place_type (Read p) at h = ap type_of_place (same_Some p at h)
+place_type _ at h = absurd (none-some at h)
+
+-- operators
+
+operator_type : (op : BinaryOp) (o : Operands) → result_of_operator op o ≡ outcome (sort_of op) o
+operator_type binary.Multiply (operands.Integers k) = refl
+operator_type binary.Multiply operands.Bools = refl
+operator_type binary.Multiply operands.Handles = refl
+operator_type binary.Divide (operands.Integers k) = refl
+operator_type binary.Divide operands.Bools = refl
+operator_type binary.Divide operands.Handles = refl
+operator_type binary.Remainder (operands.Integers k) = refl
+operator_type binary.Remainder operands.Bools = refl
+operator_type binary.Remainder operands.Handles = refl
+operator_type binary.Add (operands.Integers k) = refl
+operator_type binary.Add operands.Bools = refl
+operator_type binary.Add operands.Handles = refl
+operator_type binary.Subtract (operands.Integers k) = refl
+operator_type binary.Subtract operands.Bools = refl
+operator_type binary.Subtract operands.Handles = refl
+operator_type binary.ShiftLeft (operands.Integers k) = refl
+operator_type binary.ShiftLeft operands.Bools = refl
+operator_type binary.ShiftLeft operands.Handles = refl
+operator_type binary.ShiftRight (operands.Integers k) = refl
+operator_type binary.ShiftRight operands.Bools = refl
+operator_type binary.ShiftRight operands.Handles = refl
+operator_type binary.ShiftRightArithmetic (operands.Integers k) = refl
+operator_type binary.ShiftRightArithmetic operands.Bools = refl
+operator_type binary.ShiftRightArithmetic operands.Handles = refl
+operator_type binary.BitAnd (operands.Integers k) = refl
+operator_type binary.BitAnd operands.Bools = refl
+operator_type binary.BitAnd operands.Handles = refl
+operator_type binary.BitXor (operands.Integers k) = refl
+operator_type binary.BitXor operands.Bools = refl
+operator_type binary.BitXor operands.Handles = refl
+operator_type binary.BitOr (operands.Integers k) = refl
+operator_type binary.BitOr operands.Bools = refl
+operator_type binary.BitOr operands.Handles = refl
+operator_type binary.Less o = refl
+operator_type binary.LessOrEqual o = refl
+operator_type binary.Greater o = refl
+operator_type binary.GreaterOrEqual o = refl
+operator_type binary.Equal o = refl
+operator_type binary.NotEqual o = refl
+operator_type binary.Is o = refl
+operator_type binary.NotIs o = refl
+operator_type binary.Xor o = refl
+operator_type binary.And o = refl
+operator_type binary.Or o = refl
+
+kept_type : (of : Ty) (o : ObjectType) → object_of of ≡ Some o → kept of ≡ ty.Handle o
+kept_type (ty.Object p) o h = ap ty.Handle (same_Some p o h)
+kept_type (ty.Handle p) o h = ap ty.Handle (same_Some p o h)
+kept_type _ o h = absurd (none-some o h)
+
+-- branches
+
+handle_chosen : (b : Bool) (o : ObjectType) (of : Ty) → cond b (Some (ty.Handle o)) None ≡ Some of → ty.Handle o ≡ of
+handle_chosen true o of h = same_Some (ty.Handle o) of h
+handle_chosen false o of h = absurd (none-some of h)
+
+abbrev Chosen : Ty → Ty → Expr → Expr → Ty → Type 0
+Chosen a b s t of = chosen_type (type_of (converted (conversion of a) s)) (type_of (converted (conversion of b) t)) ≡ of
+
+chosen_is : (a b of : Ty) (s t : Expr) → is_known a ≡ true → is_known b ≡ true → type_of s ≡ a → type_of t ≡ b → common a b ≡ Some of → Chosen a b s t of
+chosen_is ty.Unknown b of s t h k i j c = absurd (cc)
+chosen_is (ty.Object o) b of s t h k i j c = subst (Chosen (ty.Object o) b s t) (handle_chosen (fits_object o b) o of c) (rw i refl)
+chosen_is (ty.Handle o) b of s t h k i j c = subst (Chosen (ty.Handle o) b s t) (handle_chosen (fits_object o b) o of c) (rw i refl)
+chosen_is a ty.Unknown of s t h k i j c = absurd (cc)
+chosen_is ty.Bool ty.Bool of s t h k i j c = subst (Chosen ty.Bool ty.Bool s t) (same_Some ty.Bool of c) (rw i refl)
+chosen_is (ty.Integer m) (ty.Integer n) of s t h k i j c = subst (Chosen (ty.Integer m) (ty.Integer n) s t) (same_Some (ty.Integer (meeting m n)) of c) (rw (integer_converted (meeting m n) m s i) refl)
+chosen_is ty.Null (ty.Object o) of s t h k i j c = subst (Chosen ty.Null (ty.Object o) s t) (same_Some (ty.Handle o) of c) (rw (i, j) refl)
+chosen_is ty.Null (ty.Handle o) of s t h k i j c = subst (Chosen ty.Null (ty.Handle o) s t) (same_Some (ty.Handle o) of c) (rw (i, j) refl)
+chosen_is a b of s t h k i j c = absurd (none-some of c)
+
+-- expressions
+
+mutual
+  pub type_is : {env : Environment} {left : Bool} {e : written.Expr} {t : Term} → HasType env left e t → IsKnown env → type_of t.tree ≡ t.ty
+  type_is number known = refl
+  type_is truth known = refl
+  type_is null known = refl
+  type_is (this h) known = refl
+  type_is {env} (name {text = text} {known = found} h) known = at_some IsTyped (variable_in env text) found (variable_type env text) h
+  type_is {env} (call {text = text} {callee = callee} c q all args) known = at_some IsTypedCallee (callee_in env text) callee (callee_type env text) c
+  type_is (brackets h) known = type_is h known
+  type_is (to_integer {t = t} {j = j} {k = k} h i l) known = ap kept (converted_type k j t (type_is h known) l)
+  type_is (to_bool h i l) known = ap kept (type_is h known ∙ l)
+  type_is (postfix h ss) known = suffixes_type ss known (type_is h known)
+  type_is (plus h i) known = ap kept (type_is h known ∙ i)
+  type_is (minus h i) known = refl
+  type_is (complement h i) known = refl
+  type_is (not h i) known = refl
+  type_is (increment h i l) known = refl
+  type_is (decrement h i l) known = refl
+  type_is (handle {t = t} {o = o} h i) known = ap kept (type_is h known) ∙ kept_type t.ty o i
+  type_is (handle_written h) known = type_is h known
+  type_is (operators h ls) known = links_type ls known (type_is h known)
+  type_is (conditional {x = x} {y = y} {of = of} h i k l m) known = chosen_is x.ty y.ty of x.tree y.tree (known_type k known) (known_type l known) (type_is k known) (type_is l known) m
+  type_is (assign {t = t} {at = at} h i s k l) known = sym (place_type t.tree at i) ∙ type_is h known
+  type_is (update f h i l m n) known = sym l
+
+  links_type : {env : Environment} {t : Term} {ls : written.Links} {u : Term} → LinksHaveType env t ls u → IsKnown env → type_of t.tree ≡ t.ty → type_of u.tree ≡ u.ty
+  links_type no_more known h = h
+  links_type (operated {op = op} {o = o} e m rest) known h = links_type rest known (operator_type op o)
+
+  suffixes_type : {env : Environment} {t : Term} {ss : written.Suffixes} {u : Term} → SuffixesHaveType env t ss u → IsKnown env → type_of t.tree ≡ t.ty → type_of u.tree ≡ u.ty
+  suffixes_type no_suffixes known h = h
+  suffixes_type (suffixed s rest) known h = suffixes_type rest known (suffix_type s known)
+
+  suffix_type : {env : Environment} {t : Term} {s : written.Suffix} {u : Term} → SuffixHasType env t s u → IsKnown env → type_of u.tree ≡ u.ty
+  suffix_type {env} (field {text = text} {o = o} {found = found} h i) known = at_some IsTypedMember (member_in env o text) found (member_type env o text) i
+  suffix_type {env} (method {text = text} {o = o} {m = m} h i all args) known = at_some IsTypedMethod (method_in env o text) m (method_type env o text) i
+  suffix_type (increment_after h i) known = refl
+  suffix_type (decrement_after h i) known = refl
