@@ -111,6 +111,7 @@ fn type_of(alloc: Global, source: &str) -> Result<String, Fail> {
 fn operands_in(tree: &Expr) -> Option<Operands> {
     match tree {
         Expr::Chain { operands, .. } => Some(operands.last()?.operation.operands),
+        Expr::Lazy { .. } => Some(Operands::Bools),
         Expr::Update { operation, .. } => Some(operation.operands),
         _ => None,
     }

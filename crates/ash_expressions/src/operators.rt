@@ -1,6 +1,6 @@
 //! Operators, conversions and assignments, once their operands are typed.
 
-ghost use Rattle.std.specs.Prelude.{Ok};
+ghost use Rattle.std.specs.Prelude.{◌≡◌, Ok, IfOk};
 ghost use Rattle.ash_typed.specs.Tree.{Alter, place_in};
 ghost use Rattle.ash_typed.specs.Views.{expr_of, place_of};
 ghost use Rattle.ash_typing.specs.Expressions as typing;
@@ -10,13 +10,13 @@ ghost use Rattle.ash_expressions.specs.Views.{typed_of, met_of};
 use crate::stop::{Checking, broken};
 use crate::typed::{Typed, adapt, brought, fitted, handle, integer, made, truth};
 use crate::types::{
-    assumed, common, conversion, is_stored, is_void, meets, operand_type, operator_of, outcome,
-    signed, sort_of, takes, ty_of,
+    assumed, common, conversion, is_stored, is_void, lazy_of, meets, operand_type, operator_of,
+    outcome, signed, sort_of, takes, ty_of,
 };
 use ash_tree::{AssignOp, BinaryOp, Primitive, UnaryOp};
 use ash_typed::{Change, Expr, Kind, Operand, Operands, Operation, Place, Step, Ty, nodes};
 use ash_typing::{Alone, Rule, Sort};
-use std::alloc::Global;
+use std::alloc::{AllocError, Global};
 
 /// The operands of an operator, and what it takes them for.
 #[derive(Drop)]
@@ -72,6 +72,32 @@ fn met_operands(
     met_by(alloc, sort, left, right)
 }
 
+/// What an operator makes of its operands, of which the left one is converted to what it is taken for.
+fn applied(
+    alloc: Global,
+    operator: BinaryOp,
+    operands: Operands,
+    left: Typed,
+    right: Expr,
+) -> Result<Expr, AllocError>
+    ensures { IfOk result (λ e. expr_of e ≡ typing.applied operator operands (typing.brought (typing.operand_type operands) (typed_of left)) (expr_of right)) }
+{
+    match lazy_of(operator) {
+        Some(lazy) => {
+            let left = brought(alloc, operand_type(operands), left)?;
+            nodes::lazily(alloc, lazy, left, right)
+        }
+        None => {
+            let next = Operand {
+                before: conversion(operand_type(operands), left.ty),
+                operation: Operation { operator, operands },
+                value: right,
+            };
+            nodes::operate(alloc, left.tree, next)
+        }
+    }
+}
+
 /// An operator between two operands.
 #[tactic(auto, unfolding(ash_typing::specs::Expressions::operate))]
 pub(crate) fn operate(
@@ -85,12 +111,7 @@ pub(crate) fn operate(
     let met = met_operands(alloc, operator, left, right)?;
     let at = met.left.at;
     let operands = met.operands;
-    let next = Operand {
-        before: conversion(operand_type(operands), met.left.ty),
-        operation: Operation { operator, operands },
-        value: met.right,
-    };
-    let tree = nodes::operate(alloc, met.left.tree, next)?;
+    let tree = applied(alloc, operator, operands, met.left, met.right)?;
     Ok(made(at, outcome(sort_of(operator), operands), tree))
 }
 

@@ -5,7 +5,7 @@ ghost use Rattle.ash_typing.specs.Types as types;
 ghost use Rattle.ash_typing.specs.Expressions as typing;
 
 use ash_tree::{AssignOp, BinaryOp, Primitive};
-use ash_typed::{Conversion, Kind, ObjectType, Operands, Ty};
+use ash_typed::{Conversion, Kind, Lazy, ObjectType, Operands, Ty};
 use ash_typing::{Alone, Sort};
 
 pub(crate) fn is_signed(kind: Kind) -> bool
@@ -186,6 +186,17 @@ pub(crate) fn sort_of(operator: BinaryOp) -> Sort
         BinaryOp::Equal | BinaryOp::NotEqual => Sort::Equality,
         BinaryOp::Is | BinaryOp::NotIs => Sort::Identity,
         BinaryOp::Xor | BinaryOp::And | BinaryOp::Or => Sort::Logic,
+    }
+}
+
+/// `&&` and `||`
+pub(crate) fn lazy_of(operator: BinaryOp) -> Option<Lazy>
+    ensures { result ≡ types.lazy_of operator }
+{
+    match operator {
+        BinaryOp::And => Some(Lazy::And),
+        BinaryOp::Or => Some(Lazy::Or),
+        _ => None,
     }
 }
 

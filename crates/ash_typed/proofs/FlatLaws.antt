@@ -9,7 +9,9 @@ use Rattle.ash_typed.specs.declared.tree.expressions.Expr.TheOpen as layer
 use Rattle.ash_typed.specs.declared.tree.expressions.Expr.TheViews as views
 use Rattle.ash_typed.specs.declared.tree.expressions.Link as link
 use Rattle.ash_typed.specs.declared.tree.expressions.Operand as operand
-use Rattle.ash_typed.specs.Flat.{base_of, links_of, first_of, operands_of}
+use Rattle.ash_typed.specs.declared.tree.operations.Lazy.{Lazy}
+use Rattle.ash_typed.specs.declared.tree.operations.Lazy.TheVariants as lazies
+use Rattle.ash_typed.specs.Flat.{base_of, links_of, first_of, operands_of, others_of}
 
 -- a layer of an expression
 abbrev Layer : Type 0
@@ -52,3 +54,15 @@ own_first _ h = refl
 
 pub first_of-other : (e : code.Expr) → IsNoChain e → first_of e ≡ e
 first_of-other e h = subst (λ (x : code.Expr). IsNoChain x → first_of x ≡ x) (views.roll-out-Expr e) (own_first (views.out-Expr e)) h
+
+abbrev IsNotLazy : code.Expr → Type 0
+IsNotLazy e = (op : Lazy) (first : Box code.Expr Global) (es : Vec code.Expr Global) → e ≡ views.Lazy op first es → ⊥
+
+no_others : (op : Lazy) (e : Layer) → IsNotLazy (views.roll-Expr e) → others_of op (views.roll-Expr e) ≡ []
+unfolding code.roll-Expr denote.Hole.Carrier.roll
+no_others op (layer.Lazy before first es) h = absurd (h before first es (sym (views.rolls-Lazy before first es)))
+no_others lazies.And _ h = refl
+no_others lazies.Or _ h = refl
+
+pub others_of-other : (op : Lazy) (e : code.Expr) → IsNotLazy e → others_of op e ≡ []
+others_of-other op e h = subst (λ (x : code.Expr). IsNotLazy x → others_of op x ≡ []) (views.roll-out-Expr e) (no_others op (views.out-Expr e)) h

@@ -8,10 +8,11 @@ use Rattle.ash_typed.specs.declared.tree.expressions.Expr.TheViews as views
 use Rattle.ash_typed.specs.declared.tree.expressions.Expr.{Row_of-Expr, end_of-Expr, more_of-Expr, items-the_row-Expr, Row_of-Link, end_of-Link, more_of-Link, items-the_row-Link, Row_of-Operand, end_of-Operand, more_of-Operand, items-the_row-Operand}
 use Rattle.ash_typed.specs.declared.tree.expressions.Link as link
 use Rattle.ash_typed.specs.declared.tree.expressions.Operand as operand
+use Rattle.ash_typed.specs.declared.tree.operations.Lazy.{Lazy}
 use Rattle.ash_typed.specs.declared.tree.operations.Target.{Target}
 use Rattle.ash_typed.specs.declared.tree.operations.Method.{Method}
-use Rattle.ash_typed.specs.Tree.{Expr, Call, Invoke, expr, exprs, converted, Operate, place_in}
-use Rattle.ash_typed.specs.Views.{expr_of, exprs_of, linked, linked_by, chained, chained_by, all_linked, all_chained}
+use Rattle.ash_typed.specs.Tree.{Expr, Call, Invoke, expr, exprs, converted, Operate, Lazily, place_in}
+use Rattle.ash_typed.specs.Views.{expr_of, exprs_of, linked, linked_by, chained, chained_by, lazies_by, all_linked, all_chained, all_lazies}
 
 pub exprs_of-row : {n : _} (row : Row_of-Expr n) → exprs_of row ≡ exprs (map expr_of (items-the_row-Expr n row))
 exprs_of-row end_of-Expr = refl
@@ -25,6 +26,10 @@ pub chained_by-row : {n : _} (e : Expr) (row : Row_of-Operand n) → chained_by 
 chained_by-row e end_of-Operand = refl
 chained_by-row e (more_of-Operand before operation value rest) = chained_by-row (Operate operation (converted before e) (expr_of value)) rest
 
+pub lazies_by-row : {n : _} (op : Lazy) (e : Expr) (row : Row_of-Expr n) → lazies_by op e row ≡ all_lazies op e (items-the_row-Expr n row)
+lazies_by-row op e end_of-Expr = refl
+lazies_by-row op e (more_of-Expr x rest) = lazies_by-row op (Lazily op e (expr_of x)) rest
+
 pub call_is : (target : Target) (es : Vec code.Expr Global) → expr_of (views.Call target es) ≡ Call target (exprs (map expr_of es.items))
 call_is target es = search (rules, views.the_lemmas, exprs_of-row)
 
@@ -36,6 +41,13 @@ path_is base ls = search (rules, views.the_lemmas, linked_by-row)
 
 pub chain_is : (first : Box code.Expr Global) (os : Vec operand.Operand Global) → expr_of (views.Chain first os) ≡ all_chained (expr_of first.value) os.items
 chain_is first os = search (rules, views.the_lemmas, chained_by-row)
+
+pub lazy_is : (op : Lazy) (first : Box code.Expr Global) (es : Vec code.Expr Global) → expr_of (views.Lazy op first es) ≡ all_lazies op (expr_of first.value) es.items
+lazy_is op first es = search (rules, views.the_lemmas, lazies_by-row)
+
+pub all_lazies_append : (op : Lazy) (e : Expr) (es : List code.Expr) (x : code.Expr) → all_lazies op e (es ++ x ∷ []) ≡ Lazily op (all_lazies op e es) (expr_of x)
+all_lazies_append op e [] x = refl
+all_lazies_append op e (y ∷ es) x = all_lazies_append op (Lazily op e (expr_of y)) es x
 
 pub all_linked_append : (e : Expr) (ls : List link.Link) (l : link.Link) → all_linked e (ls ++ l ∷ []) ≡ linked (all_linked e ls) l
 all_linked_append e [] l = refl
@@ -52,3 +64,11 @@ after_chained e (o ∷ os) h = after_chained (chained e o) os refl
 pub no_place_chained : (e : Expr) (os : List operand.Operand) → 0 < length os → place_in (all_chained e os) ≡ None
 no_place_chained e [] h = absurd (omega arith)
 no_place_chained e (o ∷ os) h = after_chained (chained e o) os refl
+
+after_lazies : (op : Lazy) (e : Expr) (es : List code.Expr) → place_in e ≡ None → place_in (all_lazies op e es) ≡ None
+after_lazies op e [] h = h
+after_lazies op e (x ∷ es) h = after_lazies op (Lazily op e (expr_of x)) es refl
+
+pub no_place_lazies : (op : Lazy) (e : Expr) (es : List code.Expr) → 0 < length es → place_in (all_lazies op e es) ≡ None
+no_place_lazies op e [] h = absurd (omega arith)
+no_place_lazies op e (x ∷ es) h = after_lazies op (Lazily op e (expr_of x)) es refl

@@ -7,6 +7,7 @@ use Rattle.ash_typed.specs.declared.tree.operations.Member.{Member}
 use Rattle.ash_typed.specs.declared.tree.operations.Method.{Method}
 use Rattle.ash_typed.specs.declared.tree.operations.Target.{Target}
 use Rattle.ash_typed.specs.declared.tree.operations.Operation.{Operation}
+use Rattle.ash_typed.specs.declared.tree.operations.Lazy.{Lazy}
 use Rattle.ash_typed.specs.declared.tree.operations.Change.{Change}
 use Rattle.ash_typed.specs.declared.tree.operations.Conversion.{Conversion}
 use Rattle.ash_typed.specs.declared.tree.operations.Step.{Step}
@@ -22,6 +23,7 @@ mutual
     Convert : Conversion → Expr → Expr
     Alter : Change → Expr → Expr
     Operate : Operation → Expr → Expr → Expr
+    Lazily : Lazy → Expr → Expr → Expr
     Conditional : Expr → Expr → Expr → Expr
     Assign : Place → Expr → Expr
     Update : Place → Kind → Operation → Expr → Expr

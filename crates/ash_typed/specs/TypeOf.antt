@@ -16,7 +16,7 @@ use Rattle.ash_typed.specs.declared.tree.operations.Operands.{Operands}
 use Rattle.ash_typed.specs.declared.tree.operations.Operands.TheVariants as operands
 use Rattle.ash_typed.specs.declared.tree.operations.Change.{Change}
 use Rattle.ash_typed.specs.declared.tree.operations.Change.TheVariants as changes
-use Rattle.ash_typed.specs.Tree.{Expr, Number, Truth, Null, This, Read, Invoke, Convert, Alter, Operate, Conditional, Assign, Update, Count, Call, Place, Stored, Held}
+use Rattle.ash_typed.specs.Tree.{Expr, Number, Truth, Null, This, Read, Invoke, Convert, Alter, Operate, Lazily, Conditional, Assign, Update, Count, Call, Place, Stored, Held}
 
 abbrev pub type_of_variable : Variable → Ty
 type_of_variable (variables.Local slot of) = of
@@ -88,6 +88,7 @@ type_of (Invoke object method es) = result_of_method method
 type_of (Convert conversion e) = ty.Integer conversion.to
 type_of (Alter change e) = altered_type change (type_of e)
 type_of (Operate operation a b) = result_of_operator operation.operator operation.operands
+type_of (Lazily operator a b) = ty.Bool
 type_of (Conditional c a b) = chosen_type (type_of a) (type_of b)
 type_of (Assign place e) = type_of_place place
 type_of (Update place kind operation e) = ty.Integer kind

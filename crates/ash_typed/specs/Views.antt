@@ -7,7 +7,8 @@ use Rattle.ash_typed.specs.declared.tree.expressions.Place.TheVariants as places
 use Rattle.ash_typed.specs.declared.tree.expressions.Link as link
 use Rattle.ash_typed.specs.declared.tree.expressions.Link.TheVariants as links
 use Rattle.ash_typed.specs.declared.tree.expressions.Operand as operand
-use Rattle.ash_typed.specs.Tree.{Expr, Number, Truth, Null, This, Read, Invoke, Convert, Alter, Operate, Conditional, Assign, Update, Count, Call, Place, Stored, Held, Exprs, no_expr, expr, converted}
+use Rattle.ash_typed.specs.declared.tree.operations.Lazy.{Lazy}
+use Rattle.ash_typed.specs.Tree.{Expr, Number, Truth, Null, This, Read, Invoke, Convert, Alter, Operate, Lazily, Conditional, Assign, Update, Count, Call, Place, Stored, Held, Exprs, no_expr, expr, converted}
 
 abbrev mutual
   pub expr_of : code.Expr → Expr
@@ -20,6 +21,7 @@ abbrev mutual
   expr_of (variants.Convert' conversion a value) = Convert conversion (expr_of value)
   expr_of (variants.Change' change a e) = Alter change (expr_of e)
   expr_of (variants.Chain' a first shape row) = chained_by (expr_of first) row
+  expr_of (variants.Lazy' op a first shape row) = lazies_by op (expr_of first) row
   expr_of (variants.Conditional' a c b t d e) = Conditional (expr_of c) (expr_of t) (expr_of e)
   expr_of (variants.Assign' p a value) = Assign (place_of p) (expr_of value)
   expr_of (variants.Update' p of operation a value) = Update (place_of p) of operation (expr_of value)
@@ -42,6 +44,10 @@ abbrev mutual
   chained_by e code.end_of-Operand = e
   chained_by e (code.more_of-Operand before operation value rest) = chained_by (Operate operation (converted before e) (expr_of value)) rest
 
+  pub lazies_by : {n : _} → Lazy → Expr → code.Row_of-Expr n → Expr
+  lazies_by op e code.end_of-Expr = e
+  lazies_by op e (code.more_of-Expr x rest) = lazies_by op (Lazily op e (expr_of x)) rest
+
   pub exprs_of : {n : _} → code.Row_of-Expr n → Exprs
   exprs_of code.end_of-Expr = no_expr
   exprs_of (code.more_of-Expr e rest) = expr (expr_of e) (exprs_of rest)
@@ -50,7 +56,7 @@ abbrev mutual
 abbrev pub chained : Expr → operand.Operand → Expr
 chained e o = Operate o.operation (converted o.before e) (expr_of o.value)
 
--- links and operators, where they stand in a vector
+-- links, operators and operands, where they stand in a vector
 abbrev pub all_linked : Expr → List link.Link → Expr
 all_linked e [] = e
 all_linked e (l ∷ ls) = all_linked (linked e l) ls
@@ -58,3 +64,7 @@ all_linked e (l ∷ ls) = all_linked (linked e l) ls
 abbrev pub all_chained : Expr → List operand.Operand → Expr
 all_chained e [] = e
 all_chained e (o ∷ os) = all_chained (chained e o) os
+
+abbrev pub all_lazies : Lazy → Expr → List code.Expr → Expr
+all_lazies op e [] = e
+all_lazies op e (x ∷ xs) = all_lazies op (Lazily op e (expr_of x)) xs

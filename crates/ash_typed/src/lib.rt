@@ -17,7 +17,7 @@ mod types;
 pub use tree::expressions::{Expr, Link, Operand, Place};
 pub use tree::items::{Class, Function, Module, Variables};
 pub use tree::operations::{
-    Change, Conversion, Member, Method, Operands, Operation, Step, Target, Variable,
+    Change, Conversion, Lazy, Member, Method, Operands, Operation, Step, Target, Variable,
 };
 pub use tree::statements::{Case, Head, Initialization, Loop, Stmt, StmtKind, Test};
 pub use types::{Kind, ObjectType, Ty};

@@ -1,14 +1,14 @@
 //! Nodes of typed trees.
 
 ghost use Rattle.std.specs.Prelude.{◌≡◌, [], ◌∷◌, ◌++◌, map, option_map, IfOk};
-ghost use Rattle.ash_typed.specs.Tree.{Read, Held, Invoke, Alter, Conditional, Assign, Update, Count, Call, exprs, place_in, converted};
+ghost use Rattle.ash_typed.specs.Tree.{Read, Held, Invoke, Alter, Lazily, Conditional, Assign, Update, Count, Call, exprs, place_in, converted};
 ghost use Rattle.ash_typed.specs.StatementTree.{Block, Repeat, For, repeated, Switch, labelled, cases};
-ghost use Rattle.ash_typed.specs.Views.{expr_of, place_of, linked, chained, all_linked, all_chained};
+ghost use Rattle.ash_typed.specs.Views.{expr_of, place_of, linked, chained, all_linked, all_chained, all_lazies};
 ghost use Rattle.ash_typed.specs.BodyViews.{stmt_of, head_of, loop_of, case_of, body_of};
-ghost use Rattle.ash_typed.specs.Flat.{base_of, links_of, first_of, operands_of};
+ghost use Rattle.ash_typed.specs.Flat.{base_of, links_of, first_of, operands_of, others_of};
 
 use crate::tree::expressions::{Expr, Link, Operand, Place};
-use crate::tree::operations::{Change, Conversion, Member, Method, Operation, Step, Target};
+use crate::tree::operations::{Change, Conversion, Lazy, Member, Method, Operation, Step, Target};
 use crate::tree::statements::{Case, Head, Loop, Stmt, StmtKind, Test};
 use crate::types::Kind;
 use ash_tree::Label;
@@ -90,6 +90,53 @@ pub fn operate(alloc: Global, first: Expr, next: Operand) -> Result<Expr, AllocE
     }
 }
 
+/// `&&` or `||` between two operands. A row of operands of the same operator takes one more, so that it nests no deeper.
+#[tactic(auto, using(crate::proofs::Rows::lazy_is, crate::proofs::Rows::all_lazies_append))]
+pub fn lazily(alloc: Global, operator: Lazy, first: Expr, next: Expr) -> Result<Expr, AllocError>
+    ensures value { IfOk result (λ e. expr_of e ≡ Lazily operator (expr_of first) (expr_of next)) }
+    ensures one_row { IfOk result (λ e. others_of operator e ≡ others_of operator first ++ next ∷ []) }
+{
+    match first {
+        Expr::Lazy {
+            operator: before,
+            first,
+            mut others,
+        } => {
+            if before != operator {
+                let first = Expr::Lazy {
+                    operator: before,
+                    first,
+                    others,
+                };
+                return first_lazily(alloc, operator, first, next);
+            }
+            others.push(next)?;
+            Ok(Expr::Lazy {
+                operator,
+                first,
+                others,
+            })
+        }
+        first => first_lazily(alloc, operator, first, next),
+    }
+}
+
+/// A row of two operands.
+#[tactic(auto, using(crate::proofs::Rows::lazy_is, crate::proofs::Rows::all_lazies_append))]
+fn first_lazily(alloc: Global, operator: Lazy, first: Expr, next: Expr) -> Result<Expr, AllocError>
+    ensures value { IfOk result (λ e. expr_of e ≡ Lazily operator (expr_of first) (expr_of next)) }
+    ensures alone { IfOk result (λ e. others_of operator e ≡ next ∷ []) }
+{
+    let mut others = Vec::with_capacity(alloc, 1)?;
+    others.push(next)?;
+    let first = Box::new(alloc, first)?;
+    Ok(Expr::Lazy {
+        operator,
+        first,
+        others,
+    })
+}
+
 /// The value, converted where a conversion is named.
 pub fn convert(
     alloc: Global,
@@ -168,7 +215,7 @@ pub fn count(place: Place, of: Kind, step: Step) -> Expr
 
 /// The place that an expression reads.
 #[cycle(places)]
-#[tactic(auto, using(crate::proofs::Rows::path_is, crate::proofs::Rows::chain_is))]
+#[tactic(auto, using(crate::proofs::Rows::path_is, crate::proofs::Rows::chain_is, crate::proofs::Rows::lazy_is))]
 pub fn place(alloc: Global, expr: Expr) -> Result<Option<Place>, AllocError>
     ensures { IfOk result (λ found. option_map place_of found ≡ place_in (expr_of expr)) }
 {
@@ -177,6 +224,11 @@ pub fn place(alloc: Global, expr: Expr) -> Result<Option<Place>, AllocError>
         Expr::Path { base, links } => member_of(alloc, base, links),
         Expr::Number { .. } | Expr::Bool(_) | Expr::Null | Expr::This(_) => Ok(None),
         Expr::Chain { first, operands } => chain_place(alloc, first, operands),
+        Expr::Lazy {
+            operator,
+            first,
+            others,
+        } => lazy_place(alloc, operator, first, others),
         Expr::Convert { .. } | Expr::Change { .. } => Ok(None),
         Expr::Conditional { .. } | Expr::Assign { .. } | Expr::Update { .. } => Ok(None),
         Expr::Step { .. } | Expr::Call { .. } => Ok(None),
@@ -214,6 +266,23 @@ fn chain_place(
     ensures { IfOk result (λ found. option_map place_of found ≡ place_in (all_chained (expr_of first.value) operands.items)) }
 {
     if operands.is_empty() {
+        return place(alloc, Box::into_inner(first));
+    }
+    Ok(None)
+}
+
+/// A place stands alone.
+#[cycle(places)]
+#[tactic(auto, using(crate::proofs::Rows::no_place_lazies))]
+fn lazy_place(
+    alloc: Global,
+    operator: Lazy,
+    first: Box<Expr>,
+    others: Vec<Expr>,
+) -> Result<Option<Place>, AllocError>
+    ensures { IfOk result (λ found. option_map place_of found ≡ place_in (all_lazies operator (expr_of first.value) others.items)) }
+{
+    if others.is_empty() {
         return place(alloc, Box::into_inner(first));
     }
     Ok(None)

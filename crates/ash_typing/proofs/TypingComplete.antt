@@ -21,9 +21,9 @@ use Rattle.ash_typed.specs.declared.tree.operations.Operands.{Operands}
 use Rattle.ash_typed.specs.declared.tree.operations.Step.{Step}
 use Rattle.ash_typed.specs.declared.tree.operations.Step.TheVariants as steps
 use Rattle.ash_typing.specs.Types.{signed, fits, common, object_of, ty_of, sort_of, outcome}
-use Rattle.ash_typed.specs.Tree.{Expr, Exprs, Null, Read, Invoke, Alter, Operate, Conditional, Assign, Update, Count, Call, Place, Held, no_expr, expr, place_in}
+use Rattle.ash_typed.specs.Tree.{Expr, Exprs, Null, Read, Invoke, Alter, Conditional, Assign, Update, Count, Call, Place, Held, no_expr, expr, place_in}
 use Rattle.ash_typing.specs.Environment.{Environment, Callee, Invoked, callee_in, member_in, method_in}
-use Rattle.ash_typing.specs.Expressions.{Typed, typed, all_typed, links_typed, suffixes_typed, suffix_typed, call_typed, invocation_typed, called, arguments_at, all_fitted, fitted, operate, counted, unary_at, convert_at, choice, operator_of, is_stored, assigned, stored, is_assign, field_of, method_of, invoked, made}
+use Rattle.ash_typing.specs.Expressions.{Typed, typed, all_typed, links_typed, suffixes_typed, suffix_typed, call_typed, invocation_typed, called, arguments_at, all_fitted, fitted, operate, counted, unary_at, convert_at, choice, operator_of, is_stored, assigned, stored, is_assign, field_of, method_of, invoked, made, applied}
 use Rattle.ash_typing.specs.Typing.{Term, term, placed, all_placed, term_of, first_at, HasType, AllHaveType, LinksHaveType, SuffixesHaveType, SuffixHasType, AreArguments, no_arguments, argument, number, truth, null, this, name, call, brackets, to_integer, to_bool, postfix, plus, minus, complement, not, increment, decrement, handle, handle_written, binary, conditional, assign, update, none_left, each, no_more, operated, no_suffixes, suffixed, field, method, increment_after, decrement_after, Meet, converted_to, left_of, right_of}
 use Rattle.ash_typing.proofs.TypingWords.{same_kind, met_is}
 
@@ -110,7 +110,7 @@ handle_written_is : (at b : ℕ) (t : Term) → unary_at true at unary.Handle (p
 unfolding unary_at
 handle_written_is at b t = refl
 
-operate_is : (op : BinaryOp) (t u : Term) (o : Operands) (a b : ℕ) → Meet op t u o → operate op (placed a t) (placed b u) ≡ Ok (placed a (term (outcome (sort_of op) o) (Operate (record { operator = op; operands = o }) (left_of op o t u) (right_of op o t u))))
+operate_is : (op : BinaryOp) (t u : Term) (o : Operands) (a b : ℕ) → Meet op t u o → operate op (placed a t) (placed b u) ≡ Ok (placed a (term (outcome (sort_of op) o) (applied op o (left_of op o t u) (right_of op o t u))))
 unfolding operate
 operate_is op t u o a b h = rw (met_is op t u o a b h) refl
 

@@ -25,9 +25,9 @@ use Rattle.ash_typed.specs.declared.tree.operations.Step.{Step}
 use Rattle.ash_typed.specs.declared.tree.operations.Step.TheVariants as steps
 use Rattle.ash_typing.specs.Checking.{Checking, ◌>>=◌, broken}
 use Rattle.ash_typing.specs.Types.{signed, fits, common, object_of, ty_of, sort_of, outcome, meets, assumed}
-use Rattle.ash_typed.specs.Tree.{Expr, Exprs, Truth, Null, This, Read, Invoke, Alter, Operate, Conditional, Assign, Update, Count, Call, Place, Held, no_expr, expr, place_in}
+use Rattle.ash_typed.specs.Tree.{Expr, Exprs, Truth, Null, This, Read, Invoke, Alter, Conditional, Assign, Update, Count, Call, Place, Held, no_expr, expr, place_in}
 use Rattle.ash_typing.specs.Environment.{Environment, Known, Callee, Invoked, variable_in, callee_in, member_in, method_in}
-use Rattle.ash_typing.specs.Expressions.{Typed, Met, typed, all_typed, links_typed, suffixes_typed, suffix_typed, call_typed, invocation_typed, called, callee_at, known_at, this_at, arguments_at, all_fitted, fitted, brought, numeral, right_operand, operate, operated as joined, met, met_as, met_by, counted, altered, unary_at, integer_of, bool_of, handle_of, handle_at, convert_at, converting, choice, chosen, operator_of, is_stored, assigned, assigned_to, stored, updated, is_assign, field_of, member_at, method_of, invoked, invoked_at, made, in_brackets}
+use Rattle.ash_typing.specs.Expressions.{Typed, Met, typed, all_typed, links_typed, suffixes_typed, suffix_typed, call_typed, invocation_typed, called, callee_at, known_at, this_at, arguments_at, all_fitted, fitted, brought, numeral, right_operand, operate, operated as joined, met, met_as, met_by, counted, altered, unary_at, integer_of, bool_of, handle_of, handle_at, convert_at, converting, choice, chosen, operator_of, is_stored, assigned, assigned_to, stored, updated, is_assign, field_of, member_at, method_of, invoked, invoked_at, made, in_brackets, applied}
 use Rattle.ash_typing.specs.Typing.{IsKnown, is_known, Term, term, placed, term_of, HasType, AllHaveType, LinksHaveType, SuffixesHaveType, SuffixHasType, AreArguments, no_arguments, argument, number, truth, null, this, name, call, brackets, to_integer, to_bool, postfix, plus, minus, complement, not, increment, decrement, handle, handle_written, binary, conditional, assign, update, none_left, each, no_more, operated, no_suffixes, suffixed, field, method, increment_after, decrement_after, Meet, beside, converted_to, left_of, right_of, right_by}
 use Rattle.ash_typing.proofs.TypingWords.{no_fault, same_ok, bind_ok, unconverted, beside_is, known_alone, right_is}
 use Rattle.ash_typing.proofs.TypingKnown.{known_type, outcome_known, beside_known, suffix_known}
@@ -191,14 +191,14 @@ met_ok : (op : BinaryOp) (t u : Typed) (m : Met) → is_known t.ty ≡ true → 
 unfolding met
 met_ok op t u m known kept h = met_by_ok (sort_of op) (beside (sort_of op) (term_of u) (term_of t)) (beside (sort_of op) (term_of t) (term_of u)) t.at u.at m (beside_known (sort_of op) (term_of u) (term_of t) known) (beside_known (sort_of op) (term_of t) (term_of u) kept) (rw (beside_is (sort_of op) (term_of u) (term_of t) t.at, beside_is (sort_of op) (term_of t) (term_of u) u.at) at h)
 
-operate_ok : (op : BinaryOp) (t u r : Typed) → is_known t.ty ≡ true → is_known u.ty ≡ true → operate op t u ≡ Ok r → (o : Operands) × Meet op (term_of t) (term_of u) o × (term (outcome (sort_of op) o) (Operate (record { operator = op; operands = o }) (left_of op o (term_of t) (term_of u)) (right_of op o (term_of t) (term_of u))) ≡ term_of r)
+operate_ok : (op : BinaryOp) (t u r : Typed) → is_known t.ty ≡ true → is_known u.ty ≡ true → operate op t u ≡ Ok r → (o : Operands) × Meet op (term_of t) (term_of u) o × (term (outcome (sort_of op) o) (applied op o (left_of op o (term_of t) (term_of u)) (right_of op o (term_of t) (term_of u))) ≡ term_of r)
 unfolding operate
 operate_ok op t u r known kept h =
     let m = bind_ok (met op t u) (λ m. Ok (joined op m)) r h in
     let f = met_ok op t u m.0 known kept m.1 in
     (f.0, f.1, ap (λ m. term_of (joined op m)) f.2 ∙ ap term_of (same_ok (joined op m.0) r m.2))
 
-linked_by : {env : Environment} {t u v w : Term} {op : BinaryOp} {e : written.Expr} {ls : written.Links} {o : Operands} → HasType env false e u → Meet op t u o → term (outcome (sort_of op) o) (Operate (record { operator = op; operands = o }) (left_of op o t u) (right_of op o t u)) ≡ v → LinksHaveType env v ls w → LinksHaveType env t (written.link op e ls) w
+linked_by : {env : Environment} {t u v w : Term} {op : BinaryOp} {e : written.Expr} {ls : written.Links} {o : Operands} → HasType env false e u → Meet op t u o → term (outcome (sort_of op) o) (applied op o (left_of op o t u) (right_of op o t u)) ≡ v → LinksHaveType env v ls w → LinksHaveType env t (written.link op e ls) w
 linked_by {env} {w = w} {ls = ls} d m is rest = operated d m (subst (λ (v : Term). LinksHaveType env v ls w) (sym is) rest)
 
 one_link : (env : Environment) (t : Typed) (op : BinaryOp) (e : written.Expr) (ls : written.Links) (r : Typed) → IsKnown env → is_known t.ty ≡ true → Sound env false e → ((v : Typed) → is_known v.ty ≡ true → links_typed env v ls ≡ Ok r → LinksHaveType env (term_of v) ls (term_of r)) → links_typed env t (written.link op e ls) ≡ Ok r → LinksHaveType env (term_of t) (written.link op e ls) (term_of r)

@@ -23,7 +23,7 @@ use Rattle.ash_typed.specs.Tree.{Expr, Exprs, Number, Truth, Null, This, Read, I
 use Rattle.ash_typed.specs.TypeOf.{type_of, type_of_place, type_of_member, result_of_method, result_of_target, result_of_operator, kept, chosen_type}
 use Rattle.ash_typing.specs.Types.{is_same_kind, fits_object, common, object_of, meeting, sort_of, outcome, ty_of}
 use Rattle.ash_typing.specs.Environment.{Environment, Declared, Function, Class, Known, Callee, Invoked, first_from, last_named, declares, is_called, is_class, this_class, variable_in, callee_in, member_in, method_in, method_of_class, method_of_kind, host_member_in, service_function, host_type, host_method, property, named_in, own_method_in, class_in, function_in, field_in, local_in, own_field_in, global_in, callee_beside, class_method}
-use Rattle.ash_typing.specs.Expressions.{conversion}
+use Rattle.ash_typing.specs.Expressions.{conversion, applied}
 use Rattle.ash_typing.specs.Typing.{IsKnown, is_known, Term, converted_to, HasType, LinksHaveType, SuffixesHaveType, SuffixHasType, number, truth, null, this, name, call, brackets, to_integer, to_bool, postfix, plus, minus, complement, not, increment, decrement, handle, handle_written, binary as operators, conditional, assign, update, no_more, operated, no_suffixes, suffixed, field, method, increment_after, decrement_after}
 use Rattle.ash_typing.proofs.TypingKnown.{known_type, at_some, if_map, if_or, if_then, if_any, if_all}
 
@@ -126,51 +126,51 @@ place_type _ at h = absurd (none-some at h)
 
 -- operators
 
-operator_type : (op : BinaryOp) (o : Operands) → result_of_operator op o ≡ outcome (sort_of op) o
-operator_type binary.Multiply (operands.Integers k) = refl
-operator_type binary.Multiply operands.Bools = refl
-operator_type binary.Multiply operands.Handles = refl
-operator_type binary.Divide (operands.Integers k) = refl
-operator_type binary.Divide operands.Bools = refl
-operator_type binary.Divide operands.Handles = refl
-operator_type binary.Remainder (operands.Integers k) = refl
-operator_type binary.Remainder operands.Bools = refl
-operator_type binary.Remainder operands.Handles = refl
-operator_type binary.Add (operands.Integers k) = refl
-operator_type binary.Add operands.Bools = refl
-operator_type binary.Add operands.Handles = refl
-operator_type binary.Subtract (operands.Integers k) = refl
-operator_type binary.Subtract operands.Bools = refl
-operator_type binary.Subtract operands.Handles = refl
-operator_type binary.ShiftLeft (operands.Integers k) = refl
-operator_type binary.ShiftLeft operands.Bools = refl
-operator_type binary.ShiftLeft operands.Handles = refl
-operator_type binary.ShiftRight (operands.Integers k) = refl
-operator_type binary.ShiftRight operands.Bools = refl
-operator_type binary.ShiftRight operands.Handles = refl
-operator_type binary.ShiftRightArithmetic (operands.Integers k) = refl
-operator_type binary.ShiftRightArithmetic operands.Bools = refl
-operator_type binary.ShiftRightArithmetic operands.Handles = refl
-operator_type binary.BitAnd (operands.Integers k) = refl
-operator_type binary.BitAnd operands.Bools = refl
-operator_type binary.BitAnd operands.Handles = refl
-operator_type binary.BitXor (operands.Integers k) = refl
-operator_type binary.BitXor operands.Bools = refl
-operator_type binary.BitXor operands.Handles = refl
-operator_type binary.BitOr (operands.Integers k) = refl
-operator_type binary.BitOr operands.Bools = refl
-operator_type binary.BitOr operands.Handles = refl
-operator_type binary.Less o = refl
-operator_type binary.LessOrEqual o = refl
-operator_type binary.Greater o = refl
-operator_type binary.GreaterOrEqual o = refl
-operator_type binary.Equal o = refl
-operator_type binary.NotEqual o = refl
-operator_type binary.Is o = refl
-operator_type binary.NotIs o = refl
-operator_type binary.Xor o = refl
-operator_type binary.And o = refl
-operator_type binary.Or o = refl
+applied_type : (op : BinaryOp) (o : Operands) (a b : Expr) → type_of (applied op o a b) ≡ outcome (sort_of op) o
+applied_type binary.Multiply (operands.Integers k) a b = refl
+applied_type binary.Multiply operands.Bools a b = refl
+applied_type binary.Multiply operands.Handles a b = refl
+applied_type binary.Divide (operands.Integers k) a b = refl
+applied_type binary.Divide operands.Bools a b = refl
+applied_type binary.Divide operands.Handles a b = refl
+applied_type binary.Remainder (operands.Integers k) a b = refl
+applied_type binary.Remainder operands.Bools a b = refl
+applied_type binary.Remainder operands.Handles a b = refl
+applied_type binary.Add (operands.Integers k) a b = refl
+applied_type binary.Add operands.Bools a b = refl
+applied_type binary.Add operands.Handles a b = refl
+applied_type binary.Subtract (operands.Integers k) a b = refl
+applied_type binary.Subtract operands.Bools a b = refl
+applied_type binary.Subtract operands.Handles a b = refl
+applied_type binary.ShiftLeft (operands.Integers k) a b = refl
+applied_type binary.ShiftLeft operands.Bools a b = refl
+applied_type binary.ShiftLeft operands.Handles a b = refl
+applied_type binary.ShiftRight (operands.Integers k) a b = refl
+applied_type binary.ShiftRight operands.Bools a b = refl
+applied_type binary.ShiftRight operands.Handles a b = refl
+applied_type binary.ShiftRightArithmetic (operands.Integers k) a b = refl
+applied_type binary.ShiftRightArithmetic operands.Bools a b = refl
+applied_type binary.ShiftRightArithmetic operands.Handles a b = refl
+applied_type binary.BitAnd (operands.Integers k) a b = refl
+applied_type binary.BitAnd operands.Bools a b = refl
+applied_type binary.BitAnd operands.Handles a b = refl
+applied_type binary.BitXor (operands.Integers k) a b = refl
+applied_type binary.BitXor operands.Bools a b = refl
+applied_type binary.BitXor operands.Handles a b = refl
+applied_type binary.BitOr (operands.Integers k) a b = refl
+applied_type binary.BitOr operands.Bools a b = refl
+applied_type binary.BitOr operands.Handles a b = refl
+applied_type binary.Less o a b = refl
+applied_type binary.LessOrEqual o a b = refl
+applied_type binary.Greater o a b = refl
+applied_type binary.GreaterOrEqual o a b = refl
+applied_type binary.Equal o a b = refl
+applied_type binary.NotEqual o a b = refl
+applied_type binary.Is o a b = refl
+applied_type binary.NotIs o a b = refl
+applied_type binary.Xor o a b = refl
+applied_type binary.And o a b = refl
+applied_type binary.Or o a b = refl
 
 kept_type : (of : Ty) (o : ObjectType) → object_of of ≡ Some o → kept of ≡ ty.Handle o
 kept_type (ty.Object p) o h = ap ty.Handle (same_Some p o h)
@@ -226,7 +226,7 @@ mutual
 
   links_type : {env : Environment} {t : Term} {ls : written.Links} {u : Term} → LinksHaveType env t ls u → IsKnown env → type_of t.tree ≡ t.ty → type_of u.tree ≡ u.ty
   links_type no_more known h = h
-  links_type (operated {op = op} {o = o} e m rest) known h = links_type rest known (operator_type op o)
+  links_type (operated {op = op} {o = o} e m rest) known h = links_type rest known (applied_type op o _ _)
 
   suffixes_type : {env : Environment} {t : Term} {ss : written.Suffixes} {u : Term} → SuffixesHaveType env t ss u → IsKnown env → type_of t.tree ≡ t.ty → type_of u.tree ≡ u.ty
   suffixes_type no_suffixes known h = h

@@ -23,6 +23,7 @@ use Rattle.ash_typing.specs.declared.forms.Alone.TheVariants as alone
 use Rattle.ash_typed.specs.declared.tree.operations.Change.{Change}
 use Rattle.ash_typed.specs.declared.tree.operations.Change.TheVariants as changes
 use Rattle.ash_typed.specs.declared.tree.operations.Conversion.{Conversion}
+use Rattle.ash_typed.specs.declared.tree.operations.Lazy.{Lazy}
 use Rattle.ash_typed.specs.declared.tree.operations.Member.{Member}
 use Rattle.ash_typed.specs.declared.tree.operations.Member.TheVariants as members
 use Rattle.ash_typed.specs.declared.tree.operations.Operands.{Operands}
@@ -30,8 +31,8 @@ use Rattle.ash_typed.specs.declared.tree.operations.Operands.TheVariants as oper
 use Rattle.ash_typed.specs.declared.tree.operations.Step.{Step}
 use Rattle.ash_typed.specs.declared.tree.operations.Step.TheVariants as steps
 use Rattle.ash_typing.specs.Checking.{Checking, ◌>>=◌, broken}
-use Rattle.ash_typing.specs.Types.{kind_of, holds, signed, is_same_kind, fits, common, ty_of, sort_of, takes, assumed, meets, outcome}
-use Rattle.ash_typed.specs.Tree.{Expr, Number, Truth, Null, This, Read, Invoke, Alter, Operate, Conditional, Assign, Update, Count, Call, Place, Held, Exprs, no_expr, expr, place_in, converted}
+use Rattle.ash_typing.specs.Types.{kind_of, holds, signed, is_same_kind, fits, common, ty_of, sort_of, lazy_of, takes, assumed, meets, outcome}
+use Rattle.ash_typed.specs.Tree.{Expr, Number, Truth, Null, This, Read, Invoke, Alter, Operate, Lazily, Conditional, Assign, Update, Count, Call, Place, Held, Exprs, no_expr, expr, place_in, converted}
 use Rattle.ash_typing.specs.Environment.{Environment, Known, Callee, Invoked, variable_in, callee_in, member_in, method_in}
 
 -- a typed expression, with the offset of its first token and what it is by itself
@@ -120,8 +121,16 @@ met_by s a b = met_as s a b (meets s (assumed s b.ty a.ty) (assumed s a.ty b.ty)
 unfoldable pub met : BinaryOp → Typed → Typed → Checking Met
 met op a b = met_by (sort_of op) (adapted (sort_of op) b.alone b.ty a) (adapted (sort_of op) a.alone a.ty b)
 
+-- what an operator makes of its operands
+abbrev pub applied_by : Option Lazy → BinaryOp → Operands → Expr → Expr → Expr
+applied_by (Some l) op o a b = Lazily l a b
+applied_by None op o a b = Operate (record { operator = op; operands = o }) a b
+
+abbrev pub applied : BinaryOp → Operands → Expr → Expr → Expr
+applied op o a b = applied_by (lazy_of op) op o a b
+
 abbrev pub operated : BinaryOp → Met → Typed
-operated op m = made m.left.at (outcome (sort_of op) m.operands) (Operate (record { operator = op; operands = m.operands }) (brought (operand_type m.operands) m.left) m.right)
+operated op m = made m.left.at (outcome (sort_of op) m.operands) (applied op m.operands (brought (operand_type m.operands) m.left) m.right)
 
 unfoldable pub operate : BinaryOp → Typed → Typed → Checking Typed
 operate op a b = met op a b >>= λ m. Ok (operated op m)

@@ -12,6 +12,8 @@ use Rattle.ash_typed.specs.declared.types.Ty.{Ty}
 use Rattle.ash_typed.specs.declared.types.Ty.TheVariants as ty
 use Rattle.ash_typing.specs.declared.forms.Sort.{Sort}
 use Rattle.ash_typing.specs.declared.forms.Sort.TheVariants as sort
+use Rattle.ash_typed.specs.declared.tree.operations.Lazy.{Lazy}
+use Rattle.ash_typed.specs.declared.tree.operations.Lazy.TheVariants as lazies
 use Rattle.ash_typed.specs.declared.tree.operations.Operands.{Operands}
 use Rattle.ash_typed.specs.declared.tree.operations.Operands.TheVariants as operands
 
@@ -162,6 +164,12 @@ sort_of binary.NotIs = sort.Identity
 sort_of binary.Xor = sort.Logic
 sort_of binary.And = sort.Logic
 sort_of binary.Or = sort.Logic
+
+-- the operators that evaluate their right operand last, and only where it counts
+abbrev pub lazy_of : BinaryOp → Option Lazy
+lazy_of binary.And = Some lazies.And
+lazy_of binary.Or = Some lazies.Or
+lazy_of _ = None
 
 -- whether an operator takes a type anywhere
 abbrev pub takes : Sort → Ty → Bool

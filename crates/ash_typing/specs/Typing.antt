@@ -27,9 +27,9 @@ use Rattle.ash_typed.specs.declared.tree.operations.Member.{Member}
 use Rattle.ash_typed.specs.declared.tree.operations.Operands.{Operands}
 use Rattle.ash_typed.specs.declared.tree.operations.Step.TheVariants as steps
 use Rattle.ash_typing.specs.Types.{kind_of, holds, signed, fits, common, object_of, ty_of, sort_of, meets, outcome}
-use Rattle.ash_typed.specs.Tree.{Expr, Number, Truth, Null, This, Read, Invoke, Alter, Operate, Conditional, Assign, Update, Count, Call, Place, Held, Exprs, no_expr, expr, place_in, converted}
+use Rattle.ash_typed.specs.Tree.{Expr, Number, Truth, Null, This, Read, Invoke, Alter, Conditional, Assign, Update, Count, Call, Place, Held, Exprs, no_expr, expr, place_in, converted}
 use Rattle.ash_typing.specs.Environment.{Environment, Declared, Function, Class, Known, Callee, Invoked, variable_in, callee_in, member_in, method_in}
-use Rattle.ash_typing.specs.Expressions.{Typed, conversion, operand_type, operator_of, is_stored}
+use Rattle.ash_typing.specs.Expressions.{Typed, conversion, operand_type, applied, operator_of, is_stored}
 use Rattle.ash_typing.specs.Declarations.{Initialization, initialization, construction}
 
 -- an environment whose types are known
@@ -234,7 +234,7 @@ mutual
     operated : {op : BinaryOp} {e : written.Expr} {ls : written.Links} {t u v : Term} {o : Operands}
         → HasType env false e u
         → Meet op t u o
-        → LinksHaveType env (term (outcome (sort_of op) o) (Operate (record { operator = op; operands = o }) (left_of op o t u) (right_of op o t u))) ls v
+        → LinksHaveType env (term (outcome (sort_of op) o) (applied op o (left_of op o t u) (right_of op o t u))) ls v
         → LinksHaveType env t (written.link op e ls) v
 
   -- suffixes, and what stands before the first

@@ -4,7 +4,7 @@
 //! long.
 
 use crate::tree::operations::{
-    Change, Conversion, Member, Method, Operation, Step, Target, Variable,
+    Change, Conversion, Lazy, Member, Method, Operation, Step, Target, Variable,
 };
 use crate::types::Kind;
 
@@ -40,6 +40,12 @@ pub enum Expr {
     Chain {
         first: Box<Expr>,
         operands: Vec<Operand>,
+    },
+    /// The first operand, then the others as long as they leave open what comes out.
+    Lazy {
+        operator: Lazy,
+        first: Box<Expr>,
+        others: Vec<Expr>,
     },
     Conditional {
         condition: Box<Expr>,

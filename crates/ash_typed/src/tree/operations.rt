@@ -79,6 +79,15 @@ pub struct Operation {
     pub operands: Operands,
 }
 
+/// An operator whose right operand is evaluated only where the left one leaves open what comes out.
+#[derive(Clone, Copy, Debug, PartialEq, Eq)]
+pub enum Lazy {
+    /// `&&`
+    And,
+    /// `||`
+    Or,
+}
+
 /// An operation before its operand.
 #[derive(Clone, Copy, Debug, PartialEq, Eq)]
 pub enum Change {
