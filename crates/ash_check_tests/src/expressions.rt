@@ -7,7 +7,7 @@ use ash_expressions::{Class, Declared, Environment, Function, Heads, Typed, expr
 use ash_registry::Registry;
 use ash_tree as written;
 use ash_tree::{Initializer, Item, Module};
-use ash_typed::{Expr, Kind, ObjectType, Operands, Ty};
+use ash_typed::{Expr, Kind, ObjectType, Operands, Operation, Ty};
 use std::alloc::{AllocError, Global};
 use std::process::Abort;
 use std::test::Fail;
@@ -107,12 +107,19 @@ fn type_of(alloc: Global, source: &str) -> Result<String, Fail> {
     }
 }
 
+fn compared(operation: Operation) -> Operands {
+    match operation {
+        Operation::Calculate(calculation) => Operands::Integers(calculation.of),
+        Operation::Compare(_, operands) => operands,
+    }
+}
+
 /// What the last operator takes its operands for.
 fn operands_in(tree: &Expr) -> Option<Operands> {
     match tree {
-        Expr::Chain { operands, .. } => Some(operands.last()?.operation.operands),
+        Expr::Chain { operands, .. } => Some(compared(operands.last()?.operation)),
         Expr::Lazy { .. } => Some(Operands::Bools),
-        Expr::Update { operation, .. } => Some(operation.operands),
+        Expr::Update { calculation, .. } => Some(Operands::Integers(calculation.of)),
         _ => None,
     }
 }

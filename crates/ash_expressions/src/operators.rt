@@ -1,7 +1,7 @@
 //! Operators, conversions and assignments, once their operands are typed.
 
 ghost use Rattle.std.specs.Prelude.{◌≡◌, Ok, IfOk};
-ghost use Rattle.ash_typed.specs.Tree.{Alter, place_in};
+ghost use Rattle.ash_typed.specs.Tree.{Alter, Operate, Lazily, place_in};
 ghost use Rattle.ash_typed.specs.Views.{expr_of, place_of};
 ghost use Rattle.ash_typing.specs.Expressions as typing;
 ghost use Rattle.ash_expressions.specs.Gives.{Gives};
@@ -10,12 +10,15 @@ ghost use Rattle.ash_expressions.specs.Views.{typed_of, met_of};
 use crate::stop::{Checking, broken};
 use crate::typed::{Typed, adapt, brought, fitted, handle, integer, made, truth};
 use crate::types::{
-    assumed, common, conversion, is_stored, is_void, lazy_of, meets, operand_type, operator_of,
-    outcome, signed, sort_of, takes, ty_of,
+    assumed, binary_of, common, conversion, integers_in, is_stored, is_void, meets, operand_type,
+    operator_of, outcome, signed, sort_of, takes, ty_of, typed_operator,
 };
 use ash_tree::{AssignOp, BinaryOp, Primitive, UnaryOp};
-use ash_typed::{Change, Expr, Kind, Operand, Operands, Operation, Place, Step, Ty, nodes};
-use ash_typing::{Alone, Rule, Sort};
+use ash_typed::{
+    Calculation, Calculator, Change, Expr, Kind, Lazy, Operand, Operands, Operation, Place, Step,
+    Ty, nodes,
+};
+use ash_typing::{Alone, Operator, Rule, Sort};
 use std::alloc::{AllocError, Global};
 
 /// The operands of an operator, and what it takes them for.
@@ -72,6 +75,38 @@ fn met_operands(
     met_by(alloc, sort, left, right)
 }
 
+/// What is made of two operands, of which the left one is converted to what it is taken for.
+fn operated(
+    alloc: Global,
+    operation: Operation,
+    operands: Operands,
+    left: Typed,
+    right: Expr,
+) -> Result<Expr, AllocError>
+    ensures { IfOk result (λ e. expr_of e ≡ Operate operation (typing.brought (typing.operand_type operands) (typed_of left)) (expr_of right)) }
+{
+    let next = Operand {
+        before: conversion(operand_type(operands), left.ty),
+        operation,
+        value: right,
+    };
+    nodes::operate(alloc, left.tree, next)
+}
+
+/// `&&` or `||` between two operands, of which the left one is converted to what it is taken for.
+fn lazily(
+    alloc: Global,
+    operator: Lazy,
+    operands: Operands,
+    left: Typed,
+    right: Expr,
+) -> Result<Expr, AllocError>
+    ensures { IfOk result (λ e. expr_of e ≡ Lazily operator (typing.brought (typing.operand_type operands) (typed_of left)) (expr_of right)) }
+{
+    let left = brought(alloc, operand_type(operands), left)?;
+    nodes::lazily(alloc, operator, left, right)
+}
+
 /// What an operator makes of its operands, of which the left one is converted to what it is taken for.
 fn applied(
     alloc: Global,
@@ -82,19 +117,23 @@ fn applied(
 ) -> Result<Expr, AllocError>
     ensures { IfOk result (λ e. expr_of e ≡ typing.applied operator operands (typing.brought (typing.operand_type operands) (typed_of left)) (expr_of right)) }
 {
-    match lazy_of(operator) {
-        Some(lazy) => {
-            let left = brought(alloc, operand_type(operands), left)?;
-            nodes::lazily(alloc, lazy, left, right)
+    match typed_operator(operator) {
+        Operator::Calculate(operator) => {
+            let of = integers_in(operands);
+            let calculation = Calculation { operator, of };
+            operated(
+                alloc,
+                Operation::Calculate(calculation),
+                operands,
+                left,
+                right,
+            )
         }
-        None => {
-            let next = Operand {
-                before: conversion(operand_type(operands), left.ty),
-                operation: Operation { operator, operands },
-                value: right,
-            };
-            nodes::operate(alloc, left.tree, next)
+        Operator::Compare(comparator) => {
+            let comparison = Operation::Compare(comparator, operands);
+            operated(alloc, comparison, operands, left, right)
         }
+        Operator::Lazy(lazy) => lazily(alloc, lazy, operands, left, right),
     }
 }
 
@@ -237,18 +276,18 @@ fn updated(
     at: usize,
     of: Ty,
     place: Place,
-    operator: BinaryOp,
+    operator: Calculator,
     value: Typed,
 ) -> Checking<Typed>
     ensures { Gives typed_of result (typing.updated at of (place_of place) operator (typed_of value)) }
 {
-    let met = met_operands(alloc, operator, made(at, of, Expr::Null), value)?;
+    let met = met_operands(alloc, binary_of(operator), made(at, of, Expr::Null), value)?;
     let kind = integer(at, of)?;
-    let operation = Operation {
+    let calculation = Calculation {
         operator,
-        operands: met.operands,
+        of: integers_in(met.operands),
     };
-    let tree = nodes::update(alloc, place, kind, operation, met.right)?;
+    let tree = nodes::update(alloc, place, kind, calculation, met.right)?;
     Ok(made(at, Ty::Integer(kind), tree))
 }
 
@@ -258,7 +297,7 @@ fn stored(
     at: usize,
     of: Ty,
     place: Place,
-    operator: Option<BinaryOp>,
+    operator: Option<Calculator>,
     value: Typed,
 ) -> Checking<Typed>
     ensures { Gives typed_of result (typing.stored at of (place_of place) operator (typed_of value)) }

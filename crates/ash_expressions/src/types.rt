@@ -5,8 +5,8 @@ ghost use Rattle.ash_typing.specs.Types as types;
 ghost use Rattle.ash_typing.specs.Expressions as typing;
 
 use ash_tree::{AssignOp, BinaryOp, Primitive};
-use ash_typed::{Conversion, Kind, Lazy, ObjectType, Operands, Ty};
-use ash_typing::{Alone, Sort};
+use ash_typed::{Calculator, Comparator, Conversion, Kind, Lazy, ObjectType, Operands, Ty};
+use ash_typing::{Alone, Operator, Sort};
 
 pub(crate) fn is_signed(kind: Kind) -> bool
     ensures { result ≡ types.is_signed kind }
@@ -189,34 +189,82 @@ pub(crate) fn sort_of(operator: BinaryOp) -> Sort
     }
 }
 
-/// `&&` and `||`
-pub(crate) fn lazy_of(operator: BinaryOp) -> Option<Lazy>
-    ensures { result ≡ types.lazy_of operator }
+/// What an operator is in a typed tree.
+pub(crate) fn typed_operator(operator: BinaryOp) -> Operator
+    ensures { result ≡ types.typed_operator operator }
 {
     match operator {
-        BinaryOp::And => Some(Lazy::And),
-        BinaryOp::Or => Some(Lazy::Or),
-        _ => None,
+        BinaryOp::Multiply => Operator::Calculate(Calculator::Multiply),
+        BinaryOp::Divide => Operator::Calculate(Calculator::Divide),
+        BinaryOp::Remainder => Operator::Calculate(Calculator::Remainder),
+        BinaryOp::Add => Operator::Calculate(Calculator::Add),
+        BinaryOp::Subtract => Operator::Calculate(Calculator::Subtract),
+        BinaryOp::ShiftLeft => Operator::Calculate(Calculator::ShiftLeft),
+        BinaryOp::ShiftRight => Operator::Calculate(Calculator::ShiftRight),
+        BinaryOp::ShiftRightArithmetic => Operator::Calculate(Calculator::ShiftRightArithmetic),
+        BinaryOp::BitAnd => Operator::Calculate(Calculator::BitAnd),
+        BinaryOp::BitXor => Operator::Calculate(Calculator::BitXor),
+        BinaryOp::BitOr => Operator::Calculate(Calculator::BitOr),
+        BinaryOp::Less => Operator::Compare(Comparator::Less),
+        BinaryOp::LessOrEqual => Operator::Compare(Comparator::LessOrEqual),
+        BinaryOp::Greater => Operator::Compare(Comparator::Greater),
+        BinaryOp::GreaterOrEqual => Operator::Compare(Comparator::GreaterOrEqual),
+        BinaryOp::Equal => Operator::Compare(Comparator::Equal),
+        BinaryOp::NotEqual => Operator::Compare(Comparator::NotEqual),
+        BinaryOp::Is => Operator::Compare(Comparator::Is),
+        BinaryOp::NotIs => Operator::Compare(Comparator::NotIs),
+        BinaryOp::Xor => Operator::Compare(Comparator::Xor),
+        BinaryOp::And => Operator::Lazy(Lazy::And),
+        BinaryOp::Or => Operator::Lazy(Lazy::Or),
+    }
+}
+
+/// The operator that calculates so.
+pub(crate) fn binary_of(operator: Calculator) -> BinaryOp
+    ensures { result ≡ types.binary_of operator }
+{
+    match operator {
+        Calculator::Multiply => BinaryOp::Multiply,
+        Calculator::Divide => BinaryOp::Divide,
+        Calculator::Remainder => BinaryOp::Remainder,
+        Calculator::Add => BinaryOp::Add,
+        Calculator::Subtract => BinaryOp::Subtract,
+        Calculator::ShiftLeft => BinaryOp::ShiftLeft,
+        Calculator::ShiftRight => BinaryOp::ShiftRight,
+        Calculator::ShiftRightArithmetic => BinaryOp::ShiftRightArithmetic,
+        Calculator::BitAnd => BinaryOp::BitAnd,
+        Calculator::BitXor => BinaryOp::BitXor,
+        Calculator::BitOr => BinaryOp::BitOr,
+    }
+}
+
+/// The integer type of operands, where they are integers.
+pub(crate) fn integers_in(operands: Operands) -> Kind
+    ensures { result ≡ types.integers_in operands }
+{
+    match operands {
+        Operands::Integers(kind) => kind,
+        _ => Kind::Int,
     }
 }
 
 /// The operator of `a op= b`.
-pub(crate) fn operator_of(operator: AssignOp) -> Option<BinaryOp>
+pub(crate) fn operator_of(operator: AssignOp) -> Option<Calculator>
     ensures { result ≡ typing.operator_of operator }
 {
     match operator {
         AssignOp::Assign => None,
-        AssignOp::Add => Some(BinaryOp::Add),
-        AssignOp::Subtract => Some(BinaryOp::Subtract),
-        AssignOp::Multiply => Some(BinaryOp::Multiply),
-        AssignOp::Divide => Some(BinaryOp::Divide),
-        AssignOp::Remainder => Some(BinaryOp::Remainder),
-        AssignOp::BitAnd => Some(BinaryOp::BitAnd),
-        AssignOp::BitOr => Some(BinaryOp::BitOr),
-        AssignOp::BitXor => Some(BinaryOp::BitXor),
-        AssignOp::ShiftLeft => Some(BinaryOp::ShiftLeft),
-        AssignOp::ShiftRight => Some(BinaryOp::ShiftRight),
-        AssignOp::ShiftRightArithmetic => Some(BinaryOp::ShiftRightArithmetic),
+        AssignOp::Add => Some(Calculator::Add),
+        AssignOp::Subtract => Some(Calculator::Subtract),
+        AssignOp::Multiply => Some(Calculator::Multiply),
+        AssignOp::Divide => Some(Calculator::Divide),
+        AssignOp::Remainder => Some(Calculator::Remainder),
+        AssignOp::BitAnd => Some(Calculator::BitAnd),
+        AssignOp::BitOr => Some(Calculator::BitOr),
+        AssignOp::BitXor => Some(Calculator::BitXor),
+        AssignOp::ShiftLeft => Some(Calculator::ShiftLeft),
+        AssignOp::ShiftRight => Some(Calculator::ShiftRight),
+        AssignOp::ShiftRightArithmetic => Some(Calculator::ShiftRightArithmetic),
     }
 }
 

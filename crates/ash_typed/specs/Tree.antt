@@ -6,6 +6,7 @@ use Rattle.ash_typed.specs.declared.tree.operations.Variable.{Variable}
 use Rattle.ash_typed.specs.declared.tree.operations.Member.{Member}
 use Rattle.ash_typed.specs.declared.tree.operations.Method.{Method}
 use Rattle.ash_typed.specs.declared.tree.operations.Target.{Target}
+use Rattle.ash_typed.specs.declared.tree.operations.Calculation.{Calculation}
 use Rattle.ash_typed.specs.declared.tree.operations.Operation.{Operation}
 use Rattle.ash_typed.specs.declared.tree.operations.Lazy.{Lazy}
 use Rattle.ash_typed.specs.declared.tree.operations.Change.{Change}
@@ -26,7 +27,7 @@ mutual
     Lazily : Lazy → Expr → Expr → Expr
     Conditional : Expr → Expr → Expr → Expr
     Assign : Place → Expr → Expr
-    Update : Place → Kind → Operation → Expr → Expr
+    Update : Place → Kind → Calculation → Expr → Expr
     Count : Place → Kind → Step → Expr
     Call : Target → Exprs → Expr
 

@@ -1,6 +1,4 @@
 -- The type of a typed expression, which its tree alone says.
-use Rattle.ash_tree.specs.declared.tree.operators.BinaryOp.{BinaryOp}
-use Rattle.ash_tree.specs.declared.tree.operators.BinaryOp.TheVariants as binary
 use Rattle.ash_typed.specs.declared.types.ObjectType.TheVariants as objects
 use Rattle.ash_typed.specs.declared.types.Ty.{Ty}
 use Rattle.ash_typed.specs.declared.types.Ty.TheVariants as ty
@@ -12,8 +10,8 @@ use Rattle.ash_typed.specs.declared.tree.operations.Method.{Method}
 use Rattle.ash_typed.specs.declared.tree.operations.Method.TheVariants as methods
 use Rattle.ash_typed.specs.declared.tree.operations.Target.{Target}
 use Rattle.ash_typed.specs.declared.tree.operations.Target.TheVariants as targets
-use Rattle.ash_typed.specs.declared.tree.operations.Operands.{Operands}
-use Rattle.ash_typed.specs.declared.tree.operations.Operands.TheVariants as operands
+use Rattle.ash_typed.specs.declared.tree.operations.Operation.{Operation}
+use Rattle.ash_typed.specs.declared.tree.operations.Operation.TheVariants as operations
 use Rattle.ash_typed.specs.declared.tree.operations.Change.{Change}
 use Rattle.ash_typed.specs.declared.tree.operations.Change.TheVariants as changes
 use Rattle.ash_typed.specs.Tree.{Expr, Number, Truth, Null, This, Read, Invoke, Convert, Alter, Operate, Lazily, Conditional, Assign, Update, Count, Call, Place, Stored, Held}
@@ -43,24 +41,10 @@ result_of_target (targets.Service service id result) = result
 result_of_target (targets.Class class) = ty.Handle (objects.Class class)
 result_of_target (targets.Host kind) = ty.Handle (objects.Host kind)
 
--- what an operator gives: an integer of the type that it computes with, or a truth value
-abbrev pub integer_of : Operands → Ty
-integer_of (operands.Integers kind) = ty.Integer kind
-integer_of _ = ty.Bool
-
-abbrev pub result_of_operator : BinaryOp → Operands → Ty
-result_of_operator binary.Multiply o = integer_of o
-result_of_operator binary.Divide o = integer_of o
-result_of_operator binary.Remainder o = integer_of o
-result_of_operator binary.Add o = integer_of o
-result_of_operator binary.Subtract o = integer_of o
-result_of_operator binary.ShiftLeft o = integer_of o
-result_of_operator binary.ShiftRight o = integer_of o
-result_of_operator binary.ShiftRightArithmetic o = integer_of o
-result_of_operator binary.BitAnd o = integer_of o
-result_of_operator binary.BitXor o = integer_of o
-result_of_operator binary.BitOr o = integer_of o
-result_of_operator _ o = ty.Bool
+-- an integer of the type that is calculated with, or a truth value
+abbrev pub result_of_operation : Operation → Ty
+result_of_operation (operations.Calculate calculation) = ty.Integer calculation.of
+result_of_operation (operations.Compare operator operands) = ty.Bool
 
 -- an object that is no place any more is given by its handle
 abbrev pub kept : Ty → Ty
@@ -87,10 +71,10 @@ type_of (Read place) = type_of_place place
 type_of (Invoke object method es) = result_of_method method
 type_of (Convert conversion e) = ty.Integer conversion.to
 type_of (Alter change e) = altered_type change (type_of e)
-type_of (Operate operation a b) = result_of_operator operation.operator operation.operands
+type_of (Operate operation a b) = result_of_operation operation
 type_of (Lazily operator a b) = ty.Bool
 type_of (Conditional c a b) = chosen_type (type_of a) (type_of b)
 type_of (Assign place e) = type_of_place place
-type_of (Update place kind operation e) = ty.Integer kind
+type_of (Update place kind calculation e) = ty.Integer kind
 type_of (Count place kind step) = ty.Integer kind
 type_of (Call target es) = result_of_target target

@@ -24,7 +24,7 @@ abbrev mutual
   expr_of (variants.Lazy' op a first shape row) = lazies_by op (expr_of first) row
   expr_of (variants.Conditional' a c b t d e) = Conditional (expr_of c) (expr_of t) (expr_of e)
   expr_of (variants.Assign' p a value) = Assign (place_of p) (expr_of value)
-  expr_of (variants.Update' p of operation a value) = Update (place_of p) of operation (expr_of value)
+  expr_of (variants.Update' p of calculation a value) = Update (place_of p) of calculation (expr_of value)
   expr_of (variants.Step p of step) = Count (place_of p) of step
   expr_of (variants.Call' target shape row) = Call target (exprs_of row)
 

@@ -5,7 +5,7 @@
 //! a node. What walks it looks no name up and meets no word of another type than it awaits. `specs/` has the same trees
 //! without where their parts lie in memory, and `nodes` makes them. The rules of typing, which say which script has which
 //! typed tree, are in `ash_typing`, above this crate: what walks typed trees alone does not load them.
-//! The crate stands on `ash_tree`, for the operators and the labels that a script writes.
+//! The crate stands on `ash_tree`, for the labels that a script writes.
 //!
 //! In reading order: `types`, `tree`: `operations`, `expressions`, `statements`, `items`; `nodes`.
 #![tactic(auto)]
@@ -17,7 +17,8 @@ mod types;
 pub use tree::expressions::{Expr, Link, Operand, Place};
 pub use tree::items::{Class, Function, Module, Variables};
 pub use tree::operations::{
-    Change, Conversion, Lazy, Member, Method, Operands, Operation, Step, Target, Variable,
+    Calculation, Calculator, Change, Comparator, Conversion, Lazy, Member, Method, Operands,
+    Operation, Step, Target, Variable,
 };
 pub use tree::statements::{Case, Head, Initialization, Loop, Stmt, StmtKind, Test};
 pub use types::{Kind, ObjectType, Ty};

@@ -8,7 +8,9 @@ ghost use Rattle.ash_typed.specs.BodyViews.{stmt_of, head_of, loop_of, case_of, 
 ghost use Rattle.ash_typed.specs.Flat.{base_of, links_of, first_of, operands_of, others_of};
 
 use crate::tree::expressions::{Expr, Link, Operand, Place};
-use crate::tree::operations::{Change, Conversion, Lazy, Member, Method, Operation, Step, Target};
+use crate::tree::operations::{
+    Calculation, Change, Conversion, Lazy, Member, Method, Step, Target,
+};
 use crate::tree::statements::{Case, Head, Loop, Stmt, StmtKind, Test};
 use crate::types::Kind;
 use ash_tree::Label;
@@ -192,16 +194,16 @@ pub fn update(
     alloc: Global,
     place: Place,
     of: Kind,
-    operation: Operation,
+    calculation: Calculation,
     value: Expr,
 ) -> Result<Expr, AllocError>
-    ensures { IfOk result (λ e. expr_of e ≡ Update (place_of place) of operation (expr_of value)) }
+    ensures { IfOk result (λ e. expr_of e ≡ Update (place_of place) of calculation (expr_of value)) }
 {
     let value = Box::new(alloc, value)?;
     Ok(Expr::Update {
         place,
         of,
-        operation,
+        calculation,
         value,
     })
 }

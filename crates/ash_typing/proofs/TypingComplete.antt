@@ -17,10 +17,12 @@ use Rattle.ash_typing.specs.declared.forms.Alone.{Alone}
 use Rattle.ash_typing.specs.declared.forms.Alone.TheVariants as alone
 use Rattle.ash_typed.specs.declared.tree.operations.Change.TheVariants as changes
 use Rattle.ash_typed.specs.declared.tree.operations.Member.{Member}
+use Rattle.ash_typed.specs.declared.tree.operations.Calculator.{Calculator}
 use Rattle.ash_typed.specs.declared.tree.operations.Operands.{Operands}
+use Rattle.ash_typed.specs.declared.tree.operations.Operands.TheVariants as operands
 use Rattle.ash_typed.specs.declared.tree.operations.Step.{Step}
 use Rattle.ash_typed.specs.declared.tree.operations.Step.TheVariants as steps
-use Rattle.ash_typing.specs.Types.{signed, fits, common, object_of, ty_of, sort_of, outcome}
+use Rattle.ash_typing.specs.Types.{signed, fits, common, object_of, ty_of, sort_of, outcome, binary_of}
 use Rattle.ash_typed.specs.Tree.{Expr, Exprs, Null, Read, Invoke, Alter, Conditional, Assign, Update, Count, Call, Place, Held, no_expr, expr, place_in}
 use Rattle.ash_typing.specs.Environment.{Environment, Callee, Invoked, callee_in, member_in, method_in}
 use Rattle.ash_typing.specs.Expressions.{Typed, typed, all_typed, links_typed, suffixes_typed, suffix_typed, call_typed, invocation_typed, called, arguments_at, all_fitted, fitted, operate, counted, unary_at, convert_at, choice, operator_of, is_stored, assigned, stored, is_assign, field_of, method_of, invoked, made, applied}
@@ -122,11 +124,11 @@ assign_is : (t u : Term) (a b : ℕ) (stands : Place) → place_in t.tree ≡ So
 unfolding assigned stored
 assign_is t u a b stands p s h = rw (p, s, fitted_is t.ty b u h) refl
 
-update_is : (op : AssignOp) (operator : BinaryOp) (t u : Term) (a b : ℕ) (stands : Place) (k : Kind) (o : Operands) → operator_of op ≡ Some operator → place_in t.tree ≡ Some stands → is_stored t.alone t.ty ≡ true → t.ty ≡ ty.Integer k → Meet operator (term t.ty Null) u o → assigned (placed a t) op (placed b u) ≡ Ok (placed a (term t.ty (Update stands k (record { operator = operator; operands = o }) (right_of operator o (term t.ty Null) u))))
+update_is : (op : AssignOp) (c : Calculator) (t u : Term) (a b : ℕ) (stands : Place) (j k : Kind) → operator_of op ≡ Some c → place_in t.tree ≡ Some stands → is_stored t.alone t.ty ≡ true → t.ty ≡ ty.Integer k → Meet (binary_of c) (term t.ty Null) u (operands.Integers j) → assigned (placed a t) op (placed b u) ≡ Ok (placed a (term t.ty (Update stands k (record { operator = c; of = j }) (right_of (binary_of c) (operands.Integers j) (term t.ty Null) u))))
 unfolding assigned stored
-update_is op operator t u a b stands k o e p s i m = rw (p, s, e, met_is operator (term t.ty Null) u o a b m, i) refl
+update_is op c t u a b stands j k e p s i m = rw (p, s, e, met_is (binary_of c) (term t.ty Null) u (operands.Integers j) a b m, i) refl
 
-updates : (op : AssignOp) (operator : BinaryOp) → operator_of op ≡ Some operator → is_assign op ≡ false
+updates : (op : AssignOp) (operator : Calculator) → operator_of op ≡ Some operator → is_assign op ≡ false
 updates assigns.Assign operator h = absurd (none-some operator h)
 updates _ operator h = refl
 
@@ -195,7 +197,7 @@ mutual
   complete (binary {e = e} h ls) = rw (complete h) (links_complete ls (first_at e))
   complete (conditional {c = c} {a = a} {b = b} {t = t} {x = x} {y = y} {of = of} h i k l m) = rw (complete h, complete k, complete l) (choice_is t x y (first_at c) (first_at a) (first_at b) of i m)
   complete (assign {e = e} {v = v} {t = t} {u = u} {at = at} h i s k l) = rw (complete h, complete k) (assign_is t u (first_at e) (first_at v) at i s l)
-  complete (update {op = op} {operator = operator} {e = e} {v = v} {t = t} {u = u} {at = at} {k = k} {o = o} f h i l m n) = rw (updates op operator f, complete h, complete m) (update_is op operator t u (first_at e) (first_at v) at k o f i (rw l (no_handle h k)) l n)
+  complete (update {op = op} {c = c} {e = e} {v = v} {t = t} {u = u} {at = at} {j = j} {k = k} f h i l m n) = rw (updates op c f, complete h, complete m) (update_is op c t u (first_at e) (first_at v) at j k f i (rw l (no_handle h k)) l n)
 
   pub all_complete : {env : Environment} {es : written.Exprs} {ts : List Term} → AllHaveType env es ts → all_typed env es ≡ Ok (all_placed es ts)
   all_complete none_left = refl

@@ -20,16 +20,18 @@ use Rattle.ash_typing.specs.declared.forms.Sort.{Sort}
 use Rattle.ash_typing.specs.declared.forms.Alone.TheVariants as alone
 use Rattle.ash_typed.specs.declared.tree.operations.Change.TheVariants as changes
 use Rattle.ash_typed.specs.declared.tree.operations.Member.{Member}
+use Rattle.ash_typed.specs.declared.tree.operations.Calculator.{Calculator}
 use Rattle.ash_typed.specs.declared.tree.operations.Operands.{Operands}
+use Rattle.ash_typed.specs.declared.tree.operations.Operands.TheVariants as operands
 use Rattle.ash_typed.specs.declared.tree.operations.Step.{Step}
 use Rattle.ash_typed.specs.declared.tree.operations.Step.TheVariants as steps
 use Rattle.ash_typing.specs.Checking.{Checking, ◌>>=◌, broken}
-use Rattle.ash_typing.specs.Types.{signed, fits, common, object_of, ty_of, sort_of, outcome, meets, assumed}
+use Rattle.ash_typing.specs.Types.{signed, fits, common, object_of, ty_of, sort_of, binary_of, integers_in, outcome, meets, assumed}
 use Rattle.ash_typed.specs.Tree.{Expr, Exprs, Truth, Null, This, Read, Invoke, Alter, Conditional, Assign, Update, Count, Call, Place, Held, no_expr, expr, place_in}
 use Rattle.ash_typing.specs.Environment.{Environment, Known, Callee, Invoked, variable_in, callee_in, member_in, method_in}
 use Rattle.ash_typing.specs.Expressions.{Typed, Met, typed, all_typed, links_typed, suffixes_typed, suffix_typed, call_typed, invocation_typed, called, callee_at, known_at, this_at, arguments_at, all_fitted, fitted, brought, numeral, right_operand, operate, operated as joined, met, met_as, met_by, counted, altered, unary_at, integer_of, bool_of, handle_of, handle_at, convert_at, converting, choice, chosen, operator_of, is_stored, assigned, assigned_to, stored, updated, is_assign, field_of, member_at, method_of, invoked, invoked_at, made, in_brackets, applied}
 use Rattle.ash_typing.specs.Typing.{IsKnown, is_known, Term, term, placed, term_of, HasType, AllHaveType, LinksHaveType, SuffixesHaveType, SuffixHasType, AreArguments, no_arguments, argument, number, truth, null, this, name, call, brackets, to_integer, to_bool, postfix, plus, minus, complement, not, increment, decrement, handle, handle_written, binary, conditional, assign, update, none_left, each, no_more, operated, no_suffixes, suffixed, field, method, increment_after, decrement_after, Meet, beside, converted_to, left_of, right_of, right_by}
-use Rattle.ash_typing.proofs.TypingWords.{no_fault, same_ok, bind_ok, unconverted, beside_is, known_alone, right_is}
+use Rattle.ash_typing.proofs.TypingWords.{no_fault, same_ok, bind_ok, unconverted, beside_is, known_alone, right_is, calculated_integers}
 use Rattle.ash_typing.proofs.TypingKnown.{known_type, outcome_known, beside_known, suffix_known}
 use Rattle.ash_typing.proofs.TypingComplete.{terms}
 
@@ -241,19 +243,21 @@ plain_sound env left p e v t u r d f h =
     let fit = fitted_ok t.ty u tree.0 tree.1 in
     at_ok (λ r. HasType env left (written.Assign p e assigns.Assign v) (term_of r)) (made t.at t.ty (Assign a.0 tree.0)) r tree.2 (rw (← fit.1) (assign d a.1 ((a.2).0) f fit.0))
 
-update_sound : (env : Environment) (left : Bool) (p : place.Place) (op : AssignOp) (operator : BinaryOp) (e v : written.Expr) (t u r : Typed) → operator_of op ≡ Some operator → HasType env false e (term_of t) → HasType env false v (term_of u) → is_known t.ty ≡ true → is_known u.ty ≡ true → assigned t op u ≡ Ok r → HasType env left (written.Assign p e op v) (term_of r)
+update_sound : (env : Environment) (left : Bool) (p : place.Place) (op : AssignOp) (c : Calculator) (e v : written.Expr) (t u r : Typed) → operator_of op ≡ Some c → HasType env false e (term_of t) → HasType env false v (term_of u) → is_known t.ty ≡ true → is_known u.ty ≡ true → assigned t op u ≡ Ok r → HasType env left (written.Assign p e op v) (term_of r)
 unfolding assigned stored
-update_sound env left p op operator e v t u r is d f known kept h =
+update_sound env left p op c e v t u r is d f known kept h =
     let a = assigned_ok t u op (place_in t.tree) r h in
-    let whole : updated t.at t.ty a.0 operator u ≡ Ok r = subst (λ q. stored t.at t.ty a.0 q u ≡ Ok r) is ((a.2).1) in
-    let m = bind_ok (met operator (made t.at t.ty Null) u) (λ m. integer_of t.at t.ty >>= λ k. Ok (made t.at (ty.Integer k) (Update a.0 k (record { operator = operator; operands = m.operands }) m.right))) r whole in
-    let k = bind_ok (integer_of t.at t.ty) (λ k. Ok (made t.at (ty.Integer k) (Update a.0 k (record { operator = operator; operands = (m.0).operands }) (m.0).right))) r m.2 in
+    let whole : updated t.at t.ty a.0 c u ≡ Ok r = subst (λ q. stored t.at t.ty a.0 q u ≡ Ok r) is ((a.2).1) in
+    let m = bind_ok (met (binary_of c) (made t.at t.ty Null) u) (λ m. integer_of t.at t.ty >>= λ k. Ok (made t.at (ty.Integer k) (Update a.0 k (record { operator = c; of = integers_in m.operands }) m.right))) r whole in
+    let k = bind_ok (integer_of t.at t.ty) (λ k. Ok (made t.at (ty.Integer k) (Update a.0 k (record { operator = c; of = integers_in (m.0).operands }) (m.0).right))) r m.2 in
     let i = integer_ok t.at t.ty k.0 known k.1 in
-    let n = met_ok operator (made t.at t.ty Null) u m.0 known kept m.1 in
-    let rule = update is d a.1 i f n.1 in
-    let kind = subst (λ of. HasType env left (written.Assign p e op v) (term of (Update a.0 k.0 (record { operator = operator; operands = n.0 }) (right_of operator n.0 (term t.ty Null) (term_of u))))) i rule in
-    let all = subst (λ (m : Met). HasType env left (written.Assign p e op v) (term (ty.Integer k.0) (Update a.0 k.0 (record { operator = operator; operands = m.operands }) m.right))) n.2 kind in
-    at_ok (λ r. HasType env left (written.Assign p e op v) (term_of r)) (made t.at (ty.Integer k.0) (Update a.0 k.0 (record { operator = operator; operands = (m.0).operands }) (m.0).right)) r k.2 all
+    let n = met_ok (binary_of c) (made t.at t.ty Null) u m.0 known kept m.1 in
+    let integers : n.0 ≡ operands.Integers (integers_in n.0) = calculated_integers c _ _ n.0 n.1 in
+    let rule = update is d a.1 i f (subst (λ (o : Operands). Meet (binary_of c) (term t.ty Null) (term_of u) o) integers n.1) in
+    let back = subst (λ (o : Operands). HasType env left (written.Assign p e op v) (term t.ty (Update a.0 k.0 (record { operator = c; of = integers_in n.0 }) (right_of (binary_of c) o (term t.ty Null) (term_of u))))) (sym integers) rule in
+    let kind = subst (λ of. HasType env left (written.Assign p e op v) (term of (Update a.0 k.0 (record { operator = c; of = integers_in n.0 }) (right_of (binary_of c) n.0 (term t.ty Null) (term_of u))))) i back in
+    let all = subst (λ (m : Met). HasType env left (written.Assign p e op v) (term (ty.Integer k.0) (Update a.0 k.0 (record { operator = c; of = integers_in m.operands }) m.right))) n.2 kind in
+    at_ok (λ r. HasType env left (written.Assign p e op v) (term_of r)) (made t.at (ty.Integer k.0) (Update a.0 k.0 (record { operator = c; of = integers_in (m.0).operands }) (m.0).right)) r k.2 all
 
 assign_sound : (env : Environment) (left : Bool) (p : place.Place) (op : AssignOp) (e v : written.Expr) (t u r : Typed) → HasType env (is_assign op) e (term_of t) → HasType env false v (term_of u) → is_known t.ty ≡ true → is_known u.ty ≡ true → assigned t op u ≡ Ok r → HasType env left (written.Assign p e op v) (term_of r)
 assign_sound env left p assigns.Assign e v t u r d f known kept h = plain_sound env left p e v t u r d f h

@@ -19,12 +19,15 @@ use Rattle.ash_typed.specs.declared.tree.operations.Method.TheVariants as method
 use Rattle.ash_typed.specs.declared.tree.operations.Target.TheVariants as targets
 use Rattle.ash_typed.specs.declared.tree.operations.Operands.{Operands}
 use Rattle.ash_typed.specs.declared.tree.operations.Operands.TheVariants as operands
+use Rattle.ash_typing.specs.declared.forms.Sort.{Sort}
+use Rattle.ash_typing.specs.declared.forms.Sort.TheVariants as sort
 use Rattle.ash_typed.specs.Tree.{Expr, Exprs, Number, Truth, Null, This, Read, Invoke, Convert, Alter, Operate, Conditional, Assign, Update, Count, Call, Place, Stored, Held, place_in, converted}
-use Rattle.ash_typed.specs.TypeOf.{type_of, type_of_place, type_of_member, result_of_method, result_of_target, result_of_operator, kept, chosen_type}
-use Rattle.ash_typing.specs.Types.{is_same_kind, fits_object, common, object_of, meeting, sort_of, outcome, ty_of}
+use Rattle.ash_typed.specs.TypeOf.{type_of, type_of_place, type_of_member, result_of_method, result_of_target, kept, chosen_type}
+use Rattle.ash_typing.specs.Types.{is_same_kind, fits_object, common, object_of, meeting, sort_of, integers_in, meets, outcome, ty_of}
 use Rattle.ash_typing.specs.Environment.{Environment, Declared, Function, Class, Known, Callee, Invoked, first_from, last_named, declares, is_called, is_class, this_class, variable_in, callee_in, member_in, method_in, method_of_class, method_of_kind, host_member_in, service_function, host_type, host_method, property, named_in, own_method_in, class_in, function_in, field_in, local_in, own_field_in, global_in, callee_beside, class_method}
 use Rattle.ash_typing.specs.Expressions.{conversion, applied}
 use Rattle.ash_typing.specs.Typing.{IsKnown, is_known, Term, converted_to, HasType, LinksHaveType, SuffixesHaveType, SuffixHasType, number, truth, null, this, name, call, brackets, to_integer, to_bool, postfix, plus, minus, complement, not, increment, decrement, handle, handle_written, binary as operators, conditional, assign, update, no_more, operated, no_suffixes, suffixed, field, method, increment_after, decrement_after}
+use Rattle.ash_typing.proofs.TypingWords.{arithmetic_integers, shift_integers}
 use Rattle.ash_typing.proofs.TypingKnown.{known_type, at_some, if_map, if_or, if_then, if_any, if_all}
 
 -- what names stand for
@@ -126,51 +129,32 @@ place_type _ at h = absurd (none-some at h)
 
 -- operators
 
-applied_type : (op : BinaryOp) (o : Operands) (a b : Expr) → type_of (applied op o a b) ≡ outcome (sort_of op) o
-applied_type binary.Multiply (operands.Integers k) a b = refl
-applied_type binary.Multiply operands.Bools a b = refl
-applied_type binary.Multiply operands.Handles a b = refl
-applied_type binary.Divide (operands.Integers k) a b = refl
-applied_type binary.Divide operands.Bools a b = refl
-applied_type binary.Divide operands.Handles a b = refl
-applied_type binary.Remainder (operands.Integers k) a b = refl
-applied_type binary.Remainder operands.Bools a b = refl
-applied_type binary.Remainder operands.Handles a b = refl
-applied_type binary.Add (operands.Integers k) a b = refl
-applied_type binary.Add operands.Bools a b = refl
-applied_type binary.Add operands.Handles a b = refl
-applied_type binary.Subtract (operands.Integers k) a b = refl
-applied_type binary.Subtract operands.Bools a b = refl
-applied_type binary.Subtract operands.Handles a b = refl
-applied_type binary.ShiftLeft (operands.Integers k) a b = refl
-applied_type binary.ShiftLeft operands.Bools a b = refl
-applied_type binary.ShiftLeft operands.Handles a b = refl
-applied_type binary.ShiftRight (operands.Integers k) a b = refl
-applied_type binary.ShiftRight operands.Bools a b = refl
-applied_type binary.ShiftRight operands.Handles a b = refl
-applied_type binary.ShiftRightArithmetic (operands.Integers k) a b = refl
-applied_type binary.ShiftRightArithmetic operands.Bools a b = refl
-applied_type binary.ShiftRightArithmetic operands.Handles a b = refl
-applied_type binary.BitAnd (operands.Integers k) a b = refl
-applied_type binary.BitAnd operands.Bools a b = refl
-applied_type binary.BitAnd operands.Handles a b = refl
-applied_type binary.BitXor (operands.Integers k) a b = refl
-applied_type binary.BitXor operands.Bools a b = refl
-applied_type binary.BitXor operands.Handles a b = refl
-applied_type binary.BitOr (operands.Integers k) a b = refl
-applied_type binary.BitOr operands.Bools a b = refl
-applied_type binary.BitOr operands.Handles a b = refl
-applied_type binary.Less o a b = refl
-applied_type binary.LessOrEqual o a b = refl
-applied_type binary.Greater o a b = refl
-applied_type binary.GreaterOrEqual o a b = refl
-applied_type binary.Equal o a b = refl
-applied_type binary.NotEqual o a b = refl
-applied_type binary.Is o a b = refl
-applied_type binary.NotIs o a b = refl
-applied_type binary.Xor o a b = refl
-applied_type binary.And o a b = refl
-applied_type binary.Or o a b = refl
+calculated_type : (s : Sort) (o : Operands) → ((k : Kind) → outcome s (operands.Integers k) ≡ ty.Integer k) → o ≡ operands.Integers (integers_in o) → ty.Integer (integers_in o) ≡ outcome s o
+calculated_type s o h e = sym (ap (outcome s) e ∙ h (integers_in o))
+
+applied_type : (op : BinaryOp) (o : Operands) (a b : Expr) (x y : Ty) → meets (sort_of op) x y ≡ Some o → type_of (applied op o a b) ≡ outcome (sort_of op) o
+applied_type binary.Multiply o a b x y h = calculated_type sort.Arithmetic o (λ k. refl) (arithmetic_integers x y o h)
+applied_type binary.Divide o a b x y h = calculated_type sort.Arithmetic o (λ k. refl) (arithmetic_integers x y o h)
+applied_type binary.Remainder o a b x y h = calculated_type sort.Arithmetic o (λ k. refl) (arithmetic_integers x y o h)
+applied_type binary.Add o a b x y h = calculated_type sort.Arithmetic o (λ k. refl) (arithmetic_integers x y o h)
+applied_type binary.Subtract o a b x y h = calculated_type sort.Arithmetic o (λ k. refl) (arithmetic_integers x y o h)
+applied_type binary.ShiftLeft o a b x y h = calculated_type sort.Shift o (λ k. refl) (shift_integers x y o h)
+applied_type binary.ShiftRight o a b x y h = calculated_type sort.Shift o (λ k. refl) (shift_integers x y o h)
+applied_type binary.ShiftRightArithmetic o a b x y h = calculated_type sort.Shift o (λ k. refl) (shift_integers x y o h)
+applied_type binary.BitAnd o a b x y h = calculated_type sort.Arithmetic o (λ k. refl) (arithmetic_integers x y o h)
+applied_type binary.BitXor o a b x y h = calculated_type sort.Arithmetic o (λ k. refl) (arithmetic_integers x y o h)
+applied_type binary.BitOr o a b x y h = calculated_type sort.Arithmetic o (λ k. refl) (arithmetic_integers x y o h)
+applied_type binary.Less o a b x y h = refl
+applied_type binary.LessOrEqual o a b x y h = refl
+applied_type binary.Greater o a b x y h = refl
+applied_type binary.GreaterOrEqual o a b x y h = refl
+applied_type binary.Equal o a b x y h = refl
+applied_type binary.NotEqual o a b x y h = refl
+applied_type binary.Is o a b x y h = refl
+applied_type binary.NotIs o a b x y h = refl
+applied_type binary.Xor o a b x y h = refl
+applied_type binary.And o a b x y h = refl
+applied_type binary.Or o a b x y h = refl
 
 kept_type : (of : Ty) (o : ObjectType) → object_of of ≡ Some o → kept of ≡ ty.Handle o
 kept_type (ty.Object p) o h = ap ty.Handle (same_Some p o h)
@@ -226,7 +210,7 @@ mutual
 
   links_type : {env : Environment} {t : Term} {ls : written.Links} {u : Term} → LinksHaveType env t ls u → IsKnown env → type_of t.tree ≡ t.ty → type_of u.tree ≡ u.ty
   links_type no_more known h = h
-  links_type (operated {op = op} {o = o} e m rest) known h = links_type rest known (applied_type op o _ _)
+  links_type (operated {op = op} {o = o} e m rest) known h = links_type rest known (applied_type op o _ _ _ _ m)
 
   suffixes_type : {env : Environment} {t : Term} {ss : written.Suffixes} {u : Term} → SuffixesHaveType env t ss u → IsKnown env → type_of t.tree ≡ t.ty → type_of u.tree ≡ u.ty
   suffixes_type no_suffixes known h = h

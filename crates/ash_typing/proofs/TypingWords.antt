@@ -1,5 +1,5 @@
 -- The words of the typing rules, beside those of the walk.
-use Rattle.std.proofs.lemmas.Option.{none-some}
+use Rattle.std.proofs.lemmas.Option.{none-some, same_Some}
 use Rattle.std.proofs.Common.{◌≡◌, ℕ, IsOk, Bool, true, false, cond, Some, Ok, Err, refl, sym, subst}
 use Rattle.ash_tree.specs.declared.tree.operators.BinaryOp.{BinaryOp}
 use Rattle.ash_typing.specs.declared.fault.Fault.{Fault}
@@ -11,9 +11,12 @@ use Rattle.ash_typing.specs.declared.forms.Sort.{Sort}
 use Rattle.ash_typing.specs.declared.forms.Sort.TheVariants as sort
 use Rattle.ash_typing.specs.declared.forms.Alone.{Alone}
 use Rattle.ash_typing.specs.declared.forms.Alone.TheVariants as alone
+use Rattle.ash_typed.specs.declared.tree.operations.Calculator.{Calculator}
+use Rattle.ash_typed.specs.declared.tree.operations.Calculator.TheVariants as calculators
 use Rattle.ash_typed.specs.declared.tree.operations.Operands.{Operands}
+use Rattle.ash_typed.specs.declared.tree.operations.Operands.TheVariants as operands
 use Rattle.ash_typing.specs.Checking.{Checking, ◌>>=◌}
-use Rattle.ash_typing.specs.Types.{is_same_kind, holds, sort_of, meets, assumed}
+use Rattle.ash_typing.specs.Types.{is_same_kind, meeting, holds, sort_of, binary_of, integers_in, meets, assumed}
 use Rattle.ash_typed.specs.Tree.{Number}
 use Rattle.ash_typing.specs.Expressions.{adapted, adapted_to, met, right_operand}
 use Rattle.ash_typing.specs.Typing.{Term, placed, taking, beside, is_known, Meet, converted_to, right_of, right_by}
@@ -82,6 +85,32 @@ meets_assumed sort.Identity x y o h = h
 meets_assumed s ty.Unknown y o h = absurd (none-some o h)
 meets_assumed s x ty.Unknown o h = absurd (none-some o h)
 meets_assumed s x y o h = h
+
+-- what calculates takes integers
+
+same_integers : (k : Kind) (o : Operands) → Some (operands.Integers k) ≡ Some o → o ≡ operands.Integers (integers_in o)
+same_integers k o h = subst (λ (x : Operands). x ≡ operands.Integers (integers_in x)) (same_Some (operands.Integers k) o h) refl
+
+pub arithmetic_integers : (x y : Ty) (o : Operands) → meets sort.Arithmetic x y ≡ Some o → o ≡ operands.Integers (integers_in o)
+arithmetic_integers (ty.Integer j) (ty.Integer k) o h = same_integers (meeting j k) o h
+arithmetic_integers _ _ o h = absurd (none-some o h)
+
+pub shift_integers : (x y : Ty) (o : Operands) → meets sort.Shift x y ≡ Some o → o ≡ operands.Integers (integers_in o)
+shift_integers (ty.Integer j) (ty.Integer k) o h = same_integers j o h
+shift_integers _ _ o h = absurd (none-some o h)
+
+pub calculated_integers : (c : Calculator) (x y : Ty) (o : Operands) → meets (sort_of (binary_of c)) x y ≡ Some o → o ≡ operands.Integers (integers_in o)
+calculated_integers calculators.Multiply x y o h = arithmetic_integers x y o h
+calculated_integers calculators.Divide x y o h = arithmetic_integers x y o h
+calculated_integers calculators.Remainder x y o h = arithmetic_integers x y o h
+calculated_integers calculators.Add x y o h = arithmetic_integers x y o h
+calculated_integers calculators.Subtract x y o h = arithmetic_integers x y o h
+calculated_integers calculators.ShiftLeft x y o h = shift_integers x y o h
+calculated_integers calculators.ShiftRight x y o h = shift_integers x y o h
+calculated_integers calculators.ShiftRightArithmetic x y o h = shift_integers x y o h
+calculated_integers calculators.BitAnd x y o h = arithmetic_integers x y o h
+calculated_integers calculators.BitXor x y o h = arithmetic_integers x y o h
+calculated_integers calculators.BitOr x y o h = arithmetic_integers x y o h
 
 pub right_is : (s : Sort) (o : Operands) (b : ℕ) (u : Term) → right_operand s o (placed b u) ≡ right_by s o u
 right_is sort.Shift o b u = refl

@@ -23,7 +23,11 @@ use Rattle.ash_typing.specs.declared.forms.Alone.TheVariants as alone
 use Rattle.ash_typed.specs.declared.tree.operations.Change.{Change}
 use Rattle.ash_typed.specs.declared.tree.operations.Change.TheVariants as changes
 use Rattle.ash_typed.specs.declared.tree.operations.Conversion.{Conversion}
-use Rattle.ash_typed.specs.declared.tree.operations.Lazy.{Lazy}
+use Rattle.ash_typed.specs.declared.tree.operations.Calculator.{Calculator}
+use Rattle.ash_typed.specs.declared.tree.operations.Calculator.TheVariants as calculators
+use Rattle.ash_typed.specs.declared.tree.operations.Operation.TheVariants as operations
+use Rattle.ash_typing.specs.declared.forms.Operator.{Operator}
+use Rattle.ash_typing.specs.declared.forms.Operator.TheVariants as operators
 use Rattle.ash_typed.specs.declared.tree.operations.Member.{Member}
 use Rattle.ash_typed.specs.declared.tree.operations.Member.TheVariants as members
 use Rattle.ash_typed.specs.declared.tree.operations.Operands.{Operands}
@@ -31,7 +35,7 @@ use Rattle.ash_typed.specs.declared.tree.operations.Operands.TheVariants as oper
 use Rattle.ash_typed.specs.declared.tree.operations.Step.{Step}
 use Rattle.ash_typed.specs.declared.tree.operations.Step.TheVariants as steps
 use Rattle.ash_typing.specs.Checking.{Checking, ◌>>=◌, broken}
-use Rattle.ash_typing.specs.Types.{kind_of, holds, signed, is_same_kind, fits, common, ty_of, sort_of, lazy_of, takes, assumed, meets, outcome}
+use Rattle.ash_typing.specs.Types.{kind_of, holds, signed, is_same_kind, fits, common, ty_of, sort_of, typed_operator, binary_of, integers_in, takes, assumed, meets, outcome}
 use Rattle.ash_typed.specs.Tree.{Expr, Number, Truth, Null, This, Read, Invoke, Alter, Operate, Lazily, Conditional, Assign, Update, Count, Call, Place, Held, Exprs, no_expr, expr, place_in, converted}
 use Rattle.ash_typing.specs.Environment.{Environment, Known, Callee, Invoked, variable_in, callee_in, member_in, method_in}
 
@@ -122,12 +126,13 @@ unfoldable pub met : BinaryOp → Typed → Typed → Checking Met
 met op a b = met_by (sort_of op) (adapted (sort_of op) b.alone b.ty a) (adapted (sort_of op) a.alone a.ty b)
 
 -- what an operator makes of its operands
-abbrev pub applied_by : Option Lazy → BinaryOp → Operands → Expr → Expr → Expr
-applied_by (Some l) op o a b = Lazily l a b
-applied_by None op o a b = Operate (record { operator = op; operands = o }) a b
+abbrev pub applied_by : Operator → Operands → Expr → Expr → Expr
+applied_by (operators.Calculate c) o a b = Operate (operations.Calculate (record { operator = c; of = integers_in o })) a b
+applied_by (operators.Compare c) o a b = Operate (operations.Compare c o) a b
+applied_by (operators.Lazy l) o a b = Lazily l a b
 
 abbrev pub applied : BinaryOp → Operands → Expr → Expr → Expr
-applied op o a b = applied_by (lazy_of op) op o a b
+applied op o a b = applied_by (typed_operator op) o a b
 
 abbrev pub operated : BinaryOp → Met → Typed
 operated op m = made m.left.at (outcome (sort_of op) m.operands) (applied op m.operands (brought (operand_type m.operands) m.left) m.right)
@@ -182,19 +187,19 @@ choice c a b = bool_of c.at c.ty >>= λ yes. chosen c a b (common a.ty b.ty)
 -- assignments
 
 -- the operator of `a op= b`
-abbrev pub operator_of : AssignOp → Option BinaryOp
+abbrev pub operator_of : AssignOp → Option Calculator
 operator_of assigns.Assign = None
-operator_of assigns.Add = Some binary.Add
-operator_of assigns.Subtract = Some binary.Subtract
-operator_of assigns.Multiply = Some binary.Multiply
-operator_of assigns.Divide = Some binary.Divide
-operator_of assigns.Remainder = Some binary.Remainder
-operator_of assigns.BitAnd = Some binary.BitAnd
-operator_of assigns.BitOr = Some binary.BitOr
-operator_of assigns.BitXor = Some binary.BitXor
-operator_of assigns.ShiftLeft = Some binary.ShiftLeft
-operator_of assigns.ShiftRight = Some binary.ShiftRight
-operator_of assigns.ShiftRightArithmetic = Some binary.ShiftRightArithmetic
+operator_of assigns.Add = Some calculators.Add
+operator_of assigns.Subtract = Some calculators.Subtract
+operator_of assigns.Multiply = Some calculators.Multiply
+operator_of assigns.Divide = Some calculators.Divide
+operator_of assigns.Remainder = Some calculators.Remainder
+operator_of assigns.BitAnd = Some calculators.BitAnd
+operator_of assigns.BitOr = Some calculators.BitOr
+operator_of assigns.BitXor = Some calculators.BitXor
+operator_of assigns.ShiftLeft = Some calculators.ShiftLeft
+operator_of assigns.ShiftRight = Some calculators.ShiftRight
+operator_of assigns.ShiftRightArithmetic = Some calculators.ShiftRightArithmetic
 
 -- what a place takes: `=` and `op=` a primitive type, `@p =` a handle
 abbrev pub is_stored : Alone → Ty → Bool
@@ -207,10 +212,10 @@ is_stored _ ty.Unknown = true
 is_stored _ _ = false
 
 -- what stands at a place is an operand of its type
-abbrev pub updated : ℕ → Ty → Place → BinaryOp → Typed → Checking Typed
-updated at of p op v = met op (made at of Null) v >>= λ m. integer_of at of >>= λ k. Ok (made at (ty.Integer k) (Update p k (record { operator = op; operands = m.operands }) m.right))
+abbrev pub updated : ℕ → Ty → Place → Calculator → Typed → Checking Typed
+updated at of p c v = met (binary_of c) (made at of Null) v >>= λ m. integer_of at of >>= λ k. Ok (made at (ty.Integer k) (Update p k (record { operator = c; of = integers_in m.operands }) m.right))
 
-unfoldable pub stored : ℕ → Ty → Place → Option BinaryOp → Typed → Checking Typed
+unfoldable pub stored : ℕ → Ty → Place → Option Calculator → Typed → Checking Typed
 stored at of p None v = fitted of v >>= λ e. Ok (made at of (Assign p e))
 stored at of p (Some op) v = updated at of p op v
 

@@ -12,8 +12,12 @@ use Rattle.ash_typed.specs.declared.types.Ty.{Ty}
 use Rattle.ash_typed.specs.declared.types.Ty.TheVariants as ty
 use Rattle.ash_typing.specs.declared.forms.Sort.{Sort}
 use Rattle.ash_typing.specs.declared.forms.Sort.TheVariants as sort
-use Rattle.ash_typed.specs.declared.tree.operations.Lazy.{Lazy}
+use Rattle.ash_typed.specs.declared.tree.operations.Calculator.{Calculator}
+use Rattle.ash_typed.specs.declared.tree.operations.Calculator.TheVariants as calculators
+use Rattle.ash_typed.specs.declared.tree.operations.Comparator.TheVariants as comparators
 use Rattle.ash_typed.specs.declared.tree.operations.Lazy.TheVariants as lazies
+use Rattle.ash_typing.specs.declared.forms.Operator.{Operator}
+use Rattle.ash_typing.specs.declared.forms.Operator.TheVariants as operators
 use Rattle.ash_typed.specs.declared.tree.operations.Operands.{Operands}
 use Rattle.ash_typed.specs.declared.tree.operations.Operands.TheVariants as operands
 
@@ -165,11 +169,49 @@ sort_of binary.Xor = sort.Logic
 sort_of binary.And = sort.Logic
 sort_of binary.Or = sort.Logic
 
--- the operators that evaluate their right operand last, and only where it counts
-abbrev pub lazy_of : BinaryOp → Option Lazy
-lazy_of binary.And = Some lazies.And
-lazy_of binary.Or = Some lazies.Or
-lazy_of _ = None
+-- what an operator is in a typed tree
+abbrev pub typed_operator : BinaryOp → Operator
+typed_operator binary.Multiply = operators.Calculate calculators.Multiply
+typed_operator binary.Divide = operators.Calculate calculators.Divide
+typed_operator binary.Remainder = operators.Calculate calculators.Remainder
+typed_operator binary.Add = operators.Calculate calculators.Add
+typed_operator binary.Subtract = operators.Calculate calculators.Subtract
+typed_operator binary.ShiftLeft = operators.Calculate calculators.ShiftLeft
+typed_operator binary.ShiftRight = operators.Calculate calculators.ShiftRight
+typed_operator binary.ShiftRightArithmetic = operators.Calculate calculators.ShiftRightArithmetic
+typed_operator binary.BitAnd = operators.Calculate calculators.BitAnd
+typed_operator binary.BitXor = operators.Calculate calculators.BitXor
+typed_operator binary.BitOr = operators.Calculate calculators.BitOr
+typed_operator binary.Less = operators.Compare comparators.Less
+typed_operator binary.LessOrEqual = operators.Compare comparators.LessOrEqual
+typed_operator binary.Greater = operators.Compare comparators.Greater
+typed_operator binary.GreaterOrEqual = operators.Compare comparators.GreaterOrEqual
+typed_operator binary.Equal = operators.Compare comparators.Equal
+typed_operator binary.NotEqual = operators.Compare comparators.NotEqual
+typed_operator binary.Is = operators.Compare comparators.Is
+typed_operator binary.NotIs = operators.Compare comparators.NotIs
+typed_operator binary.Xor = operators.Compare comparators.Xor
+typed_operator binary.And = operators.Lazy lazies.And
+typed_operator binary.Or = operators.Lazy lazies.Or
+
+-- the operator that calculates so
+abbrev pub binary_of : Calculator → BinaryOp
+binary_of calculators.Multiply = binary.Multiply
+binary_of calculators.Divide = binary.Divide
+binary_of calculators.Remainder = binary.Remainder
+binary_of calculators.Add = binary.Add
+binary_of calculators.Subtract = binary.Subtract
+binary_of calculators.ShiftLeft = binary.ShiftLeft
+binary_of calculators.ShiftRight = binary.ShiftRight
+binary_of calculators.ShiftRightArithmetic = binary.ShiftRightArithmetic
+binary_of calculators.BitAnd = binary.BitAnd
+binary_of calculators.BitXor = binary.BitXor
+binary_of calculators.BitOr = binary.BitOr
+
+-- the integer type of operands, where they are integers
+abbrev pub integers_in : Operands → Kind
+integers_in (operands.Integers k) = k
+integers_in _ = Int
 
 -- whether an operator takes a type anywhere
 abbrev pub takes : Sort → Ty → Bool

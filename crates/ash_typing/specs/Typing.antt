@@ -24,9 +24,11 @@ use Rattle.ash_typing.specs.declared.forms.Alone.{Alone}
 use Rattle.ash_typing.specs.declared.forms.Alone.TheVariants as alone
 use Rattle.ash_typed.specs.declared.tree.operations.Change.TheVariants as changes
 use Rattle.ash_typed.specs.declared.tree.operations.Member.{Member}
+use Rattle.ash_typed.specs.declared.tree.operations.Calculator.{Calculator}
 use Rattle.ash_typed.specs.declared.tree.operations.Operands.{Operands}
+use Rattle.ash_typed.specs.declared.tree.operations.Operands.TheVariants as operands
 use Rattle.ash_typed.specs.declared.tree.operations.Step.TheVariants as steps
-use Rattle.ash_typing.specs.Types.{kind_of, holds, signed, fits, common, object_of, ty_of, sort_of, meets, outcome}
+use Rattle.ash_typing.specs.Types.{kind_of, holds, signed, fits, common, object_of, ty_of, sort_of, binary_of, meets, outcome}
 use Rattle.ash_typed.specs.Tree.{Expr, Number, Truth, Null, This, Read, Invoke, Alter, Conditional, Assign, Update, Count, Call, Place, Held, Exprs, no_expr, expr, place_in, converted}
 use Rattle.ash_typing.specs.Environment.{Environment, Declared, Function, Class, Known, Callee, Invoked, variable_in, callee_in, member_in, method_in}
 use Rattle.ash_typing.specs.Expressions.{Typed, conversion, operand_type, applied, operator_of, is_stored}
@@ -211,14 +213,14 @@ mutual
         → fits t.ty u.ty ≡ true
         → HasType env left (written.Assign p e assigns.Assign v) (term t.ty (Assign at (converted_to t.ty u)))
     -- e op= v: what stands at e is an operand of its type
-    update : {left : Bool} {p : place.Place} {op : AssignOp} {operator : BinaryOp} {e v : written.Expr} {t u : Term} {at : Place} {k : Kind} {o : Operands}
-        → operator_of op ≡ Some operator
+    update : {left : Bool} {p : place.Place} {op : AssignOp} {c : Calculator} {e v : written.Expr} {t u : Term} {at : Place} {j k : Kind}
+        → operator_of op ≡ Some c
         → HasType env false e t
         → place_in t.tree ≡ Some at
         → t.ty ≡ ty.Integer k
         → HasType env false v u
-        → Meet operator (term t.ty Null) u o
-        → HasType env left (written.Assign p e op v) (term t.ty (Update at k (record { operator = operator; operands = o }) (right_of operator o (term t.ty Null) u)))
+        → Meet (binary_of c) (term t.ty Null) u (operands.Integers j)
+        → HasType env left (written.Assign p e op v) (term t.ty (Update at k (record { operator = c; of = j }) (right_of (binary_of c) (operands.Integers j) (term t.ty Null) u)))
 
   -- each of the arguments
   pub data AllHaveType (env : Environment) : written.Exprs → List Term → Type 0 where

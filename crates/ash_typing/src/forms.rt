@@ -1,5 +1,7 @@
 //! What the rules of typing see of an operator and of an expression, beside their types.
 
+use ash_typed::{Calculator, Comparator, Lazy};
+
 /// What an operator between two operands is of.
 #[derive(Clone, Copy, Debug, PartialEq, Eq)]
 pub enum Sort {
@@ -15,6 +17,14 @@ pub enum Sort {
     Identity,
     /// `&& || ^^`
     Logic,
+}
+
+/// What an operator between two operands is in a typed tree.
+#[derive(Clone, Copy, Debug, PartialEq, Eq)]
+pub enum Operator {
+    Calculate(Calculator),
+    Compare(Comparator),
+    Lazy(Lazy),
 }
 
 /// What an expression is by itself; in brackets it is nothing of this.

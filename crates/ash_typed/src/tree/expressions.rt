@@ -4,7 +4,7 @@
 //! long.
 
 use crate::tree::operations::{
-    Change, Conversion, Lazy, Member, Method, Operation, Step, Target, Variable,
+    Calculation, Change, Conversion, Lazy, Member, Method, Operation, Step, Target, Variable,
 };
 use crate::types::Kind;
 
@@ -57,12 +57,12 @@ pub enum Expr {
         place: Place,
         value: Box<Expr>,
     },
-    /// `place op= value`, at a place of type `of`: what it holds is converted to the type of the operation, and what
+    /// `place op= value`, at a place of type `of`: what it holds is converted to the type of the calculation, and what
     /// comes out is converted back.
     Update {
         place: Place,
         of: Kind,
-        operation: Operation,
+        calculation: Calculation,
         value: Box<Expr>,
     },
     Step {

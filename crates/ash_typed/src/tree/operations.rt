@@ -1,7 +1,6 @@
 //! What a typed tree names: variables, members, functions, and operators with their kinds.
 
 use crate::types::{Kind, Ty};
-use ash_tree::BinaryOp;
 
 /// A variable, with its type.
 #[derive(Clone, Copy, Debug, PartialEq, Eq)]
@@ -63,7 +62,7 @@ pub enum Target {
     Host(u16),
 }
 
-/// What an operator takes, both operands being of it. Of a shift that is the left one alone.
+/// What is compared: both operands are of it.
 #[derive(Clone, Copy, Debug, PartialEq, Eq)]
 pub enum Operands {
     Integers(Kind),
@@ -72,11 +71,69 @@ pub enum Operands {
     Handles,
 }
 
-/// An operator between two operands, and what they are.
+/// An operator that makes an integer of two.
 #[derive(Clone, Copy, Debug, PartialEq, Eq)]
-pub struct Operation {
-    pub operator: BinaryOp,
-    pub operands: Operands,
+pub enum Calculator {
+    /// `*`
+    Multiply,
+    /// `/`
+    Divide,
+    /// `%`
+    Remainder,
+    /// `+`
+    Add,
+    /// `-`
+    Subtract,
+    /// `<<`
+    ShiftLeft,
+    /// `>>`
+    ShiftRight,
+    /// `>>>`
+    ShiftRightArithmetic,
+    /// `&`
+    BitAnd,
+    /// `^`
+    BitXor,
+    /// `|`
+    BitOr,
+}
+
+/// The calculation of an integer of this type. Both operands are of it, but for the count of a shift, which is of any
+/// integer type.
+#[derive(Clone, Copy, Debug, PartialEq, Eq)]
+pub struct Calculation {
+    pub operator: Calculator,
+    pub of: Kind,
+}
+
+/// An operator that makes a truth value of two operands, and evaluates both.
+#[derive(Clone, Copy, Debug, PartialEq, Eq)]
+pub enum Comparator {
+    /// `<`
+    Less,
+    /// `<=`
+    LessOrEqual,
+    /// `>`
+    Greater,
+    /// `>=`
+    GreaterOrEqual,
+    /// `==`
+    Equal,
+    /// `!=`
+    NotEqual,
+    /// `is`
+    Is,
+    /// `!is`
+    NotIs,
+    /// `^^`
+    Xor,
+}
+
+/// What is made of two operands.
+#[derive(Clone, Copy, Debug, PartialEq, Eq)]
+pub enum Operation {
+    Calculate(Calculation),
+    Compare(Comparator, Operands),
 }
 
 /// An operator whose right operand is evaluated only where the left one leaves open what comes out.
