@@ -16,7 +16,7 @@ use ash_expressions::{
 };
 use ash_tree::{Decl, Initializer, Place, Type};
 use ash_typed::{Expr, Initialization, ObjectType, Target, Ty};
-use ash_typing::Rule;
+use ash_typing::{Callable, Rule};
 use std::alloc::Global;
 
 #[tactic(auto, using(ash_tree::proofs::Rows::type_place_is))]
@@ -51,7 +51,7 @@ fn class_construction<'a>(env: &Environment<'a, '_>, place: usize) -> Option<Cal
 {
     let class = env.heads.classes.get(place)?;
     Some(Callee {
-        target: Target::Class(place),
+        target: Callable::Target(Target::Class(place)),
         result: Ty::Handle(ObjectType::Class(place)),
         parameters: Some(Parameters::Script(&class.parameters)),
     })

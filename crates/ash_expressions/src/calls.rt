@@ -1,6 +1,7 @@
 //! Names, calls and suffixes, once their parts are typed.
 
-ghost use Rattle.std.specs.Prelude.{◌≡◌, length, map, option_map};
+ghost use Rattle.std.specs.Prelude.{◌≡◌, length, map, option_map, IfOk};
+ghost use Rattle.ash_typed.specs.Views.{expr_of};
 ghost use Rattle.ash_typing.specs.Environment as environment;
 ghost use Rattle.ash_typing.specs.Expressions as typing;
 ghost use Rattle.ash_expressions.specs.Gives.{Gives};
@@ -10,9 +11,9 @@ use crate::environment::{Callee, Environment, Invoked, Parameters};
 use crate::stop::{Checking, broken};
 use crate::typed::{Typed, fitted, made};
 use crate::types::ty_of;
-use ash_typed::{Expr, Member, ObjectType, Ty, nodes};
-use ash_typing::{Alone, Rule};
-use std::alloc::Global;
+use ash_typed::{Expr, Member, Method, ObjectType, Ty, nodes};
+use ash_typing::{Alone, Callable, Rule};
+use std::alloc::{AllocError, Global};
 
 impl<'a> Parameters<'a> {
     fn len(&self) -> usize
@@ -72,6 +73,27 @@ fn arguments(
     all_fitted(alloc, parameters, arguments)
 }
 
+/// The call of what a name before brackets stands for: a method is called on the object that runs.
+fn call_of(alloc: Global, callable: Callable, arguments: Vec<Expr>) -> Result<Expr, AllocError>
+    ensures { IfOk result (λ e. expr_of e ≡ typing.call_of callable (arguments_of arguments)) }
+{
+    match callable {
+        Callable::OwnMethod {
+            class,
+            method,
+            result,
+        } => {
+            let method = Method::Script {
+                class,
+                method,
+                result,
+            };
+            nodes::invoke(alloc, Expr::This(class), method, arguments)
+        }
+        Callable::Target(target) => Ok(nodes::call(target, arguments)),
+    }
+}
+
 /// A call by the name at this offset.
 #[tactic(auto, unfolding(ash_typing::specs::Expressions::called))]
 pub fn called(alloc: Global, at: usize, callee: &Callee, typed: Vec<Typed>) -> Checking<Typed>
@@ -81,7 +103,8 @@ pub fn called(alloc: Global, at: usize, callee: &Callee, typed: Vec<Typed>) -> C
         return Err(broken(Rule::NoFactory, at));
     };
     let arguments = arguments(alloc, at, &parameters, typed)?;
-    Ok(made(at, callee.result, nodes::call(callee.target, arguments)))
+    let tree = call_of(alloc, callee.target, arguments)?;
+    Ok(made(at, callee.result, tree))
 }
 
 /// A name alone.

@@ -12,6 +12,7 @@ use crate::types::ty_of;
 use ash_registry::{Call, Registry};
 use ash_tree::Primitive;
 use ash_typed::{Expr, Member, Method, ObjectType, Target, Ty, Variable, nodes};
+use ash_typing::Callable;
 use std::alloc::{AllocError, Global};
 
 /// A variable, a parameter or a field.
@@ -58,7 +59,7 @@ pub enum Parameters<'a> {
 /// What is called, what it gives, and what it takes. A type without factory takes nothing that could be said.
 #[derive(Clone, Copy)]
 pub struct Callee<'a> {
-    pub target: Target,
+    pub target: Callable,
     pub result: Ty,
     pub parameters: Option<Parameters<'a>>,
 }
@@ -157,10 +158,10 @@ fn function_called<'a>(heads: &'a Heads<'_>, name: &str) -> Option<Callee<'a>>
     let (place, function) = heads.function(name)?;
     let result = function.result;
     Some(Callee {
-        target: Target::Function {
+        target: Callable::Target(Target::Function {
             function: place,
             result,
-        },
+        }),
         result,
         parameters: Some(Parameters::Script(&function.parameters)),
     })
@@ -172,7 +173,7 @@ fn class_called<'a>(heads: &'a Heads<'_>, name: &str) -> Option<Callee<'a>>
 {
     let (place, class) = heads.class(name)?;
     Some(Callee {
-        target: Target::Class(place),
+        target: Callable::Target(Target::Class(place)),
         result: Ty::Handle(ObjectType::Class(place)),
         parameters: Some(Parameters::Script(&class.parameters)),
     })
@@ -224,11 +225,11 @@ fn service_function(call: &Call) -> Option<Callee<'_>>
         } => {
             let result = gives(operation.result);
             Some(Callee {
-                target: Target::Service {
+                target: Callable::Target(Target::Service {
                     service: *service,
                     id: *id,
                     result,
-                },
+                }),
                 result,
                 parameters: Some(Parameters::Host(&operation.parameters)),
             })
@@ -309,7 +310,7 @@ impl<'a, 'n> Environment<'a, 'n> {
         let (method, function) = first_function(&of.methods, name)?;
         let result = function.result;
         Some(Callee {
-            target: Target::Method {
+            target: Callable::OwnMethod {
                 class,
                 method,
                 result,
@@ -325,7 +326,7 @@ impl<'a, 'n> Environment<'a, 'n> {
     {
         match call {
             Call::Type { name, kind } => Some(Callee {
-                target: Target::Host(*kind),
+                target: Callable::Target(Target::Host(*kind)),
                 result: Ty::Handle(ObjectType::Host(*kind)),
                 parameters: self.factory(name.as_str()),
             }),

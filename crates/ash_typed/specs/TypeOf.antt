@@ -35,7 +35,6 @@ result_of_method (methods.Host id result) = result
 
 -- what a call gives: a construction gives a handle
 abbrev pub result_of_target : Target → Ty
-result_of_target (targets.Method class method result) = result
 result_of_target (targets.Function function result) = result
 result_of_target (targets.Service service id result) = result
 result_of_target (targets.Class class) = ty.Handle (objects.Class class)

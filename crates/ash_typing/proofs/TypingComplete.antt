@@ -25,7 +25,7 @@ use Rattle.ash_typed.specs.declared.tree.operations.Step.TheVariants as steps
 use Rattle.ash_typing.specs.Types.{signed, fits, common, object_of, ty_of, sort_of, outcome, binary_of}
 use Rattle.ash_typed.specs.Tree.{Expr, Exprs, Null, Read, Invoke, Alter, Conditional, Assign, Update, Count, Call, Place, Held, no_expr, expr, place_in}
 use Rattle.ash_typing.specs.Environment.{Environment, Callee, Invoked, callee_in, member_in, method_in}
-use Rattle.ash_typing.specs.Expressions.{Typed, typed, all_typed, links_typed, suffixes_typed, suffix_typed, call_typed, invocation_typed, called, arguments_at, all_fitted, fitted, operate, counted, unary_at, convert_at, choice, operator_of, is_stored, assigned, stored, is_assign, field_of, method_of, invoked, made, applied}
+use Rattle.ash_typing.specs.Expressions.{Typed, typed, all_typed, links_typed, suffixes_typed, suffix_typed, call_typed, invocation_typed, called, arguments_at, all_fitted, fitted, operate, counted, unary_at, convert_at, choice, operator_of, is_stored, assigned, stored, is_assign, field_of, method_of, invoked, made, applied, call_of}
 use Rattle.ash_typing.specs.Typing.{Term, term, placed, all_placed, term_of, first_at, HasType, AllHaveType, LinksHaveType, SuffixesHaveType, SuffixHasType, AreArguments, no_arguments, argument, number, truth, null, this, name, call, brackets, to_integer, to_bool, postfix, plus, minus, complement, not, increment, decrement, handle, handle_written, binary, conditional, assign, update, none_left, each, no_more, operated, no_suffixes, suffixed, field, method, increment_after, decrement_after, Meet, converted_to, left_of, right_of}
 use Rattle.ash_typing.proofs.TypingWords.{same_kind, met_is}
 
@@ -62,7 +62,7 @@ arguments_is at parameters us trees h = rw (eq-eqb (length parameters) (length u
 
 -- phrases
 
-call_is : (env : Environment) (at : ℕ) (text : List ℕ) (es : written.Exprs) (callee : Callee) (parameters : List Ty) (us : List Typed) (trees : Exprs) → callee_in env text ≡ Some callee → callee.parameters ≡ Some parameters → all_typed env es ≡ Ok us → AreArguments parameters (terms us) trees → call_typed env at text (all_typed env es) ≡ Ok (made at callee.result (Call callee.target trees))
+call_is : (env : Environment) (at : ℕ) (text : List ℕ) (es : written.Exprs) (callee : Callee) (parameters : List Ty) (us : List Typed) (trees : Exprs) → callee_in env text ≡ Some callee → callee.parameters ≡ Some parameters → all_typed env es ≡ Ok us → AreArguments parameters (terms us) trees → call_typed env at text (all_typed env es) ≡ Ok (made at callee.result (call_of callee.target trees))
 unfolding called
 call_is env at text es callee parameters us trees c p e a = rw (c, e, p, arguments_is at parameters us trees a) refl
 

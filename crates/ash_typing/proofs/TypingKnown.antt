@@ -23,6 +23,7 @@ use Rattle.ash_typed.specs.declared.tree.operations.Variable.TheVariants as vari
 use Rattle.ash_typed.specs.declared.tree.operations.Member.TheVariants.{Field}
 use Rattle.ash_typed.specs.declared.tree.operations.Method.TheVariants as methods
 use Rattle.ash_typed.specs.declared.tree.operations.Target.TheVariants as targets
+use Rattle.ash_typing.specs.declared.forms.Callable.TheVariants as callables
 use Rattle.ash_typed.specs.declared.types.Kind.{Kind}
 use Rattle.std.specs.Str.{bytes_eq}
 use Rattle.ash_typed.specs.Tree.{Number, Read, Stored, Held, This}
@@ -165,10 +166,10 @@ callee_known : (env : Environment) (text : List ℕ) → IsKnown env → IfSome 
 unfolding callee_in
 callee_known env text known =
     let Q : Callee → Type 0 = λ callee. IsKnownType callee.result in
-    let own = if_then (λ (c : ℕ × Class). IsKnownClass c.1) Q (λ (c : ℕ × Class). option_map (λ (found : ℕ × Function). record { target = targets.Method c.0 found.0 found.1.result; result = found.1.result; parameters = Some found.1.parameters }) (first_from (is_called text) 0 c.1.methods)) (this_class env) (λ c h. if_map Q (λ (found : ℕ × Function). record { target = targets.Method c.0 found.0 found.1.result; result = found.1.result; parameters = Some found.1.parameters }) (first_from (is_called text) 0 c.1.methods) (function_known text c.1.methods h.methods)) (class_known env known) in
-    let function = if_map Q (λ (found : ℕ × Function). record { target = targets.Function found.0 found.1.result; result = found.1.result; parameters = Some found.1.parameters }) (first_from (is_called text) 0 env.heads.functions) (function_known text env.heads.functions known.functions) in
+    let own = if_then (λ (c : ℕ × Class). IsKnownClass c.1) Q (λ (c : ℕ × Class). option_map (λ (found : ℕ × Function). record { target = callables.OwnMethod c.0 found.0 found.1.result; result = found.1.result; parameters = Some found.1.parameters }) (first_from (is_called text) 0 c.1.methods)) (this_class env) (λ c h. if_map Q (λ (found : ℕ × Function). record { target = callables.OwnMethod c.0 found.0 found.1.result; result = found.1.result; parameters = Some found.1.parameters }) (first_from (is_called text) 0 c.1.methods) (function_known text c.1.methods h.methods)) (class_known env known) in
+    let function = if_map Q (λ (found : ℕ × Function). record { target = callables.Target (targets.Function found.0 found.1.result); result = found.1.result; parameters = Some found.1.parameters }) (first_from (is_called text) 0 env.heads.functions) (function_known text env.heads.functions known.functions) in
     let service = if_any Q service_function (named_in env.registered text) service_known in
-    let class = if_map Q (λ (found : ℕ × Class). record { target = targets.Class found.0; result = ty.Handle (OfClass found.0); parameters = Some found.1.parameters }) (first_from (is_class text) 0 env.heads.classes) (if_all (first_from (is_class text) 0 env.heads.classes) (λ found. refl)) in
+    let class = if_map Q (λ (found : ℕ × Class). record { target = callables.Target (targets.Class found.0); result = ty.Handle (OfClass found.0); parameters = Some found.1.parameters }) (first_from (is_class text) 0 env.heads.classes) (if_all (first_from (is_class text) 0 env.heads.classes) (λ found. refl)) in
     let kind = if_any Q (host_type env.registered) (named_in env.registered text) (host_known env.registered) in
     if_or Q (own_method_in env text) (option_or (function_in env.heads.functions text) (callee_beside env text)) own (if_or Q (function_in env.heads.functions text) (callee_beside env text) function (if_or Q (option_and_then service_function (named_in env.registered text)) (option_or (class_in env.heads.classes text) (option_and_then (host_type env.registered) (named_in env.registered text))) service (if_or Q (class_in env.heads.classes text) (option_and_then (host_type env.registered) (named_in env.registered text)) class kind)))
 

@@ -29,7 +29,7 @@ use Rattle.ash_typing.specs.Checking.{Checking, ◌>>=◌, broken}
 use Rattle.ash_typing.specs.Types.{signed, fits, common, object_of, ty_of, sort_of, binary_of, integers_in, outcome, meets, assumed}
 use Rattle.ash_typed.specs.Tree.{Expr, Exprs, Truth, Null, This, Read, Invoke, Alter, Conditional, Assign, Update, Count, Call, Place, Held, no_expr, expr, place_in}
 use Rattle.ash_typing.specs.Environment.{Environment, Known, Callee, Invoked, variable_in, callee_in, member_in, method_in}
-use Rattle.ash_typing.specs.Expressions.{Typed, Met, typed, all_typed, links_typed, suffixes_typed, suffix_typed, call_typed, invocation_typed, called, callee_at, known_at, this_at, arguments_at, all_fitted, fitted, brought, numeral, right_operand, operate, operated as joined, met, met_as, met_by, counted, altered, unary_at, integer_of, bool_of, handle_of, handle_at, convert_at, converting, choice, chosen, operator_of, is_stored, assigned, assigned_to, stored, updated, is_assign, field_of, member_at, method_of, invoked, invoked_at, made, in_brackets, applied}
+use Rattle.ash_typing.specs.Expressions.{Typed, Met, typed, all_typed, links_typed, suffixes_typed, suffix_typed, call_typed, invocation_typed, called, callee_at, known_at, this_at, arguments_at, all_fitted, fitted, brought, numeral, right_operand, operate, operated as joined, met, met_as, met_by, counted, altered, unary_at, integer_of, bool_of, handle_of, handle_at, convert_at, converting, choice, chosen, operator_of, is_stored, assigned, assigned_to, stored, updated, is_assign, field_of, member_at, method_of, invoked, invoked_at, made, in_brackets, applied, call_of}
 use Rattle.ash_typing.specs.Typing.{IsKnown, is_known, Term, term, placed, term_of, HasType, AllHaveType, LinksHaveType, SuffixesHaveType, SuffixHasType, AreArguments, no_arguments, argument, number, truth, null, this, name, call, brackets, to_integer, to_bool, postfix, plus, minus, complement, not, increment, decrement, handle, handle_written, binary, conditional, assign, update, none_left, each, no_more, operated, no_suffixes, suffixed, field, method, increment_after, decrement_after, Meet, beside, converted_to, left_of, right_of, right_by}
 use Rattle.ash_typing.proofs.TypingWords.{no_fault, same_ok, bind_ok, unconverted, beside_is, known_alone, right_is, calculated_integers}
 use Rattle.ash_typing.proofs.TypingKnown.{known_type, outcome_known, beside_known, suffix_known}
@@ -102,12 +102,12 @@ name_sound : (env : Environment) (left : Bool) (p : place.Place) (text : List �
 name_sound env left p text None r e h = absurd (no_fault _ r h)
 name_sound env left p text (Some known) r e h = at_ok (λ r. HasType env left (written.Name p text) (term_of r)) (made p.at known.1 known.0) r h (name e)
 
-pub called_ok : (at : ℕ) (callee : Callee) (ts : List Typed) (parameters : Option (List Ty)) (r : Typed) → called at callee ts parameters ≡ Ok r → (ps : List Ty) × (parameters ≡ Some ps) × ((trees : Exprs) × AreArguments ps (terms ts) trees × (made at callee.result (Call callee.target trees) ≡ r))
+pub called_ok : (at : ℕ) (callee : Callee) (ts : List Typed) (parameters : Option (List Ty)) (r : Typed) → called at callee ts parameters ≡ Ok r → (ps : List Ty) × (parameters ≡ Some ps) × ((trees : Exprs) × AreArguments ps (terms ts) trees × (made at callee.result (call_of callee.target trees) ≡ r))
 unfolding called
 called_ok at callee ts None r h = absurd (no_fault _ r h)
 called_ok at callee ts (Some ps) r h =
-    let a = bind_ok (arguments_at at ps ts) (λ es. Ok (made at callee.result (Call callee.target es))) r h in
-    (ps, refl, (a.0, arguments_ok at ps ts a.0 a.1, same_ok (made at callee.result (Call callee.target a.0)) r a.2))
+    let a = bind_ok (arguments_at at ps ts) (λ es. Ok (made at callee.result (call_of callee.target es))) r h in
+    (ps, refl, (a.0, arguments_ok at ps ts a.0 a.1, same_ok (made at callee.result (call_of callee.target a.0)) r a.2))
 
 callee_ok : (at : ℕ) (found : Option Callee) (callee : Callee) → callee_at at found ≡ Ok callee → found ≡ Some callee
 callee_ok at None callee h = absurd (no_fault _ callee h)

@@ -17,6 +17,8 @@ use Rattle.ash_typed.specs.declared.tree.operations.Member.{Member}
 use Rattle.ash_typed.specs.declared.tree.operations.Member.TheVariants.{Field}
 use Rattle.ash_typed.specs.declared.tree.operations.Method.TheVariants as methods
 use Rattle.ash_typed.specs.declared.tree.operations.Target.TheVariants as targets
+use Rattle.ash_typing.specs.declared.forms.Callable.{Callable}
+use Rattle.ash_typing.specs.declared.forms.Callable.TheVariants as callables
 use Rattle.ash_typed.specs.declared.tree.operations.Operands.{Operands}
 use Rattle.ash_typed.specs.declared.tree.operations.Operands.TheVariants as operands
 use Rattle.ash_typing.specs.declared.forms.Sort.{Sort}
@@ -25,7 +27,7 @@ use Rattle.ash_typed.specs.Tree.{Expr, Exprs, Number, Truth, Null, This, Read, I
 use Rattle.ash_typed.specs.TypeOf.{type_of, type_of_place, type_of_member, result_of_method, result_of_target, kept, chosen_type}
 use Rattle.ash_typing.specs.Types.{is_same_kind, fits_object, common, object_of, meeting, sort_of, integers_in, meets, outcome, ty_of}
 use Rattle.ash_typing.specs.Environment.{Environment, Declared, Function, Class, Known, Callee, Invoked, first_from, last_named, declares, is_called, is_class, this_class, variable_in, callee_in, member_in, method_in, method_of_class, method_of_kind, host_member_in, service_function, host_type, host_method, property, named_in, own_method_in, class_in, function_in, field_in, local_in, own_field_in, global_in, callee_beside, class_method}
-use Rattle.ash_typing.specs.Expressions.{conversion, applied}
+use Rattle.ash_typing.specs.Expressions.{conversion, applied, call_of}
 use Rattle.ash_typing.specs.Typing.{IsKnown, is_known, Term, converted_to, HasType, LinksHaveType, SuffixesHaveType, SuffixHasType, number, truth, null, this, name, call, brackets, to_integer, to_bool, postfix, plus, minus, complement, not, increment, decrement, handle, handle_written, binary as operators, conditional, assign, update, no_more, operated, no_suffixes, suffixed, field, method, increment_after, decrement_after}
 use Rattle.ash_typing.proofs.TypingWords.{arithmetic_integers, shift_integers}
 use Rattle.ash_typing.proofs.TypingKnown.{known_type, at_some, if_map, if_or, if_then, if_any, if_all}
@@ -38,8 +40,12 @@ IsTyped known = type_of known.0 ≡ known.1
 abbrev IsTypedMember : Member × Ty → Type 0
 IsTypedMember found = type_of_member found.0 ≡ found.1
 
+abbrev result_of : Callable → Ty
+result_of (callables.OwnMethod class place of) = of
+result_of (callables.Target target) = result_of_target target
+
 abbrev IsTypedCallee : Callee → Type 0
-IsTypedCallee callee = result_of_target callee.target ≡ callee.result
+IsTypedCallee callee = result_of callee.target ≡ callee.result
 
 abbrev IsTypedMethod : Invoked → Type 0
 IsTypedMethod m = result_of_method m.method ≡ m.result
@@ -74,10 +80,10 @@ host_method_type _ = tt
 callee_type : (env : Environment) (text : List ℕ) → IfSome (callee_in env text) IsTypedCallee
 unfolding callee_in
 callee_type env text =
-    let own = if_any IsTypedCallee (λ (c : ℕ × Class). option_map (λ (found : ℕ × Function). record { target = targets.Method c.0 found.0 found.1.result; result = found.1.result; parameters = Some found.1.parameters }) (first_from (is_called text) 0 c.1.methods)) (this_class env) (λ c. if_map IsTypedCallee (λ (found : ℕ × Function). record { target = targets.Method c.0 found.0 found.1.result; result = found.1.result; parameters = Some found.1.parameters }) (first_from (is_called text) 0 c.1.methods) (if_all (first_from (is_called text) 0 c.1.methods) (λ found. refl))) in
-    let function = if_map IsTypedCallee (λ (found : ℕ × Function). record { target = targets.Function found.0 found.1.result; result = found.1.result; parameters = Some found.1.parameters }) (first_from (is_called text) 0 env.heads.functions) (if_all (first_from (is_called text) 0 env.heads.functions) (λ found. refl)) in
+    let own = if_any IsTypedCallee (λ (c : ℕ × Class). option_map (λ (found : ℕ × Function). record { target = callables.OwnMethod c.0 found.0 found.1.result; result = found.1.result; parameters = Some found.1.parameters }) (first_from (is_called text) 0 c.1.methods)) (this_class env) (λ c. if_map IsTypedCallee (λ (found : ℕ × Function). record { target = callables.OwnMethod c.0 found.0 found.1.result; result = found.1.result; parameters = Some found.1.parameters }) (first_from (is_called text) 0 c.1.methods) (if_all (first_from (is_called text) 0 c.1.methods) (λ found. refl))) in
+    let function = if_map IsTypedCallee (λ (found : ℕ × Function). record { target = callables.Target (targets.Function found.0 found.1.result); result = found.1.result; parameters = Some found.1.parameters }) (first_from (is_called text) 0 env.heads.functions) (if_all (first_from (is_called text) 0 env.heads.functions) (λ found. refl)) in
     let service = if_any IsTypedCallee service_function (named_in env.registered text) service_type in
-    let class = if_map IsTypedCallee (λ (found : ℕ × Class). record { target = targets.Class found.0; result = ty.Handle (OfClass found.0); parameters = Some found.1.parameters }) (first_from (is_class text) 0 env.heads.classes) (if_all (first_from (is_class text) 0 env.heads.classes) (λ found. refl)) in
+    let class = if_map IsTypedCallee (λ (found : ℕ × Class). record { target = callables.Target (targets.Class found.0); result = ty.Handle (OfClass found.0); parameters = Some found.1.parameters }) (first_from (is_class text) 0 env.heads.classes) (if_all (first_from (is_class text) 0 env.heads.classes) (λ found. refl)) in
     let kind = if_any IsTypedCallee (host_type env.registered) (named_in env.registered text) (host_result env.registered) in
     if_or IsTypedCallee (own_method_in env text) (option_or (function_in env.heads.functions text) (callee_beside env text)) own (if_or IsTypedCallee (function_in env.heads.functions text) (callee_beside env text) function (if_or IsTypedCallee (option_and_then service_function (named_in env.registered text)) (option_or (class_in env.heads.classes text) (option_and_then (host_type env.registered) (named_in env.registered text))) service (if_or IsTypedCallee (class_in env.heads.classes text) (option_and_then (host_type env.registered) (named_in env.registered text)) class kind)))
 
@@ -90,6 +96,10 @@ method_type : (env : Environment) (o : ObjectType) (text : List ℕ) → IfSome 
 unfolding method_in method_of_class method_of_kind
 method_type env (OfClass i) text = if_any IsTypedMethod (class_method i text) (slice_get env.heads.classes i) (λ c. if_map IsTypedMethod (λ (found : ℕ × Function). record { method = methods.Script i found.0 found.1.result; result = found.1.result; parameters = found.1.parameters }) (first_from (is_called text) 0 c.methods) (if_all (first_from (is_called text) 0 c.methods) (λ found. refl)))
 method_type env (OfHost i) text = if_any IsTypedMethod host_method (host_member_in env.registered i text) host_method_type
+
+call_type : (c : Callable) (es : Exprs) → type_of (call_of c es) ≡ result_of c
+call_type (callables.OwnMethod class place of) es = refl
+call_type (callables.Target target) es = refl
 
 -- conversions
 
@@ -190,7 +200,7 @@ mutual
   type_is null known = refl
   type_is (this h) known = refl
   type_is {env} (name {text = text} {known = found} h) known = at_some IsTyped (variable_in env text) found (variable_type env text) h
-  type_is {env} (call {text = text} {callee = callee} c q all args) known = at_some IsTypedCallee (callee_in env text) callee (callee_type env text) c
+  type_is {env} (call {text = text} {callee = callee} {trees = trees} c q all args) known = call_type callee.target trees ∙ at_some IsTypedCallee (callee_in env text) callee (callee_type env text) c
   type_is (brackets h) known = type_is h known
   type_is (to_integer {t = t} {j = j} {k = k} h i l) known = ap kept (converted_type k j t (type_is h known) l)
   type_is (to_bool h i l) known = ap kept (type_is h known ∙ l)

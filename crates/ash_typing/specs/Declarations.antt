@@ -9,6 +9,7 @@ use Rattle.ash_typed.specs.declared.types.ObjectType.TheVariants.{Class as OfCla
 use Rattle.ash_typed.specs.declared.types.Ty.{Ty}
 use Rattle.ash_typed.specs.declared.types.Ty.TheVariants as ty
 use Rattle.ash_typed.specs.declared.tree.operations.Target.TheVariants as targets
+use Rattle.ash_typing.specs.declared.forms.Callable.TheVariants as callables
 use Rattle.ash_typing.specs.Checking.{Checking, ◌>>=◌, broken}
 use Rattle.ash_typed.specs.Tree.{Expr}
 use Rattle.ash_typing.specs.Environment.{Environment, Class, Callee, host_type}
@@ -38,7 +39,7 @@ initialization name of value = record { name = name; of = of; value = value }
 -- objects are constructed
 
 abbrev pub class_built : ℕ → Class → Callee
-class_built place c = record { target = targets.Class place; result = ty.Handle (OfClass place); parameters = Some c.parameters }
+class_built place c = record { target = callables.Target (targets.Class place); result = ty.Handle (OfClass place); parameters = Some c.parameters }
 
 unfoldable pub class_construction : List Class → ℕ → Option Callee
 class_construction classes place = option_map (class_built place) (slice_get classes place)

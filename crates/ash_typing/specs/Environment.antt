@@ -13,8 +13,9 @@ use Rattle.ash_typed.specs.declared.tree.operations.Member.{Member}
 use Rattle.ash_typed.specs.declared.tree.operations.Member.TheVariants as members
 use Rattle.ash_typed.specs.declared.tree.operations.Method.{Method}
 use Rattle.ash_typed.specs.declared.tree.operations.Method.TheVariants as methods
-use Rattle.ash_typed.specs.declared.tree.operations.Target.{Target}
 use Rattle.ash_typed.specs.declared.tree.operations.Target.TheVariants as targets
+use Rattle.ash_typing.specs.declared.forms.Callable.{Callable}
+use Rattle.ash_typing.specs.declared.forms.Callable.TheVariants as callables
 use Rattle.ash_typing.specs.Types.{ty_of}
 use Rattle.ash_typed.specs.Tree.{Expr, This, Read, Stored, Held}
 
@@ -103,7 +104,7 @@ variable_in env name = option_or (local_in env.locals name) (option_or (own_fiel
 
 -- what is called, what it gives, and what it takes: nothing can be said of a type without factory
 pub record Callee : Type 0 where
-  pub target : Target
+  pub target : Callable
   pub result : Ty
   pub parameters : Option (List Ty)
 
@@ -112,17 +113,17 @@ result_of None = ty.Void
 result_of (Some primitive) = ty_of primitive
 
 abbrev pub own_method_in : Environment → List ℕ → Option Callee
-own_method_in env name = option_and_then (λ (c : ℕ × Class). option_map (λ (found : ℕ × Function). record { target = targets.Method c.0 found.0 found.1.result; result = found.1.result; parameters = Some found.1.parameters }) (first_from (is_called name) 0 c.1.methods)) (this_class env)
+own_method_in env name = option_and_then (λ (c : ℕ × Class). option_map (λ (found : ℕ × Function). record { target = callables.OwnMethod c.0 found.0 found.1.result; result = found.1.result; parameters = Some found.1.parameters }) (first_from (is_called name) 0 c.1.methods)) (this_class env)
 
 abbrev pub function_in : List Function → List ℕ → Option Callee
-function_in functions name = option_map (λ (found : ℕ × Function). record { target = targets.Function found.0 found.1.result; result = found.1.result; parameters = Some found.1.parameters }) (first_from (is_called name) 0 functions)
+function_in functions name = option_map (λ (found : ℕ × Function). record { target = callables.Target (targets.Function found.0 found.1.result); result = found.1.result; parameters = Some found.1.parameters }) (first_from (is_called name) 0 functions)
 
 abbrev pub service_function : host.Call → Option Callee
-service_function (host.AFunction service id operation) = Some (record { target = targets.Service service id (result_of operation.result); result = result_of operation.result; parameters = Some (map ty_of operation.parameters) })
+service_function (host.AFunction service id operation) = Some (record { target = callables.Target (targets.Service service id (result_of operation.result)); result = result_of operation.result; parameters = Some (map ty_of operation.parameters) })
 service_function _ = None
 
 abbrev pub class_in : List Class → List ℕ → Option Callee
-class_in classes name = option_map (λ (found : ℕ × Class). record { target = targets.Class found.0; result = ty.Handle (OfClass found.0); parameters = Some found.1.parameters }) (first_from (is_class name) 0 classes)
+class_in classes name = option_map (λ (found : ℕ × Class). record { target = callables.Target (targets.Class found.0); result = ty.Handle (OfClass found.0); parameters = Some found.1.parameters }) (first_from (is_class name) 0 classes)
 
 abbrev pub factory_parameters : host.Call → Option (List Ty)
 factory_parameters (host.AFactory of parameters) = Some (map ty_of parameters)
@@ -132,7 +133,7 @@ unfoldable pub factory_in : List host.Call → List ℕ → Option (List Ty)
 factory_in calls of = option_and_then factory_parameters (find (host.is_factory_of of) calls)
 
 abbrev pub host_type : List host.Call → host.Call → Option Callee
-host_type calls (host.AType name kind) = Some (record { target = targets.Host kind; result = ty.Handle (OfHost kind); parameters = factory_in calls name })
+host_type calls (host.AType name kind) = Some (record { target = callables.Target (targets.Host kind); result = ty.Handle (OfHost kind); parameters = factory_in calls name })
 host_type calls _ = None
 
 abbrev pub named_in : List host.Call → List ℕ → Option host.Call

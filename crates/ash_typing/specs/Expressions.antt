@@ -28,6 +28,9 @@ use Rattle.ash_typed.specs.declared.tree.operations.Calculator.TheVariants as ca
 use Rattle.ash_typed.specs.declared.tree.operations.Operation.TheVariants as operations
 use Rattle.ash_typing.specs.declared.forms.Operator.{Operator}
 use Rattle.ash_typing.specs.declared.forms.Operator.TheVariants as operators
+use Rattle.ash_typed.specs.declared.tree.operations.Method.TheVariants as methods
+use Rattle.ash_typing.specs.declared.forms.Callable.{Callable}
+use Rattle.ash_typing.specs.declared.forms.Callable.TheVariants as callables
 use Rattle.ash_typed.specs.declared.tree.operations.Member.{Member}
 use Rattle.ash_typed.specs.declared.tree.operations.Member.TheVariants as members
 use Rattle.ash_typed.specs.declared.tree.operations.Operands.{Operands}
@@ -239,9 +242,14 @@ all_fitted _ _ = Ok no_expr
 unfoldable pub arguments_at : ℕ → List Ty → List Typed → Checking Exprs
 arguments_at at parameters ts = if nat_eq (length parameters) (length ts) then all_fitted parameters ts else broken WrongArgumentCount at
 
+-- a method is called on the object that runs
+abbrev pub call_of : Callable → Exprs → Expr
+call_of (callables.OwnMethod class method result) es = Invoke (This class) (methods.Script class method result) es
+call_of (callables.Target target) es = Call target es
+
 unfoldable pub called : ℕ → Callee → List Typed → Option (List Ty) → Checking Typed
 called at callee ts None = broken NoFactory at
-called at callee ts (Some parameters) = arguments_at at parameters ts >>= λ es. Ok (made at callee.result (Call callee.target es))
+called at callee ts (Some parameters) = arguments_at at parameters ts >>= λ es. Ok (made at callee.result (call_of callee.target es))
 
 abbrev pub callee_at : ℕ → Option Callee → Checking Callee
 callee_at at None = broken UnknownName at

@@ -29,9 +29,9 @@ use Rattle.ash_typed.specs.declared.tree.operations.Operands.{Operands}
 use Rattle.ash_typed.specs.declared.tree.operations.Operands.TheVariants as operands
 use Rattle.ash_typed.specs.declared.tree.operations.Step.TheVariants as steps
 use Rattle.ash_typing.specs.Types.{kind_of, holds, signed, fits, common, object_of, ty_of, sort_of, binary_of, meets, outcome}
-use Rattle.ash_typed.specs.Tree.{Expr, Number, Truth, Null, This, Read, Invoke, Alter, Conditional, Assign, Update, Count, Call, Place, Held, Exprs, no_expr, expr, place_in, converted}
+use Rattle.ash_typed.specs.Tree.{Expr, Number, Truth, Null, This, Read, Invoke, Alter, Conditional, Assign, Update, Count, Place, Held, Exprs, no_expr, expr, place_in, converted}
 use Rattle.ash_typing.specs.Environment.{Environment, Declared, Function, Class, Known, Callee, Invoked, variable_in, callee_in, member_in, method_in}
-use Rattle.ash_typing.specs.Expressions.{Typed, conversion, operand_type, applied, operator_of, is_stored}
+use Rattle.ash_typing.specs.Expressions.{Typed, conversion, operand_type, applied, operator_of, is_stored, call_of}
 use Rattle.ash_typing.specs.Declarations.{Initialization, initialization, construction}
 
 -- an environment whose types are known
@@ -133,7 +133,7 @@ mutual
         → callee.parameters ≡ Some parameters
         → AllHaveType env es ts
         → AreArguments parameters ts trees
-        → HasType env left (written.Call p text es) (term callee.result (Call callee.target trees))
+        → HasType env left (written.Call p text es) (term callee.result (call_of callee.target trees))
     -- (e), which is no number alone
     brackets : {left : Bool} {p : place.Place} {e : written.Expr} {t : Term}
         → HasType env false e t
@@ -283,7 +283,7 @@ pub data IsConstructed (env : Environment) : ObjectType → List Term → Expr �
       → construction env o ≡ Some callee
       → callee.parameters ≡ Some parameters
       → AreArguments parameters ts trees
-      → IsConstructed env o ts (Call callee.target trees)
+      → IsConstructed env o ts (call_of callee.target trees)
 
 -- what a variable of a type begins with: where nothing is named, with zero, `false` or null
 pub data BeginsWith (env : Environment) : Ty → written.Initializer → Option Expr → Type 0 where

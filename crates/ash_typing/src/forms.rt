@@ -1,6 +1,6 @@
 //! What the rules of typing see of an operator and of an expression, beside their types.
 
-use ash_typed::{Calculator, Comparator, Lazy};
+use ash_typed::{Calculator, Comparator, Lazy, Target, Ty};
 
 /// What an operator between two operands is of.
 #[derive(Clone, Copy, Debug, PartialEq, Eq)]
@@ -35,4 +35,16 @@ pub enum Alone {
     /// `@e`
     Handle,
     Other,
+}
+
+/// What a name before brackets stands for.
+#[derive(Clone, Copy, Debug, PartialEq, Eq)]
+pub enum Callable {
+    /// A method of the object that runs, which is of the class of this place, with what it gives.
+    OwnMethod {
+        class: usize,
+        method: usize,
+        result: Ty,
+    },
+    Target(Target),
 }

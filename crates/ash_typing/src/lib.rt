@@ -15,6 +15,6 @@ mod modules;
 mod typing;
 
 pub use fault::{Fault, Rule};
-pub use forms::{Alone, Operator, Sort};
+pub use forms::{Alone, Callable, Operator, Sort};
 pub use modules::{typing_of_modules, typing_of_statements};
 pub use typing::{typing_of_arguments, typing_of_expressions, typing_of_variables};

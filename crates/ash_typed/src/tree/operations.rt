@@ -36,26 +36,13 @@ pub enum Method {
     },
 }
 
-/// What a call by a name calls.
+/// What a call calls, but for methods.
 #[derive(Clone, Copy, Debug, PartialEq, Eq)]
 pub enum Target {
-    /// A method of the object that runs, with what it gives.
-    Method {
-        class: usize,
-        method: usize,
-        result: Ty,
-    },
     /// A function of the module, by its place among them, with what it gives.
-    Function {
-        function: usize,
-        result: Ty,
-    },
+    Function { function: usize, result: Ty },
     /// A function of a registered service, by its index and its number, with what it gives.
-    Service {
-        service: u16,
-        id: u16,
-        result: Ty,
-    },
+    Service { service: u16, id: u16, result: Ty },
     /// The construction of an object of a class.
     Class(usize),
     /// The construction of an object of a registered type, by its kind.
