@@ -2,3 +2,4 @@ pub mod ReturnLaws
 pub mod ReturnTests
 pub mod CheckLaws
 pub mod StatementLaws
+pub mod NodeLaws

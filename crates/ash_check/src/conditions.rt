@@ -21,6 +21,7 @@ pub(crate) fn if_made(line: usize, condition: Typed, inner: Box<Stmt>) -> Checki
     Ok(if_of(line, condition.tree, inner))
 }
 
+#[tactic(auto, using(crate::proofs::NodeLaws::if_is))]
 fn if_of(line: usize, condition: TypedExpr, then: Box<Stmt>) -> Stmt
     ensures { stmt_of result ≡ If line (expr_of condition) (stmt_of then.value) no_branch }
 {
@@ -48,6 +49,7 @@ pub(crate) fn if_else_made(
     Ok(if_else_of(line, condition.tree, inner, other))
 }
 
+#[tactic(auto, using(crate::proofs::NodeLaws::if_else_is))]
 fn if_else_of(line: usize, condition: TypedExpr, then: Box<Stmt>, otherwise: Box<Stmt>) -> Stmt
     ensures { stmt_of result ≡ If line (expr_of condition) (stmt_of then.value) (branch (stmt_of otherwise.value)) }
 {

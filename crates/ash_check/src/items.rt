@@ -162,7 +162,7 @@ fn constructor_named<'a>(class: &Class, constructor: &'a Constructor) -> Checkin
 }
 
 /// A member of a class, behind those that it has so far.
-#[tactic(auto, unfolding(ash_typing::specs::Items::member_typed))]
+#[tactic(auto, using(crate::proofs::NodeLaws::values_append), unfolding(ash_typing::specs::Items::member_typed))]
 fn member_typed<'a>(
     alloc: Global,
     env: &Environment<'_, 'a>,
