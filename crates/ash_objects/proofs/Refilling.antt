@@ -12,6 +12,7 @@ use Rattle.ash_slots.specs.declared.body.Body.{Body}
 use Rattle.ash_slots.specs.declared.body.Body.TheVariants.{Script, Array, Host}
 use Rattle.ash_slots.specs.declared.body.Array as arrays
 use Rattle.ash_slots.specs.declared.body.Element.{Element}
+use Rattle.ash_slots.specs.declared.entry.Item.{Item}
 use Rattle.ash_slots.specs.declared.body.Element.TheVariants as elements
 use Rattle.ash_slots.specs.Bodies.{words_of, with_word, initial_of}
 use Rattle.ash_slots.specs.Arrays.{array_of, with_words, stored_array, refilled, lengthened}
@@ -26,7 +27,12 @@ use Rattle.ash_objects.proofs.Counts.{numbers-living, each-change, given-change}
 use Rattle.ash_objects.proofs.Fields.{view_face, counted_same, in_face}
 use Rattle.ash_objects.proofs.Releasing.{released_face, released_fields, released_order, released_length, released_each, released_counted}
 use Rattle.ash_slots.proofs.Steps.{change_same}
-use Rattle.ash_objects.proofs.Views.{body_view}
+use Rattle.ash_objects.proofs.Views.{body_view, body_item}
+
+-- where it is enough to know what is there
+pub each_some : {A : Type 0} (P : A → Type 0) (v : Option A) → ((x : A) → v ≡ Some x → P x) → IfSome v P
+each_some P None h = tt
+each_some P (Some x) h = h x refl
 
 take_short : {A : Type 0} (k : ℕ) (ws : List A) → length (take k ws) ≤ length ws
 take_short k ws =
@@ -107,6 +113,10 @@ module _ {B : Type 0} where
       go : (v : Option (Placed B)) → option_and_then array_of (option_map (λ object. (object.item).body) v) ≡ option_and_then (λ object. array_of (object.item).body) v
       go None = refl
       go (Some p) = refl
+
+  -- and so are its elements
+  pub elements_view : (n : ℕ) (l : List (ℕ × Placed B)) (it : Item B) → IsSomeAnd (object_at n l) (λ object. object.item ≡ it) → option_and_then elements_of (option_map (λ object. object.body) (object_at n (living_in l))) ≡ elements_of it.body
+  elements_view n l it mine = ap (λ (v : Option (Body B)). option_and_then elements_of v) (body_view n l ∙ body_item n l it mine)
 
   pub found_array : (n : ℕ) (l : List (ℕ × Placed B)) → IsSome (option_and_then array_of (option_map (λ object. object.body) (object_at n (living_in l)))) → (array : arrays.Array) × (stored_array n l ≡ Some array)
   found_array n l h = some_of (stored_array n l) (subst (λ (v : Option arrays.Array). IsSome v) (array_view n l) h)

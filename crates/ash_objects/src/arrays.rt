@@ -1,7 +1,7 @@
 //! Calls of arrays.
-ghost use Rattle.std.specs.Prelude.{◌≡◌, ◌<◌, ◌≤◌, ◌-◌, ◌++◌, ◌∷◌, ◌↔◌, [], take, length, slice_get, Some, IsSome, IfSome, OnOk, OnErr, IsErrOf};
+ghost use Rattle.std.specs.Prelude.{◌≡◌, ◌<◌, ◌≤◌, ◌-◌, ◌++◌, ◌∷◌, ◌↔◌, ℕ, [], take, length, slice_get, Some, IsSome, IfSome, OnOk, OnErr, IsErrOf};
 ghost use Rattle.ash_objects.specs.declared.arrays.LengthFault.{LengthFault};
-ghost use Rattle.ash_objects.specs.Table.{IsAlive, with_object, with_field};
+ghost use Rattle.ash_objects.specs.Table.{slot_of, IsAlive, with_object, with_field};
 ghost use Rattle.ash_objects.specs.Arrays.{elements_at, array_at, with_elements};
 ghost use Rattle.ash_slots.specs.Arrays.{lengthened};
 
@@ -25,19 +25,25 @@ pub enum LengthFault {
 }
 
 impl<B> Objects<B> {
-    // The elements of an array, in order.
-    fn elements(&self, number: u64) -> &[Word]
-        requires { IsSome (elements_at number self.now) }
-        ensures { elements_at number self.now ≡ Some result.now }
+    // The elements of the array in a slot, in order.
+    fn elements(&self, slot: usize) -> &[Word]
+        requires { (number : ℕ) × (slot_of number self.now ≡ Some slot) × IsSome (elements_at number self.now) }
+        ensures { (number : ℕ) → slot_of number self.now ≡ Some slot → elements_at number self.now ≡ Some result.now }
     {
-        let Some(body) = self.body(number) else {
-            unreachable!()
-        };
-        match body {
+        match &self.store.item(slot).body {
             Body::Array(array) => array.elements.as_slice(),
             Body::Script(_) => unreachable!(),
             Body::Host(_) => unreachable!(),
         }
+    }
+
+    /// How many elements the array in a slot has. It takes no memory.
+    pub fn length_at(&self, slot: usize) -> usize
+        requires { (number : ℕ) × (slot_of number self.now ≡ Some slot) × IsSome (elements_at number self.now) }
+        ensures { (number : ℕ) → slot_of number self.now ≡ Some slot
+            → IfSome (elements_at number self.now) (λ elements. result ≡ length elements) }
+    {
+        self.elements(slot).len()
     }
 
     /// How many elements an array has. It takes no memory.
@@ -45,7 +51,19 @@ impl<B> Objects<B> {
         requires { IsSome (elements_at number self.now) }
         ensures { IfSome (elements_at number self.now) (λ elements. result ≡ length elements) }
     {
-        self.elements(number).len()
+        let Some(slot) = self.slot(number) else {
+            unreachable!()
+        };
+        self.length_at(slot)
+    }
+
+    /// The element of the array in a slot at an index, if there is one. It takes no memory.
+    pub fn element_at(&self, slot: usize, index: usize) -> Option<Word>
+        requires { (number : ℕ) × (slot_of number self.now ≡ Some slot) × IsSome (elements_at number self.now) }
+        ensures { (number : ℕ) → slot_of number self.now ≡ Some slot
+            → IfSome (elements_at number self.now) (λ elements. result ≡ slice_get elements index) }
+    {
+        self.elements(slot).get(index).copied()
     }
 
     /// The element of an array at an index, if there is one. It takes no memory.
@@ -53,7 +71,34 @@ impl<B> Objects<B> {
         requires { IsSome (elements_at number self.now) }
         ensures { IfSome (elements_at number self.now) (λ elements. result ≡ slice_get elements index) }
     {
-        self.elements(number).get(index).copied()
+        let Some(slot) = self.slot(number) else {
+            unreachable!()
+        };
+        self.element_at(slot, index)
+    }
+
+    /// Writes the element of the array in a slot at an index. It takes no memory.
+    pub fn set_element_at(
+        &mut self,
+        slot: usize,
+        index: usize,
+        word: Word,
+    ) -> Result<(), IndexOutOfBounds>
+        requires array { (number : ℕ) × (slot_of number self.old ≡ Some slot) × IsSome (elements_at number self.old) }
+        requires alive { IsAlive word self.old }
+        ensures within { OnOk result ((number : ℕ) → slot_of number self.old ≡ Some slot
+            → IfSome (elements_at number self.old) (λ elements. index < length elements)) }
+        ensures outside { OnErr result ((number : ℕ) → slot_of number self.old ≡ Some slot
+            → IfSome (elements_at number self.old) (λ elements. length elements ≤ index)) }
+        ensures written { OnOk result ((number : ℕ) → slot_of number self.old ≡ Some slot
+            → self.new ≡ with_object number (with_field index word) self.old) }
+        ensures unchanged { OnErr result (self.new ≡ self.old) }
+    {
+        if index >= self.length_at(slot) {
+            return Err(IndexOutOfBounds);
+        }
+        self.set_field_at(slot, index, word);
+        Ok(())
     }
 
     /// Writes the element of an array at an index. It takes no memory.
@@ -70,41 +115,63 @@ impl<B> Objects<B> {
         ensures written { OnOk result (self.new ≡ with_object number (with_field index word) self.old) }
         ensures unchanged { OnErr result (self.new ≡ self.old) }
     {
-        if index >= self.length(number) {
-            return Err(IndexOutOfBounds);
-        }
-        self.set_field(number, index, word);
-        Ok(())
+        let Some(slot) = self.slot(number) else {
+            unreachable!()
+        };
+        self.set_element_at(slot, index, word)
     }
 
-    // Appends the initial value of its elements to an array until there are so many.
-    fn lengthen(&mut self, number: u64, len: usize) -> Result<(), NoMemory>
-        requires array { IsSome (array_at number self.old) }
+    // Appends the initial value of its elements to the array in a slot until there are so many.
+    fn lengthen(&mut self, slot: usize, len: usize) -> Result<(), NoMemory>
+        requires array { (number : ℕ) × (slot_of number self.old ≡ Some slot) × IsSome (array_at number self.old) }
         requires short { len ≤ 4096 }
-        ensures lengthened { OnOk result (IfSome (array_at number self.old) (λ array. self.new
+        ensures lengthened { OnOk result ((number : ℕ) → slot_of number self.old ≡ Some slot
+            → IfSome (array_at number self.old) (λ array. self.new
             ≡ with_object number (with_elements (lengthened len array)) self.old)) }
         ensures unchanged { OnErr result (self.new ≡ self.old) }
     {
-        let Some(slot) = self.slot(number) else {
-            unreachable!()
-        };
-        grow_elements(&mut self.store, slot, len)?;
-        Ok(())
+        grow_elements(&mut self.store, slot, len)
     }
 
-    // Cuts the elements of an array off from a length on, and gives up what they hold.
-    fn shorten(&mut self, number: u64, len: usize)
-        requires { IsSome (array_at number self.old) }
-        ensures { IfSome (array_at number self.old) (λ array. self.new
+    // Cuts the elements of the array in a slot off from a length on, and gives up what they hold.
+    fn shorten(&mut self, slot: usize, len: usize)
+        requires { (number : ℕ) × (slot_of number self.old ≡ Some slot) × IsSome (array_at number self.old) }
+        ensures { (number : ℕ) → slot_of number self.old ≡ Some slot
+            → IfSome (array_at number self.old) (λ array. self.new
             ≡ with_object number (with_elements (take len array.elements)) self.old) }
     {
-        let Some(slot) = self.slot(number) else {
-            unreachable!()
-        };
         let mut words = take_elements(&mut self.store, slot);
         release_words(&mut self.store, words.after(len));
         words.truncate(len);
         put_elements(&mut self.store, slot, words);
+    }
+
+    /// Gives the array in a slot a length: what is beyond it goes, and what it holds is counted once less for each
+    /// element that held it; what is added is zero or null. It takes memory only where the array has fewer elements.
+    pub fn resize_at(&mut self, slot: usize, len: usize) -> Result<(), LengthFault>
+        requires { (number : ℕ) × (slot_of number self.old ≡ Some slot) × IsSome (array_at number self.old) }
+        ensures long { IsErrOf result LengthFault.TooLong ↔ (4096 < len) }
+        ensures shorter { OnOk result ((number : ℕ) → slot_of number self.old ≡ Some slot
+            → IfSome (array_at number self.old) (λ array. len ≤ length array.elements
+            → self.new ≡ with_object number (with_elements (take len array.elements)) self.old)) }
+        ensures longer { OnOk result ((number : ℕ) → slot_of number self.old ≡ Some slot
+            → IfSome (array_at number self.old) (λ array. length array.elements < len
+            → self.new ≡ with_object number (with_elements (lengthened len array)) self.old)) }
+        ensures memory { IsErrOf result LengthFault.NoMemory → (number : ℕ) → slot_of number self.old ≡ Some slot
+            → IfSome (array_at number self.old) (λ array. length array.elements < len) }
+        ensures unchanged { OnErr result (self.new ≡ self.old) }
+    {
+        if len > MAX_ELEMENTS {
+            return Err(LengthFault::TooLong);
+        }
+        if len <= self.length_at(slot) {
+            self.shorten(slot, len);
+            return Ok(());
+        }
+        match self.lengthen(slot, len) {
+            Ok(()) => Ok(()),
+            Err(_) => Err(LengthFault::NoMemory),
+        }
     }
 
     /// Gives an array a length: what is beyond it goes, and what it holds is counted once less for each element that
@@ -120,17 +187,32 @@ impl<B> Objects<B> {
             → IfSome (array_at number self.old) (λ array. length array.elements < len) }
         ensures unchanged { OnErr result (self.new ≡ self.old) }
     {
-        if len > MAX_ELEMENTS {
+        let Some(slot) = self.slot(number) else {
+            unreachable!()
+        };
+        self.resize_at(slot, len)
+    }
+
+    /// Appends an element to the array in a slot. What it is a handle to is counted once more.
+    pub fn insert_last_at(&mut self, slot: usize, word: Word) -> Result<(), LengthFault>
+        requires array { (number : ℕ) × (slot_of number self.old ≡ Some slot) × IsSome (array_at number self.old) }
+        requires alive { IsAlive word self.old }
+        ensures long { (number : ℕ) → slot_of number self.old ≡ Some slot → IsErrOf result LengthFault.TooLong
+            ↔ IfSome (array_at number self.old) (λ array. 4096 ≤ length array.elements) }
+        ensures inserted { OnOk result ((number : ℕ) → slot_of number self.old ≡ Some slot
+            → IfSome (array_at number self.old) (λ array. self.new
+            ≡ with_object number (with_elements (array.elements ++ word ∷ [])) self.old)) }
+        ensures unchanged { OnErr result (self.new ≡ self.old) }
+    {
+        let last = self.length_at(slot);
+        if last >= MAX_ELEMENTS {
             return Err(LengthFault::TooLong);
         }
-        if len <= self.length(number) {
-            self.shorten(number, len);
-            return Ok(());
-        }
-        match self.lengthen(number, len) {
-            Ok(()) => Ok(()),
-            Err(_) => Err(LengthFault::NoMemory),
-        }
+        let Ok(()) = self.lengthen(slot, last + 1) else {
+            return Err(LengthFault::NoMemory);
+        };
+        self.set_field_at(slot, last, word);
+        Ok(())
     }
 
     /// Appends an element to an array. What it is a handle to is counted once more.
@@ -143,17 +225,28 @@ impl<B> Objects<B> {
             ≡ with_object number (with_elements (array.elements ++ word ∷ [])) self.old)) }
         ensures unchanged { OnErr result (self.new ≡ self.old) }
     {
-        let last = self.length(number);
-        if last >= MAX_ELEMENTS {
-            return Err(LengthFault::TooLong);
-        }
-        let Some(slot) = self.store.slot(number) else {
+        let Some(slot) = self.slot(number) else {
             unreachable!()
         };
-        let Ok(()) = self.lengthen(number, last + 1) else {
-            return Err(LengthFault::NoMemory);
+        self.insert_last_at(slot, word)
+    }
+
+    /// Takes the last element of the array in a slot away. What it held is counted once less. It takes no memory.
+    pub fn remove_last_at(&mut self, slot: usize) -> Result<(), IndexOutOfBounds>
+        requires { (number : ℕ) × (slot_of number self.old ≡ Some slot) × IsSome (array_at number self.old) }
+        ensures empty { OnErr result ((number : ℕ) → slot_of number self.old ≡ Some slot
+            → IfSome (array_at number self.old) (λ array. length array.elements ≡ 0)) }
+        ensures some { OnOk result ((number : ℕ) → slot_of number self.old ≡ Some slot
+            → IfSome (array_at number self.old) (λ array. 0 < length array.elements)) }
+        ensures removed { OnOk result ((number : ℕ) → slot_of number self.old ≡ Some slot
+            → IfSome (array_at number self.old) (λ array. self.new
+            ≡ with_object number (with_elements (take (length array.elements - 1) array.elements)) self.old)) }
+        ensures unchanged { OnErr result (self.new ≡ self.old) }
+    {
+        let Some(last) = self.length_at(slot).checked_sub(1) else {
+            return Err(IndexOutOfBounds);
         };
-        self.set_field_at(slot, last, word);
+        self.shorten(slot, last);
         Ok(())
     }
 
@@ -166,10 +259,9 @@ impl<B> Objects<B> {
             ≡ with_object number (with_elements (take (length array.elements - 1) array.elements)) self.old)) }
         ensures unchanged { OnErr result (self.new ≡ self.old) }
     {
-        let Some(last) = self.length(number).checked_sub(1) else {
-            return Err(IndexOutOfBounds);
+        let Some(slot) = self.slot(number) else {
+            unreachable!()
         };
-        self.shorten(number, last);
-        Ok(())
+        self.remove_last_at(slot)
     }
 }

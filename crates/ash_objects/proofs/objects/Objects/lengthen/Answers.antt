@@ -1,32 +1,32 @@
 use Rattle.std.proofs.Common.{refl, sym, subst, ◌∙◌}
 use Rattle.std.specs.Prelude.{IsSome}
+use Rattle.ash_slots.proofs.Options.{some_if}
 use Rattle.ash_objects.proofs.Views.{in_view}
-use Rattle.ash_objects.proofs.Refilling.{found_array, array_view, view_longer, table_longer}
-use Rattle.ash_slots.proofs.Options.{some_if, if_some}
+use Rattle.ash_objects.proofs.Refilling.{each_some, found_array, array_view, view_longer, table_longer}
 use Rattle.ash_objects.proofs.objects.Objects.lengthen.Goals as goal
 
 pub grow_elements-requires : goal.grow_elements-requires
 grow_elements-requires g c =
     let l = c.self.inside.store.objects in
-    let n = c.args.number in
-    let a = found_array n l (rw (← c.self.view_is) at c.requires.array) in
-    let at = rw (← c.self.view_is) at (sym c.slot.ensures ∙ c.in-Some.is) in
-    (n, in_view n c.in-Some.slot l at, subst (λ v. IsSome v) (sym a.1) refl)
+    let n = c.requires.array.0 in
+    let at = rw (← c.self.view_is) at c.requires.array.1 in
+    let a = found_array n l (rw (← c.self.view_is) at c.requires.array.2) in
+    (n, in_view n c.args.slot l at, subst (λ v. IsSome v) (sym a.1) refl)
 
 pub invariant_of-self-2 : goal.invariant_of-self-2
 invariant_of-self-2 g c =
     let l = c.self.inside.store.objects in
-    let n = c.args.number in
-    let a = found_array n l (rw (← c.self.view_is) at c.requires.array) in
-    let at = rw (← c.self.view_is) at (sym c.slot.ensures ∙ c.in-Some.is) in
-    let all = some_if _ _ a.0 a.1 (c.in_ok-grow_elements.ensures.grown n (in_view n c.in-Some.slot l at)) in
+    let n = c.requires.array.0 in
+    let at = rw (← c.self.view_is) at c.requires.array.1 in
+    let a = found_array n l (rw (← c.self.view_is) at c.requires.array.2) in
+    let all = some_if _ _ a.0 a.1 (c.in_ok-grow_elements.ensures.grown n (in_view n c.args.slot l at)) in
     rw all (table_longer n c.args.len a.0 l _ _ c.self.invariant a.1 c.requires.short)
 
 pub returns-clause-lengthened : goal.returns-clause-lengthened
-returns-clause-lengthened g c =
+returns-clause-lengthened g c = λ n is.
     let l = c.self.inside.store.objects in
-    let n = c.args.number in
-    let a = found_array n l (rw (← c.self.view_is) at c.requires.array) in
-    let at = rw (← c.self.view_is) at (sym c.slot.ensures ∙ c.in-Some.is) in
-    let all = some_if _ _ a.0 a.1 (c.in_ok-grow_elements.ensures.grown n (in_view n c.in-Some.slot l at)) in
-    rw (← c.self.view_is) (if_some _ _ a.0 (array_view n l ∙ a.1) (rw (all, view_longer n c.args.len a.0 l _ _ c.self.invariant a.1 c.requires.short) refl))
+    let at = rw (← c.self.view_is) at is in
+    rw (← c.self.view_is) (each_some _ _ (λ array there.
+    let a = sym (array_view n l) ∙ there in
+    let all = some_if _ _ array a (c.in_ok-grow_elements.ensures.grown n (in_view n c.args.slot l at)) in
+    rw (all, view_longer n c.args.len array l _ _ c.self.invariant a c.requires.short) refl))
