@@ -10,7 +10,7 @@ use Rattle.ash_slots.specs.Responses.{box_of}
 use Rattle.ash_slots.specs.Store.{Placed}
 use Rattle.ash_objects.specs.declared.restoring.Stored.{Stored}
 use Rattle.ash_objects.specs.declared.restoring.Saved.{Saved}
-use Rattle.ash_objects.specs.Restoring.{Drawn, Short, Enough, kind_wanted, draw_box, draw_others, draw_then, draw_boxes, with_box_first, IsBack, IsBody, AreBodies, with_taken, AreFit, ArePut}
+use Rattle.ash_objects.specs.Restoring.{Drawn, Short, Enough, kind_wanted, draw_box, draw_others, draw_then, draw_boxes, with_box_first, IsBack, AreBoxesBack, IsBody, AreBodies, with_taken, AreFit, ArePut}
 use Rattle.ash_objects.proofs.Marks.{appended}
 
 module _ {B : Type 0} where
@@ -105,23 +105,27 @@ module _ {B : Type 0} where
       let same : out ≡ Host back.0 = cc in
       (back.0, same, back.2)
 
-  abbrev pub AllBack : Ghosts B → List Stored → List (Option B) → List (Option B) → Type 0
-  AllBack G objects before after = (place : ℕ) (object : Stored) (one other : Option B) → slice_get objects place ≡ Some object → slice_get before place ≡ Some one → slice_get after place ≡ Some other → IsBack G object.body one other
+  -- the same behind the first of them
+  boxes_behind : (G : Ghosts B) (object : Stored) (objects : List Stored) (one other : Option B) (before after : List (Option B)) → AreBoxesBack G (object ∷ objects) (one ∷ before) (other ∷ after) → AreBoxesBack G objects before after
+  boxes_behind G object objects one other before after back = let all = back.many in record {
+    many = omega (arith, all);
+    each = λ place. back.each (suc place);
+  }
 
   -- the boxes still fit once they are back
-  pub fit_back : (G : Ghosts B) (objects : List Stored) (before after : List (Option B)) → AreFit objects before → length after ≡ length before → AllBack G objects before after → AreFit objects after
-  fit_back G [] [] [] fit many back = tt
-  fit_back G [] [] (other ∷ after) fit many back = absurd (cc)
-  fit_back G [] (one ∷ before) after fit many back = absurd fit
-  fit_back G (object ∷ objects) [] after fit many back = absurd fit
-  fit_back G (object ∷ objects) (one ∷ before) [] fit many back = absurd (cc)
-  fit_back G (object ∷ objects) (one ∷ before) (other ∷ after) fit many back = (
-    back_fit G object.body one other (back zero object one other refl refl refl) fit.0,
-    fit_back G objects before after fit.1 (omega (arith, many)) (λ place. back (suc place)),
+  pub fit_back : (G : Ghosts B) (objects : List Stored) (before after : List (Option B)) → AreFit objects before → AreBoxesBack G objects before after → AreFit objects after
+  fit_back G [] [] [] fit back = tt
+  fit_back G [] [] (other ∷ after) fit back = let many = back.many in absurd (cc)
+  fit_back G [] (one ∷ before) after fit back = absurd fit
+  fit_back G (object ∷ objects) [] after fit back = absurd fit
+  fit_back G (object ∷ objects) (one ∷ before) [] fit back = let many = back.many in absurd (cc)
+  fit_back G (object ∷ objects) (one ∷ before) (other ∷ after) fit back = (
+    back_fit G object.body one other (back.each zero object one other refl refl refl) fit.0,
+    fit_back G objects before after fit.1 (boxes_behind G object objects one other before after back),
   )
 
   -- what the objects are in the table is what they were stored as
-  pub bodies_put : (G : Ghosts B) (objects : List Stored) (before after : List (Option B)) (entries : List (ℕ × Placed B)) → AreFit objects before → AllBack G objects before after → ArePut objects after entries → AreBodies G objects before (map (λ e. (e.0, (e.1.item).body)) entries)
+  pub bodies_put : (G : Ghosts B) (objects : List Stored) (before after : List (Option B)) (entries : List (ℕ × Placed B)) → AreFit objects before → AreBoxesBack G objects before after → ArePut objects after entries → AreBodies G objects before (map (λ e. (e.0, (e.1.item).body)) entries)
   bodies_put G [] [] [] [] fit back put = tt
   bodies_put G [] (one ∷ before) after entries fit back put = absurd fit
   bodies_put G [] [] [] (e ∷ entries) fit back put = absurd put
@@ -131,6 +135,6 @@ module _ {B : Type 0} where
   bodies_put G (object ∷ objects) (one ∷ before) (other ∷ after) [] fit back put = absurd put
   bodies_put G (object ∷ objects) (one ∷ before) (other ∷ after) (e ∷ entries) fit back put = (
     put.0,
-    body_joined G object.body one other (e.1.item).body (back zero object one other refl refl refl) put.1,
-    bodies_put G objects before after entries fit.1 (λ place. back (suc place)) put.3,
+    body_joined G object.body one other (e.1.item).body (back.each zero object one other refl refl refl) put.1,
+    bodies_put G objects before after entries fit.1 (boxes_behind G object objects one other before after back) put.3,
   )

@@ -1,17 +1,9 @@
 -- Lists that are changed place by place, from the front, and lists that are taken apart from the end.
-use Rattle.std.proofs.Common.{◌≡◌, ℕ, List, [], ◌∷◌, refl, sym, ap, ◌∙◌, arith, Some, length, zero, suc, ◌+◌, ◌++◌, ◌≤◌, ◌<◌, ◌⊎◌, inl, inr, set, get_or, take, drop, map}
+use Rattle.std.proofs.Common.{◌≡◌, ℕ, List, [], ◌∷◌, refl, sym, ap, ◌∙◌, arith, Some, length, zero, suc, ◌+◌, ◌++◌, ◌≤◌, ◌<◌, ◌⊎◌, inl, inr, set, get_or, take, drop, map, min}
 use Rattle.std.specs.Prelude.{slice_get}
-use Rattle.std.proofs.lemmas.List.{length-set}
-
-pub get_within : {A : Type 0} (xs : List A) (k : ℕ) (x : A) → slice_get xs k ≡ Some x → k < length xs
-get_within [] k x h = cc
-get_within (y ∷ xs) zero x h = omega arith
-get_within (y ∷ xs) (suc k) x h = let later = get_within xs k x h in omega (arith, later)
-
-pub get_there : {A : Type 0} (xs : List A) (k : ℕ) (d : A) → k < length xs → slice_get xs k ≡ Some (get_or xs k d)
-get_there [] k d h = absurd (omega arith)
-get_there (y ∷ xs) zero d h = refl
-get_there (y ∷ xs) (suc k) d h = get_there xs k d (omega arith)
+use Rattle.std.proofs.lemmas.Bool.{cases_lt}
+use Rattle.std.proofs.lemmas.List.{length-set, length-take}
+use Rattle.std.proofs.lemmas.Option.{slice_get_within}
 
 -- what stands at a place of a list that was made item by item
 pub got_map : {A C : Type 0} (f : A → C) (xs : List A) (k : ℕ) (x : A) (y : C) → slice_get xs k ≡ Some x → slice_get (map f xs) k ≡ Some y → f x ≡ y
@@ -34,51 +26,33 @@ get_other (x ∷ xs) zero (suc j) y h = refl
 get_other (x ∷ xs) (suc k) zero y h = refl
 get_other (x ∷ xs) (suc k) (suc j) y h = get_other xs k j y (λ same. h (ap suc same))
 
-same_or_apart : (a b : ℕ) → (a ≡ b) ⊎ (a ≡ b → ⊥)
-same_or_apart zero zero = inl refl
-same_or_apart zero (suc b) = inr (λ e. absurd (omega (arith, e)))
-same_or_apart (suc a) zero = inr (λ e. absurd (omega (arith, e)))
-same_or_apart (suc a) (suc b) = go (same_or_apart a b)
-  where
-    go : (a ≡ b) ⊎ (a ≡ b → ⊥) → (suc a ≡ suc b) ⊎ (suc a ≡ suc b → ⊥)
-    go (inl e) = inl (ap suc e)
-    go (inr differ) = inr (λ e. differ (omega (arith, e)))
-
-lower : (a b : ℕ) → a < b + 1 → (a ≡ b → ⊥) → a < b
-lower a b within differ = go (same_or_apart a b)
-  where
-    go : (a ≡ b) ⊎ (a ≡ b → ⊥) → a < b
-    go (inl e) = absurd (differ e)
-    go (inr other) = grind (arith)
-
 -- Below a place each item has become another in a way that may depend on the place; from there on all are as they were.
 pub record IsDone {A : Type 0} (P : ℕ → A → A → Type 0) (k : ℕ) (old cur : List A) : Type 0 where
   pub many : length cur ≡ length old
   pub done : (place : ℕ) (one other : A) → place < k → slice_get old place ≡ Some one → slice_get cur place ≡ Some other → P place one other
-  pub todo : (place : ℕ) → k ≤ place → slice_get cur place ≡ slice_get old place
+  pub rest : (place : ℕ) → k ≤ place → slice_get cur place ≡ slice_get old place
 
 module _ {A : Type 0} (P : ℕ → A → A → Type 0) where
   pub done_none : (xs : List A) → IsDone P 0 xs xs
   done_none xs = record {
     many = refl;
     done = λ place one other below was is. absurd (omega arith);
-    todo = λ place above. refl;
+    rest = λ place above. refl;
   }
 
   pub done_more : (k : ℕ) (old cur : List A) (x y : A) → IsDone P k old cur → slice_get cur k ≡ Some x → P k x y → IsDone P (k + 1) old (set cur k y)
   done_more k old cur x y h there new = record {
     many = length-set cur k y ∙ h.many;
-    done = λ place one other below was is. each place one other below was is (apart place);
-    todo = λ place above. get_other cur k place y (λ same. absurd (omega arith)) ∙ h.todo place (omega arith);
+    done = λ place one other below was is. each place one other below was is (cases_lt place k);
+    rest = λ place above. get_other cur k place y (λ same. absurd (omega arith)) ∙ h.rest place (omega arith);
   }
     where
-      apart : (place : ℕ) → (place ≡ k) ⊎ (place ≡ k → ⊥)
-      apart place = same_or_apart place k
-
-      each : (place : ℕ) (one other : A) → place < k + 1 → slice_get old place ≡ Some one → slice_get (set cur k y) place ≡ Some other → (place ≡ k) ⊎ (place ≡ k → ⊥) → P place one other
-      each place one other below was is (inl here) =
-          let now : slice_get (set cur k y) k ≡ Some y = get_set cur k y (get_within cur k x there) in
-          let then : slice_get old k ≡ Some x = sym (h.todo k (omega arith)) ∙ there in
+      each : (place : ℕ) (one other : A) → place < k + 1 → slice_get old place ≡ Some one → slice_get (set cur k y) place ≡ Some other → (place < k) ⊎ (k ≤ place) → P place one other
+      each place one other below was is (inl under) = h.done place one other under was (sym (get_other cur k place y (λ same. absurd (omega (arith, same, under)))) ∙ is)
+      each place one other below was is (inr above) =
+          let here : place ≡ k = omega (arith, below, above) in
+          let now : slice_get (set cur k y) k ≡ Some y = get_set cur k y (slice_get_within cur k x there) in
+          let then : slice_get old k ≡ Some x = sym (h.rest k (omega arith)) ∙ there in
           at place one other was is here now then
         where
           at : (place : ℕ) (one other : A) → slice_get old place ≡ Some one → slice_get (set cur k y) place ≡ Some other → place ≡ k → slice_get (set cur k y) k ≡ Some y → slice_get old k ≡ Some x → P place one other
@@ -88,15 +62,29 @@ module _ {A : Type 0} (P : ℕ → A → A → Type 0) where
               let one_is : x ≡ one = cc in
               let other_is : y ≡ other = cc in
               rw (here, ← one_is, ← other_is) new
-      each place one other below was is (inr differ) = h.done place one other (below_k place differ below) was (sym (get_other cur k place y differ) ∙ is)
-        where
-          below_k : (place : ℕ) → (place ≡ k → ⊥) → place < k + 1 → place < k
-          below_k place differ below = lower place k below differ
 
   pub done_all : (k : ℕ) (old cur : List A) → IsDone P k old cur → length old ≤ k → (place : ℕ) (one other : A) → slice_get old place ≡ Some one → slice_get cur place ≡ Some other → P place one other
   done_all k old cur h over place one other was is =
-      let within = get_within old place one was in
+      let within = slice_get_within old place one was in
       h.done place one other (omega (arith, within, over)) was is
+
+-- what stands in front of a place stands there
+pub front_at : {A : Type 0} (k : ℕ) (xs : List A) (j : ℕ) (x : A) → slice_get (take k xs) j ≡ Some x → (j < k) × (slice_get xs j ≡ Some x)
+front_at zero xs j x h = absurd (cc)
+front_at (suc k) [] j x h = absurd (cc)
+front_at (suc k) (y ∷ xs) zero x h = (omega arith, h)
+front_at (suc k) (y ∷ xs) (suc j) x h = let later = front_at k xs j x h in (omega (arith, later.0), later.1)
+
+module _ {A : Type 0} (P : ℕ → A → A → Type 0) where
+  -- what is in front of the place that was reached
+  pub front_many : (k : ℕ) (old cur : List A) → IsDone P k old cur → length (take k cur) ≡ length (take k old)
+  front_many k old cur h = length-take k cur ∙ ap (λ (n : ℕ). min k n) h.many ∙ sym (length-take k old)
+
+  pub front_done : (k : ℕ) (old cur : List A) → IsDone P k old cur → (place : ℕ) (one other : A) → slice_get (take k old) place ≡ Some one → slice_get (take k cur) place ≡ Some other → P place one other
+  front_done k old cur h place one other was is =
+      let before = front_at k old place one was in
+      let after = front_at k cur place other is in
+      h.done place one other before.0 before.1 after.1
 
 -- What is left of the front of a list once its last item was taken.
 pub record IsPopped {A : Type 0} (all rest : List A) (x : A) : Type 0 where

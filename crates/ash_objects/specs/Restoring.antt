@@ -1,5 +1,5 @@
 -- A table from what a state holds.
-use Rattle.std.specs.Prelude.{◌≡◌, ℕ, ◌≤◌, true, false, List, [], ◌∷◌, length, map, Option, None, Some, IsSome, IfSome, slice_get, nat_eq}
+use Rattle.std.specs.Prelude.{◌≡◌, ℕ, ◌≤◌, true, false, List, [], ◌∷◌, length, map, Option, None, Some, IsSome, IfSome, slice_get, nat_eq, take}
 use Rattle.std.specs.Option.{option_map, option_and_then}
 use Rattle.std.specs.List.{remove, position}
 use Rattle.std.specs.declared.vec.Vec.{Vec}
@@ -105,15 +105,44 @@ module _ {B : Type 0} where
     pub many : length after ≡ length before
     pub each : (place : ℕ) (one other : B) (bytes : List ℕ) → slice_get before place ≡ Some one → slice_get after place ≡ Some other → slice_get states place ≡ Some bytes → BroughtBack G one bytes other
 
-  -- what was refused: the state of a service, or that of the host object of a number by the box that it took
-  pub data IsRefused (G : Ghosts B) (objects : List Stored) (states : List (List ℕ)) (pool services : List B) : ℕ → Type 0 where
-    Service : (place : ℕ) (service : B) (bytes : List ℕ) → slice_get services place ≡ Some service → slice_get states place ≡ Some bytes → G.refuses service bytes → IsRefused G objects states pool services 0
-    Object : (place : ℕ) (object : Stored) (boxes : List (Option B)) (left : List B) (box : B) → draw_boxes G objects pool ≡ Enough boxes left → slice_get objects place ≡ Some object → slice_get boxes place ≡ Some (Some box) → G.refuses box (bytes_of object.body) → IsRefused G objects states pool services object.number
-
-  -- the same step by step: what became of what an object took
+  -- what became of what an object took
   abbrev pub IsBack : Ghosts B → Body Saved → Option B → Option B → Type 0
   IsBack G body None after = after ≡ None
   IsBack G body (Some before) after = (box : B) × (after ≡ Some box) × BroughtBack G before (bytes_of body) box
+
+  -- what objects took, each box with the state that its object had
+  pub record AreBoxesBack (G : Ghosts B) (objects : List Stored) (before after : List (Option B)) : Type 0 where
+    pub many : length after ≡ length before
+    pub each : (place : ℕ) (object : Stored) (one other : Option B) → slice_get objects place ≡ Some object → slice_get before place ≡ Some one → slice_get after place ≡ Some other → IsBack G object.body one other
+
+  -- The service at a place refused its state, and those before it took theirs.
+  pub record ServiceRefused (G : Ghosts B) (services : List B) (states : List (List ℕ)) : Type 0 where
+    pub place : ℕ
+    pub service : B
+    pub bytes : List ℕ
+    pub back : List B
+    pub there : slice_get services place ≡ Some service
+    pub state : slice_get states place ≡ Some bytes
+    pub before : AreBack G (take place services) states back
+    pub refused : G.refuses service bytes
+
+  -- The box that the object of a number took refused the object's state, and those before it took theirs.
+  pub record BoxRefused (G : Ghosts B) (objects : List Stored) (boxes : List (Option B)) (number : ℕ) : Type 0 where
+    pub place : ℕ
+    pub object : Stored
+    pub box : B
+    pub back : List (Option B)
+    pub there : slice_get objects place ≡ Some object
+    pub named : object.number ≡ number
+    pub took : slice_get boxes place ≡ Some (Some box)
+    pub before : AreBoxesBack G objects (take place boxes) back
+    pub refused : G.refuses box (bytes_of object.body)
+
+  -- What was refused, once the pool was long enough: the state of the first service that refused; or, where all services
+  -- took theirs, the state of the first host object, by number, whose box refused.
+  pub data IsRefused (G : Ghosts B) (objects : List Stored) (states : List (List ℕ)) (pool services : List B) : ℕ → Type 0 where
+    Service : (boxes : List (Option B)) (left : List B) → draw_boxes G objects pool ≡ Enough boxes left → ServiceRefused G services states → IsRefused G objects states pool services 0
+    Object : (number : ℕ) (boxes : List (Option B)) (left back : List B) → draw_boxes G objects pool ≡ Enough boxes left → AreBack G services states back → BoxRefused G objects boxes number → IsRefused G objects states pool services number
 
   -- an object with what it took in place of its kind and state; nothing where it took nothing and had to
   abbrev pub with_taken : Body Saved → Option B → Option (Body B)

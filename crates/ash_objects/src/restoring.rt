@@ -6,7 +6,7 @@ ghost use Rattle.ash_slots.specs.Counting.{counted};
 ghost use Rattle.ash_objects.specs.declared.restoring.TableFault.{TableFault};
 ghost use Rattle.ash_objects.specs.declared.restoring.Stored.{Stored};
 ghost use Rattle.ash_objects.specs.Counting.{words_at, AllLive};
-ghost use Rattle.ash_objects.specs.Restoring.{stored_in, states_in, kind_wanted, bytes_of, Drawn, Enough, Short, draw_then, draw_boxes, with_box_first, BroughtBack, IsBack, AreBack, IsRefused, IsRestored, with_taken, AreFit, ArePut, refer_objects};
+ghost use Rattle.ash_objects.specs.Restoring.{stored_in, states_in, kind_wanted, bytes_of, Drawn, Enough, Short, draw_then, draw_boxes, with_box_first, BroughtBack, IsBack, AreBack, AreBoxesBack, ServiceRefused, BoxRefused, IsRefused, IsRestored, with_taken, AreFit, ArePut, refer_objects};
 
 use crate::counting::refer_words;
 use crate::making::place_of_kind;
@@ -116,8 +116,7 @@ fn restore_services<B: HostObject>(
     requires { length states.now ≡ vec_len services.old }
     ensures back { OnOk result (AreBack B.HostObject services.old.items (states_in states.now) services.new.items) }
     ensures refused { (number : ℕ) → IsErrOf result (TableFault.RestoreRefused number) → (number ≡ 0)
-        × ((place : ℕ) × (service : B) × (bytes : List ℕ) × (slice_get services.old.items place ≡ Some service)
-        × (slice_get (states_in states.now) place ≡ Some bytes) × B.refuses service bytes) }
+        × ServiceRefused B.HostObject services.old.items (states_in states.now) }
     ensures enough { (kind : ℕ) → IsErrOf result (TableFault.PoolShort kind) → ⊥ }
 {
     for place in 0..states.len() {
@@ -145,13 +144,9 @@ fn restore_boxes<B: HostObject>(
     boxes: &mut Vec<Option<B>>,
 ) -> Result<(), TableFault>
     requires { length objects.now ≡ vec_len boxes.old }
-    ensures many { vec_len boxes.new ≡ vec_len boxes.old }
-    ensures back { OnOk result ((place : ℕ) (object : Stored) (one other : Option B) → slice_get objects.now place ≡ Some object
-        → slice_get boxes.old.items place ≡ Some one → slice_get boxes.new.items place ≡ Some other
-        → IsBack B.HostObject object.body one other) }
-    ensures refused { (number : ℕ) → IsErrOf result (TableFault.RestoreRefused number) → (place : ℕ) × (object : Stored) × (box : B)
-        × (slice_get objects.now place ≡ Some object) × (object.number ≡ number)
-        × (slice_get boxes.old.items place ≡ Some (Some box)) × B.refuses box (bytes_of object.body) }
+    ensures back { OnOk result (AreBoxesBack B.HostObject objects.now boxes.old.items boxes.new.items) }
+    ensures refused { (number : ℕ) → IsErrOf result (TableFault.RestoreRefused number)
+        → BoxRefused B.HostObject objects.now boxes.old.items number }
     ensures enough { (kind : ℕ) → IsErrOf result (TableFault.PoolShort kind) → ⊥ }
 {
     for place in 0..objects.len() {

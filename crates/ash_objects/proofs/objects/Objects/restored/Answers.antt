@@ -5,8 +5,8 @@ use Rattle.ash_host.specs.Objects.{numbers, Lives}
 use Rattle.ash_objects.specs.declared.restoring.TableFault.{TableFault}
 use Rattle.ash_objects.specs.declared.restoring.Stored.{Stored}
 use Rattle.ash_objects.specs.Counting.{words_at, AllLive}
-use Rattle.ash_objects.specs.Restoring.{stored_in, states_in, Enough, draw_boxes, IsRefused, Service, Object}
-use Rattle.ash_objects.proofs.Drawing.{fit_drawn, fit_length, fit_back, AllBack}
+use Rattle.ash_objects.specs.Restoring.{stored_in, states_in, Enough, draw_boxes, AreBoxesBack, BoxRefused, IsRefused, Service, Object}
+use Rattle.ash_objects.proofs.Drawing.{fit_drawn, fit_length, fit_back}
 use Rattle.ash_objects.proofs.Putting.{put_numbers}
 use Rattle.ash_objects.proofs.Stocking.{stock_there, stock_uncounted, stock_table}
 use Rattle.ash_objects.proofs.Restored.{is_restored}
@@ -14,10 +14,14 @@ use Rattle.ash_objects.proofs.objects.Objects.restored.Goals as goal
 
 pub returns-in_err-restore_services-clause-refused : goal.returns-in_err-restore_services-clause-refused
 returns-in_err-restore_services-clause-refused g c = λ number is.
+    let pool = c.args.pool.items in
+    let left = c.take_boxes.new.pool.items in
+    let before = c.in_ok-boxes.boxes.items in
+    let drawn : draw_boxes g.B.HostObject c.args.objects.items pool ≡ Enough before left = rw c.deref.ensures.value at c.in_ok-boxes.ensures.enough in
     let p = err_from_is_err_and c.from_residual-in_err-restore_services.result c.from_residual-in_err-restore_services.ensures.1 in
     let told : c.in_err-restore_services.field-0.0 ≡ TableFault.RestoreRefused number = cc in
     let r = c.in_err-restore_services.ensures.refused number (ap Err told) in
-    subst (λ (n : ℕ). IsRefused g.B.HostObject c.args.objects.items (states_in c.args.states.now) c.args.pool.items c.args.services.items n) (sym r.0) (Service r.1.0 r.1.1 r.1.2 r.1.3 r.1.4 r.1.5)
+    subst (λ (n : ℕ). IsRefused g.B.HostObject c.args.objects.items (states_in c.args.states.now) c.args.pool.items c.args.services.items n) (sym r.0) (Service before left drawn r.1)
 
 pub restore_boxes-requires : goal.restore_boxes-requires
 restore_boxes-requires g c =
@@ -42,8 +46,7 @@ returns-in_err-restore_boxes-clause-refused g c = λ number is.
     let p = err_from_is_err_and c.from_residual-in_err-restore_boxes.result c.from_residual-in_err-restore_boxes.ensures.1 in
     let told : c.in_err-restore_boxes.field-0.0 ≡ TableFault.RestoreRefused number = cc in
     let r = c.in_err-restore_boxes.ensures.refused number (ap Err told) in
-    let there = subst (λ (os : List Stored). slice_get os r.0 ≡ Some r.1) c.deref-2.ensures.value r.3 in
-    subst (λ (n : ℕ). IsRefused G objects (states_in c.args.states.now) pool c.args.services.items n) r.4 (Object r.0 r.1 before left r.2 drawn there r.5 r.6)
+    Object number before left c.restore_services.new.services.items drawn c.in_ok-restore_services.ensures.back (subst (λ (os : List Stored). BoxRefused G os before number) c.deref-2.ensures.value r)
 
 pub put_objects-requires-clause-fit : goal.put_objects-requires-clause-fit
 put_objects-requires-clause-fit g c =
@@ -54,9 +57,8 @@ put_objects-requires-clause-fit g c =
     let before = c.in_ok-boxes.boxes.items in
     let drawn : draw_boxes G objects pool ≡ Enough before left = rw c.deref.ensures.value at c.in_ok-boxes.ensures.enough in
     let after = c.restore_boxes.new.boxes.items in
-    let many : length after ≡ length before = omega (arith, c.in_ok-restore_boxes.ensures.many, c.in_ok-boxes.boxes.ok.0, c.restore_boxes.new.boxes.ok.0) in
-    let back : AllBack G objects before after = subst (λ (os : List Stored). AllBack G os before after) c.deref-2.ensures.value c.in_ok-restore_boxes.ensures.back in
-    fit_back G objects before after (fit_drawn G objects pool before left drawn) many back
+    let back : AreBoxesBack G objects before after = subst (λ (os : List Stored). AreBoxesBack G os before after) c.deref-2.ensures.value c.in_ok-restore_boxes.ensures.back in
+    fit_back G objects before after (fit_drawn G objects pool before left drawn) back
 
 pub refer_from-requires-clause-there : goal.refer_from-requires-clause-there
 refer_from-requires-clause-there g c =
@@ -95,6 +97,6 @@ returns-clause-objects g c =
     let after = c.restore_boxes.new.boxes.items in
     let l = c.put_objects.new.store.objects in
     let few : length objects ≤ 4096 = omega (arith, c.requires.few, c.args.objects.ok.0) in
-    let back : AllBack G objects before after = subst (λ (os : List Stored). AllBack G os before after) c.deref-2.ensures.value c.in_ok-restore_boxes.ensures.back in
+    let back : AreBoxesBack G objects before after = subst (λ (os : List Stored). AreBoxesBack G os before after) c.deref-2.ensures.value c.in_ok-restore_boxes.ensures.back in
     let all : c.deref-4.result.now ≡ numbers l = c.deref-4.ensures.value ∙ c.in_ok-list.ensures.numbers ∙ ap (λ (os : List Stored). numbers (stored_in os)) c.deref-3.ensures.value ∙ sym (put_numbers objects after l c.in_ok-put_objects.ensures.put) in
     rw (c.refer_from.ensures, all) (is_restored G objects pool left before after l c.args.last drawn back c.in_ok-put_objects.ensures.put c.requires.numbered few c.requires.short c.requires.alive c.restore_services.new.services.items c.new.result.items)

@@ -1,0 +1,60 @@
+use Rattle.std.proofs.Common.{◌≡◌, ◌<◌, ◌∙◌, Option, Some, Err, sym, ap, arith, length, take, subst}
+use Rattle.std.specs.Prelude.{slice_get}
+use Rattle.std.proofs.lemmas.Result.{err_from_is_err_and}
+use Rattle.ash_objects.specs.declared.restoring.Stored.{Stored}
+use Rattle.ash_objects.specs.declared.restoring.TableFault.{TableFault}
+use Rattle.ash_objects.specs.Restoring.{IsBack, bytes_of}
+use Rattle.ash_objects.proofs.Newcomers.{got}
+use Rattle.ash_objects.proofs.Pointwise.{done_more, done_all, front_many, front_done}
+use Rattle.ash_objects.proofs.restoring.restore_boxes.Goals as goal
+
+pub loop-place-preserved : goal.loop-place-preserved
+loop-place-preserved g c =
+    let k = c.loop-place.place in
+    let objects = c.args.objects.now in
+    let cur = c.loop-place.boxes.items in
+    let one = c.index_mut.result.now in
+    let object = c.index-objects-place.result in
+    let within : k < length cur = omega (arith, c.requires, c.loop-place-test.true, c.loop-place.invariant.done.many, c.args.boxes.now.ok.0) in
+    record {
+      done = done_more (λ place one other. (object : Stored) → slice_get objects place ≡ Some object → IsBack g.B.HostObject object.body one other) k c.args.boxes.now.items cur one c.restore_box.new.taken c.loop-place.invariant.done (got cur k one within c.index_mut.ensures.value)
+          (λ other there.
+          let here : Some object ≡ Some other = sym (got objects k object c.loop-place-test.true c.index-objects-place.is) ∙ there in
+          let same : object ≡ other = cc in
+          subst (λ (o : Stored). IsBack g.B.HostObject o.body one c.restore_box.new.taken) same c.in_ok-restore_box.ensures.back);
+    }
+
+pub returns-in_err-restore_box-clause-refused : goal.returns-in_err-restore_box-clause-refused
+returns-in_err-restore_box-clause-refused g c = λ number is.
+    let k = c.loop-place.place in
+    let G = g.B.HostObject in
+    let objects = c.args.objects.now in
+    let old = c.args.boxes.now.items in
+    let cur = c.loop-place.boxes.items in
+    let h = c.loop-place.invariant.done in
+    let one = c.index_mut.result.now in
+    let object = c.index-objects-place.result in
+    let within : k < length cur = omega (arith, c.requires, c.loop-place-test.true, h.many, c.args.boxes.now.ok.0) in
+    let p = err_from_is_err_and c.from_residual.result c.from_residual.ensures.1 in
+    let told : c.in_err-restore_box.field-0.0 ≡ TableFault.RestoreRefused number = cc in
+    let r = c.in_err-restore_box.ensures.refused number (ap Err told) in
+    record {
+      place = k;
+      object = object;
+      box = r.1.0;
+      back = take k cur;
+      there = got objects k object c.loop-place-test.true c.index-objects-place.is;
+      named = sym r.0;
+      took = sym (h.rest k (omega arith)) ∙ got cur k one within c.index_mut.ensures.value ∙ ap Some r.1.1;
+      before = record {
+        many = front_many (λ place one other. (object : Stored) → slice_get objects place ≡ Some object → IsBack G object.body one other) k old cur h;
+        each = λ place object one other at was is. front_done (λ place one other. (object : Stored) → slice_get objects place ≡ Some object → IsBack G object.body one other) k old cur h place one other was is object at;
+      };
+      refused = r.1.2;
+    }
+
+pub returns-clause-back : goal.returns-clause-back
+returns-clause-back g c = record {
+  many = c.loop-place.invariant.done.many;
+  each = λ place object one other at was is. done_all (λ place one other. (object : Stored) → slice_get c.args.objects.now place ≡ Some object → IsBack g.B.HostObject object.body one other) c.loop-place.place c.args.boxes.now.items c.loop-place.boxes.items c.loop-place.invariant.done (omega (arith, c.requires, c.loop-place-test.false, c.args.boxes.now.ok.0)) place one other was is object at;
+}
