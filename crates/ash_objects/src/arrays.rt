@@ -1,6 +1,7 @@
 //! Calls of arrays.
 ghost use Rattle.std.specs.Prelude.{◌≡◌, ◌<◌, ◌≤◌, ◌-◌, ◌++◌, ◌∷◌, ◌↔◌, ℕ, [], take, length, slice_get, Some, IsSome, IfSome, OnOk, OnErr, IsErrOf};
 ghost use Rattle.ash_objects.specs.declared.arrays.LengthFault.{LengthFault};
+ghost use Rattle.ash_host.specs.Objects.{IsInOrder};
 ghost use Rattle.ash_objects.specs.Table.{slot_of, IsAlive, with_object, with_field};
 ghost use Rattle.ash_objects.specs.Arrays.{elements_at, array_at, with_elements};
 ghost use Rattle.ash_slots.specs.Arrays.{lengthened};
@@ -129,8 +130,10 @@ impl<B> Objects<B> {
             → IfSome (array_at number self.old) (λ array. self.new
             ≡ with_object number (with_elements (lengthened len array)) self.old)) }
         ensures unchanged { OnErr result (self.new ≡ self.old) }
+        ensures in_order { IsInOrder self.old.objects }
     {
-        grow_elements(&mut self.store, slot, len)
+        grow_elements(&mut self.store, slot, len)?;
+        Ok(())
     }
 
     // Cuts the elements of the array in a slot off from a length on, and gives up what they hold.
@@ -197,8 +200,8 @@ impl<B> Objects<B> {
     pub fn insert_last_at(&mut self, slot: usize, word: Word) -> Result<(), LengthFault>
         requires array { (number : ℕ) × (slot_of number self.old ≡ Some slot) × IsSome (array_at number self.old) }
         requires alive { IsAlive word self.old }
-        ensures long { (number : ℕ) → slot_of number self.old ≡ Some slot → IsErrOf result LengthFault.TooLong
-            ↔ IfSome (array_at number self.old) (λ array. 4096 ≤ length array.elements) }
+        ensures long { (number : ℕ) → slot_of number self.old ≡ Some slot → IfSome (array_at number self.old)
+            (λ array. IsErrOf result LengthFault.TooLong ↔ (4096 ≤ length array.elements)) }
         ensures inserted { OnOk result ((number : ℕ) → slot_of number self.old ≡ Some slot
             → IfSome (array_at number self.old) (λ array. self.new
             ≡ with_object number (with_elements (array.elements ++ word ∷ [])) self.old)) }

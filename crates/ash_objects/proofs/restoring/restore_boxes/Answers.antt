@@ -1,9 +1,9 @@
-use Rattle.std.proofs.Common.{◌≡◌, ◌<◌, ◌∙◌, Option, Some, Err, sym, ap, arith, length, take, subst}
+use Rattle.std.proofs.Common.{◌≡◌, ◌<◌, ◌∙◌, Some, Err, sym, ap, arith, length, take, subst}
 use Rattle.std.specs.Prelude.{slice_get}
 use Rattle.std.proofs.lemmas.Result.{err_from_is_err_and}
 use Rattle.ash_objects.specs.declared.restoring.Stored.{Stored}
 use Rattle.ash_objects.specs.declared.restoring.TableFault.{TableFault}
-use Rattle.ash_objects.specs.Restoring.{IsBack, bytes_of}
+use Rattle.ash_objects.specs.Restoring.{IsBack}
 use Rattle.ash_objects.proofs.Newcomers.{got}
 use Rattle.ash_objects.proofs.Pointwise.{done_more, done_all, front_many, front_done}
 use Rattle.ash_objects.proofs.restoring.restore_boxes.Goals as goal

@@ -1,7 +1,6 @@
-use Rattle.std.proofs.Common.{◌≡◌, sym, subst, ap, ◌∙◌, Option, Some, None, List}
+use Rattle.std.proofs.Common.{sym, subst, ap, ◌∙◌, Option, Some, List}
 use Rattle.std.specs.Prelude.{IsSome}
 use Rattle.ash_host.specs.declared.word.Word.{Word}
-use Rattle.ash_slots.specs.declared.body.Body.{Body}
 use Rattle.ash_objects.specs.Arrays.{elements_of}
 use Rattle.ash_objects.proofs.Views.{in_view}
 use Rattle.ash_objects.proofs.Refilling.{elements_view}
@@ -35,4 +34,4 @@ returns g c = λ number is.
     let l = c.self.inside.store.objects in
     let here = in_view number c.args.slot l (rw (← c.self.view_is) at is) in
     let same = elements_view number l c.item.result.now (c.item.ensures number here) ∙ ap elements_of c.in-Array.is in
-    rw (← c.self.view_is) same
+    rw (← c.self.view_is) (same ∙ ap Some (sym c.as_slice.ensures))

@@ -1,12 +1,12 @@
-use Rattle.std.proofs.Common.{◌≡◌, ◌++◌, ◌∷◌, [], List, Option, Some, sym, subst, ap, ◌∙◌}
+use Rattle.std.proofs.Common.{◌≡◌, ◌++◌, ◌∷◌, [], List, Some, refl, sym, subst, ap, ◌∙◌}
 use Rattle.std.specs.Prelude.{IsSome, IfSome}
 use Rattle.ash_host.specs.declared.word.Word.{Word}
-use Rattle.ash_host.specs.Objects.{IsInOrder, Lives, handle}
+use Rattle.ash_host.specs.Objects.{Lives, handle}
 use Rattle.ash_slots.specs.Bodies.{initial_of}
 use Rattle.ash_slots.proofs.Options.{some_of, some_if}
 use Rattle.ash_objects.specs.Arrays.{array_at, with_elements}
 use Rattle.ash_objects.specs.Table.{Table, with_object, with_field, slot_of, field_of}
-use Rattle.ash_objects.proofs.Refilling.{each_some, elements_array, order_view, one_longer, field_there, slot_there, alive_there, written_there}
+use Rattle.ash_objects.proofs.Refilling.{each_some, elements_array, one_longer, field_there, slot_there, alive_there, written_there}
 use Rattle.ash_objects.proofs.objects.Objects.insert_last_at.Goals as goal
 
 pub length_at-last-requires : goal.length_at-last-requires
@@ -19,7 +19,7 @@ pub set_field_at-requires-clause-there : goal.set_field_at-requires-clause-there
 set_field_at-requires-clause-there g c =
     let n = c.requires.array.0 in
     let t = c.args.self.now in
-    let o = subst (λ (t : Table _). IsInOrder t.objects) c.self.view_is (order_view c.self.inside.store.objects c.self.invariant.in_order) in
+    let o = c.lengthen.ensures.in_order in
     let a = some_of (array_at n t) c.requires.array.2 in
     let count = some_if _ _ _ (elements_array n t a.0 a.1) (c.length_at-last.ensures n c.requires.array.1) in
     let first = initial_of (a.0).element in
@@ -36,7 +36,7 @@ pub set_field_at-requires-clause-alive : goal.set_field_at-requires-clause-alive
 set_field_at-requires-clause-alive g c =
     let n = c.requires.array.0 in
     let t = c.args.self.now in
-    let o = subst (λ (t : Table _). IsInOrder t.objects) c.self.view_is (order_view c.self.inside.store.objects c.self.invariant.in_order) in
+    let o = c.lengthen.ensures.in_order in
     let a = some_of (array_at n t) c.requires.array.2 in
     let count = some_if _ _ _ (elements_array n t a.0 a.1) (c.length_at-last.ensures n c.requires.array.1) in
     let first = initial_of (a.0).element in
@@ -48,7 +48,7 @@ pub returns-clause-inserted : goal.returns-clause-inserted
 returns-clause-inserted g c = λ n is.
     each_some _ _ (λ array there.
     let t = c.args.self.now in
-    let o = subst (λ (t : Table _). IsInOrder t.objects) c.self.view_is (order_view c.self.inside.store.objects c.self.invariant.in_order) in
+    let o = c.lengthen.ensures.in_order in
     let count = some_if _ _ _ (elements_array n t array there) (c.length_at-last.ensures n is) in
     let first = initial_of array.element in
     let grown : c.lengthen.new.self ≡ with_object n (with_elements (array.elements ++ first ∷ [])) t =

@@ -1,8 +1,10 @@
 use Rattle.std.proofs.Common.{refl, sym, subst, ◌∙◌}
 use Rattle.std.specs.Prelude.{IsSome}
+use Rattle.ash_host.specs.Objects.{IsInOrder}
 use Rattle.ash_slots.proofs.Options.{some_if}
+use Rattle.ash_objects.specs.Table.{Table}
 use Rattle.ash_objects.proofs.Views.{in_view}
-use Rattle.ash_objects.proofs.Refilling.{each_some, found_array, array_view, view_longer, table_longer}
+use Rattle.ash_objects.proofs.Refilling.{each_some, order_view, found_array, array_view, view_longer, table_longer}
 use Rattle.ash_objects.proofs.objects.Objects.lengthen.Goals as goal
 
 pub grow_elements-requires : goal.grow_elements-requires
@@ -30,3 +32,9 @@ returns-clause-lengthened g c = λ n is.
     let a = sym (array_view n l) ∙ there in
     let all = some_if _ _ array a (c.in_ok-grow_elements.ensures.grown n (in_view n c.args.slot l at)) in
     rw (all, view_longer n c.args.len array l _ _ c.self.invariant a c.requires.short) refl))
+
+pub returns-clause-in_order : goal.returns-clause-in_order
+returns-clause-in_order g c = subst (λ (t : Table _). IsInOrder t.objects) c.self.view_is (order_view c.self.inside.store.objects c.self.invariant.in_order)
+
+pub returns-in_err-grow_elements-clause-in_order : goal.returns-in_err-grow_elements-clause-in_order
+returns-in_err-grow_elements-clause-in_order g c = subst (λ (t : Table _). IsInOrder t.objects) c.self.view_is (order_view c.self.inside.store.objects c.self.invariant.in_order)
