@@ -7,14 +7,14 @@ checks() {
     asks ''
     ends "a check of $3" "$1" "" check "$scratch/script"
     printf '%s\n' "$2" | cmp -s - "$scratch/output"
-    verdict "what a check of $3 prints" $?
+    verdict $? "what a check of $3 prints"
     printf 'load m %s\n' "$(wc -c < "$scratch/script")" > "$scratch/input"
     cat "$scratch/script" >> "$scratch/input"
     printf '\n' >> "$scratch/input"
     ends "a load of $3" 0 "" try --budget 1000 --counters 0
     case $2/$(cat "$scratch/output") in
-        "ok/ok seq 1" | "ok/refused 199 NotYet" | "$2/$2") verdict "the reply to a load of $3" 0 ;;
-        *) verdict "the reply to a load of $3: $(cat "$scratch/output")" 1 ;;
+        "ok/ok seq 1" | "ok/refused 199 NotYet" | "$2/$2") verdict 0 "the reply to a load of $3" ;;
+        *) verdict 1 "the reply to a load of $3: $(cat "$scratch/output")" ;;
     esac
 }
 
@@ -74,4 +74,4 @@ ends "check of a file without an end" 1 "" check /dev/zero
 holds "a file without an end is too long" "refused 107 SourceTooLong"
 "$ashd" check /dev/null > /dev/full 2> "$scratch/error"
 [ $? -eq 1 ] && [ "$(cat "$scratch/error")" = "ashd: 606 Write" ]
-verdict "check whose line can't be written" $?
+verdict $? "check whose line can't be written"

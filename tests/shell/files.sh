@@ -11,7 +11,7 @@ cp "$store/ash.a" "$scratch/half"
 ends "serve where the second file is missing" 1 "ashd: 507 DeviceFailed" serve "$scratch/half" --budget 1 --counters 0
 ends "create where the second file is missing" 1 "ashd: 502 AlreadyThere" create "$scratch/half"
 cmp -s "$store/ash.a" "$scratch/half/ash.a"
-verdict "that create changes nothing" $?
+verdict $? "that create changes nothing"
 keep "$store" "$scratch/damaged"
 put '\002' 8 "$scratch/damaged/ash.a"
 ends "serve a damaged store" 1 "ashd: 503 Damaged" serve "$scratch/damaged" --budget 1 --counters 0
@@ -21,7 +21,7 @@ ends "create on a full disk" 1 "ashd: 507 DeviceFailed" create "$scratch/full"
 rm "$scratch/full/ash.a"
 "$ashd" create "$scratch/full" > /dev/full 2> "$scratch/error"
 [ $? -eq 1 ] && [ "$(cat "$scratch/error")" = "ashd: 606 Write" ]
-verdict "create whose word can't be written" $?
+verdict $? "create whose word can't be written"
 same "the store that it made" "$scratch/full" "$scratch/empty"
 
 # A record that is cut is damage; a gate that is closed ends the records, whatever follows.
@@ -53,10 +53,10 @@ keep "$store" "$scratch/small"
 printf 'call m f 1\nget m n\nsnapshot\nseq\n' > "$scratch/input"
 limited serve "$scratch/small" --budget 1000 --counters 2 < "$scratch/input" > "$scratch/output" 2> "$scratch/error"
 [ $? -eq 0 ]
-verdict "serve on a disk that gets full: $(cat "$scratch/error")" $?
+verdict $? "serve on a disk that gets full: $(cat "$scratch/error")"
 holds "a request on a disk that is full" $'refused 507 DeviceFailed\nrefused 508 Reopen\nrefused 508 Reopen\nok 2'
 [ "$(wc -c < "$scratch/small/ash.a")" -eq 1024 ]
-verdict "a part of the record is written" $?
+verdict $? "a part of the record is written"
 asks 'get m n\nseq\ncall m f 1\n'
 ends "serve once there is room" 0 "" serve "$scratch/small" --budget 1000 --counters 2
 holds "what is found once there is room" $'ok 7\nok 2\nok 8 seq 3'

@@ -9,7 +9,7 @@ exec {replies}<&"${killed[0]}" {requests}>&"${killed[1]}"
 printf 'call m f 3\n' >&"$requests"
 read -r -t 10 called <&"$replies"
 [ "$called" = "ok 10 seq 3" ]
-verdict "a reply before the kill: $called" $?
+verdict $? "a reply before the kill: $called"
 keep "$store" "$scratch/before"
 asks ''
 ends "serve a store that is served" 1 "ashd: 507 DeviceFailed" serve "$store" --budget 1000 --counters 0
@@ -19,7 +19,7 @@ printf 'call m f 4' >&"$requests"
 kill -KILL "$killed_id"
 { wait "$killed_id"; } 2> /dev/null
 [ $? -eq 137 ]
-verdict "a process that was killed" $?
+verdict $? "a process that was killed"
 exec {replies}<&- {requests}>&-
 asks 'get m n\nseq\ncall m f 1\n'
 ends "serve after a kill" 0 "" serve "$store" --budget 1000 --counters 2
@@ -65,11 +65,11 @@ snapshot" 2> /dev/null | "$ashd" serve "$many" --budget 1000 --counters 2 > "$sc
     number=${found#ok }
     number=${number%% *}
     [ "$found" = "ok $number ok $((number + 5)) " ] && [ "$number" -ge "$last" ] && [ "$number" -le $((last + 1)) ]
-    verdict "kill $round, after the answer $last: $found" $?
+    verdict $? "kill $round, after the answer $last: $found"
     [ "$failed" -eq 0 ] || break
 done
 [ "$number" -gt 150 ]
-verdict "requests between kills: $number" $?
+verdict $? "requests between kills: $number"
 
 # The same for the making of a store: it is there, or it can be made.
 empty_store "$scratch/empty"

@@ -4,13 +4,14 @@ ashd=${ASHD:-$top/crates/ashd/out/ashd}
 passed=0
 failed=0
 
-# verdict NAME STATUS: counts a test, by the status of the command before
+# verdict STATUS NAME: counts a test. The status stands first, since a $? behind a name with $(..) in it would be that of
+# the command in there.
 verdict() {
-    if [ "$2" -eq 0 ]; then
+    if [ "$1" -eq 0 ]; then
         passed=$((passed + 1))
     else
         failed=$((failed + 1))
-        echo "failed: $subject: $1"
+        echo "failed: $subject: $2"
     fi
 }
 
@@ -26,19 +27,19 @@ ends() {
     "$ashd" "$@" < "$scratch/input" > "$scratch/output" 2> "$scratch/error"
     local was=$?
     [ "$was" -eq "$status" ] && [ "$(cat "$scratch/error")" = "$error" ]
-    verdict "$name (status $was, $(cat "$scratch/error"))" $?
+    verdict $? "$name (status $was, $(cat "$scratch/error"))"
 }
 
 # holds NAME TEXT: the output of the last run was this
 holds() {
     [ "$(cat "$scratch/output")" = "$2" ]
-    verdict "$1: $(head -c 300 "$scratch/output")" $?
+    verdict $? "$1: $(head -c 300 "$scratch/output")"
 }
 
 # same NAME FOLDER FOLDER: the same two files, byte for byte
 same() {
     cmp -s "$2/ash.a" "$3/ash.a" && cmp -s "$2/ash.b" "$3/ash.b"
-    verdict "$1" $?
+    verdict $? "$1"
 }
 
 # keep STORE FOLDER: a copy of a store's two files in a folder
@@ -97,5 +98,5 @@ used_store() {
     empty_store "$1"
     "$ashd" serve "$1" --budget 1000 --counters 2 < examples/first.requests > "$scratch/used" 2> "$scratch/error"
     cmp -s "$scratch/used" examples/first.replies
-    verdict "the first example over the store $(basename "$1")" $?
+    verdict $? "the first example over the store $(basename "$1")"
 }

@@ -3,7 +3,7 @@
 empty_store "$scratch/empty"
 mkdir "$scratch/other"
 cc -shared -fPIC -o "$scratch/refuse_memory.so" tests/refuse_memory.c -ldl
-verdict "the library that refuses memory" $?
+verdict $? "the library that refuses memory"
 
 # refused NUMBER WORD..: sets $end to how ashd ends on these words where the allocation of this number is refused
 refused() {
@@ -21,16 +21,16 @@ untouched=1
 for number in $(seq 1 1000); do
     refused "$number" try --budget 1000 --counters 2
     case $end in
-        "1/ashd: 509 NoMemory/" | "1/ashd: 507 DeviceFailed/") verdict "allocation $number refused, before the run" 0 ;;
-        "0//refused 509 NoMemory;refused 401 NoModule;refused 401 NoModule;ok;") verdict "allocation $number refused, in the load" 0 ;;
-        "0//refused 50"[79]" "*";refused 508 Reopen;refused 508 Reopen;ok;") verdict "allocation $number refused, in the load's commit" 0 ;;
-        "0//ok seq 1;refused 509 NoMemory;ok 2;ok;") verdict "allocation $number refused, in the call" 0 ;;
-        "0//ok seq 1;refused 50"[79]" "*";refused 508 Reopen;ok;") verdict "allocation $number refused, in the call's commit" 0 ;;
+        "1/ashd: 509 NoMemory/" | "1/ashd: 507 DeviceFailed/") verdict 0 "allocation $number refused, before the run" ;;
+        "0//refused 509 NoMemory;refused 401 NoModule;refused 401 NoModule;ok;") verdict 0 "allocation $number refused, in the load" ;;
+        "0//refused 50"[79]" "*";refused 508 Reopen;refused 508 Reopen;ok;") verdict 0 "allocation $number refused, in the load's commit" ;;
+        "0//ok seq 1;refused 509 NoMemory;ok 2;ok;") verdict 0 "allocation $number refused, in the call" ;;
+        "0//ok seq 1;refused 50"[79]" "*";refused 508 Reopen;ok;") verdict 0 "allocation $number refused, in the call's commit" ;;
         "0//ok seq 1;ok 7 seq 2;ok 7;ok;") untouched=0; break ;;
-        *) verdict "allocation $number refused: $end" 1 ;;
+        *) verdict 1 "allocation $number refused: $end" ;;
     esac
 done
-verdict "a run that no refusal meets" $untouched
+verdict $untouched "a run that no refusal meets"
 
 # The making of a store. After a refusal a store can be made, or is there.
 untouched=1
@@ -40,11 +40,11 @@ for number in $(seq 1 1000); do
     case $end in
         "1/ashd: 509 NoMemory/") "$ashd" create "$scratch/other" > /dev/null 2>&1 ;;
         "0//created;") untouched=0; break ;;
-        *) verdict "allocation $number refused in create: $end" 1 ;;
+        *) verdict 1 "allocation $number refused in create: $end" ;;
     esac
     same "the store after allocation $number was refused" "$scratch/other" "$scratch/empty"
 done
-verdict "a create that no refusal meets" $untouched
+verdict $untouched "a create that no refusal meets"
 
 # A check. A script is accepted or refused only where there is memory to say so.
 printf 'class A { B b; } class B { A@ a; }' > "$scratch/script"
@@ -54,10 +54,10 @@ for number in $(seq 1 10000); do
     case $end in
         "1/ashd: 509 NoMemory/") ;;
         "1//refused 309 CyclicType A B;") untouched=0; break ;;
-        *) verdict "allocation $number refused in check: $end" 1 ;;
+        *) verdict 1 "allocation $number refused in check: $end" ;;
     esac
 done
-verdict "a check that no refusal meets" $untouched
+verdict $untouched "a check that no refusal meets"
 
 # A run over a store. Memory that is refused is no failure of a file, and what was answered is found afterwards.
 untouched=1
@@ -71,13 +71,13 @@ for number in $(seq 1 1000); do
         "0//ok seq 1;refused 509 NoMemory;ok 2;ok;") answered=1 ;;
         "0//ok seq 1;refused 509 NoMemory;refused 508 Reopen;ok;") answered=1 ;;
         "0//ok seq 1;ok 7 seq 2;ok 7;ok;") untouched=0; break ;;
-        *) verdict "allocation $number refused in serve: $end" 1; continue ;;
+        *) verdict 1 "allocation $number refused in serve: $end"; continue ;;
     esac
     found=$(printf 'seq\n' | "$ashd" serve "$scratch/other" --budget 1000 --counters 2)
     [ "$found" = "ok $answered" ]
-    verdict "what is found after allocation $number was refused: $found" $?
+    verdict $? "what is found after allocation $number was refused: $found"
 done
-verdict "a run over a store that no refusal meets" $untouched
+verdict $untouched "a run over a store that no refusal meets"
 
 # A discard takes no memory but for its commit.
 asks 'load m 0\n\ndiscard m\nget m n\nseq\nquit\n'
@@ -85,15 +85,15 @@ untouched=1
 for number in $(seq 1 1000); do
     refused "$number" try --budget 1000 --counters 2
     case $end in
-        "1/ashd: 509 NoMemory/" | "1/ashd: 507 DeviceFailed/") verdict "allocation $number refused, before the discard's run" 0 ;;
-        "0//refused 509 NoMemory;refused 401 NoModule;refused 401 NoModule;ok 0;ok;") verdict "allocation $number refused, in the load before a discard" 0 ;;
-        "0//refused 50"[79]" "*";refused 508 Reopen;refused 508 Reopen;ok 0;ok;") verdict "allocation $number refused, in the commit before a discard" 0 ;;
-        "0//ok seq 1;refused 50"[79]" "*";refused 508 Reopen;ok 1;ok;") verdict "allocation $number refused, in the discard's commit" 0 ;;
+        "1/ashd: 509 NoMemory/" | "1/ashd: 507 DeviceFailed/") verdict 0 "allocation $number refused, before the discard's run" ;;
+        "0//refused 509 NoMemory;refused 401 NoModule;refused 401 NoModule;ok 0;ok;") verdict 0 "allocation $number refused, in the load before a discard" ;;
+        "0//refused 50"[79]" "*";refused 508 Reopen;refused 508 Reopen;ok 0;ok;") verdict 0 "allocation $number refused, in the commit before a discard" ;;
+        "0//ok seq 1;refused 50"[79]" "*";refused 508 Reopen;ok 1;ok;") verdict 0 "allocation $number refused, in the discard's commit" ;;
         "0//ok seq 1;ok seq 2;refused 401 NoModule;ok 2;ok;") untouched=0; break ;;
-        *) verdict "allocation $number refused in a discard: $end" 1 ;;
+        *) verdict 1 "allocation $number refused in a discard: $end" ;;
     esac
 done
-verdict "a discard that no refusal meets" $untouched
+verdict $untouched "a discard that no refusal meets"
 
 # Snapshots. One that is refused for want of memory changes nothing, and the next request is carried out; over disks in
 # memory a write of one may fail.
@@ -102,20 +102,20 @@ untouched=1
 for number in $(seq 1 1000); do
     refused "$number" try --budget 1000 --counters 2
     case $end in
-        "1/ashd: 509 NoMemory/" | "1/ashd: 507 DeviceFailed/") verdict "allocation $number refused, before a run with snapshots" 0 ;;
-        "0//refused 509 NoMemory;ok;refused 401 NoModule;ok;refused 401 NoModule;ok;") verdict "allocation $number refused, in the load before a snapshot" 0 ;;
-        "0//refused 50"[79]" "*";refused 508 Reopen;refused 508 Reopen;refused 508 Reopen;refused 508 Reopen;ok;") verdict "allocation $number refused, in the commit before a snapshot" 0 ;;
-        "0//ok seq 1;refused 509 NoMemory;ok 7 seq 2;ok;ok 7;ok;") verdict "allocation $number refused, in a snapshot" 0 ;;
-        "0//ok seq 1;refused 507 DeviceFailed;refused 508 Reopen;refused 508 Reopen;refused 508 Reopen;ok;") verdict "allocation $number refused, in the write of a snapshot" 0 ;;
-        "0//ok seq 1;ok;refused 509 NoMemory;ok;ok 2;ok;") verdict "allocation $number refused, in the call after a snapshot" 0 ;;
-        "0//ok seq 1;ok;refused 50"[79]" "*";refused 508 Reopen;refused 508 Reopen;ok;") verdict "allocation $number refused, in the commit after a snapshot" 0 ;;
-        "0//ok seq 1;ok;ok 7 seq 2;refused 509 NoMemory;ok 7;ok;") verdict "allocation $number refused, in a second snapshot" 0 ;;
-        "0//ok seq 1;ok;ok 7 seq 2;refused 507 DeviceFailed;refused 508 Reopen;ok;") verdict "allocation $number refused, in the write of a second snapshot" 0 ;;
+        "1/ashd: 509 NoMemory/" | "1/ashd: 507 DeviceFailed/") verdict 0 "allocation $number refused, before a run with snapshots" ;;
+        "0//refused 509 NoMemory;ok;refused 401 NoModule;ok;refused 401 NoModule;ok;") verdict 0 "allocation $number refused, in the load before a snapshot" ;;
+        "0//refused 50"[79]" "*";refused 508 Reopen;refused 508 Reopen;refused 508 Reopen;refused 508 Reopen;ok;") verdict 0 "allocation $number refused, in the commit before a snapshot" ;;
+        "0//ok seq 1;refused 509 NoMemory;ok 7 seq 2;ok;ok 7;ok;") verdict 0 "allocation $number refused, in a snapshot" ;;
+        "0//ok seq 1;refused 507 DeviceFailed;refused 508 Reopen;refused 508 Reopen;refused 508 Reopen;ok;") verdict 0 "allocation $number refused, in the write of a snapshot" ;;
+        "0//ok seq 1;ok;refused 509 NoMemory;ok;ok 2;ok;") verdict 0 "allocation $number refused, in the call after a snapshot" ;;
+        "0//ok seq 1;ok;refused 50"[79]" "*";refused 508 Reopen;refused 508 Reopen;ok;") verdict 0 "allocation $number refused, in the commit after a snapshot" ;;
+        "0//ok seq 1;ok;ok 7 seq 2;refused 509 NoMemory;ok 7;ok;") verdict 0 "allocation $number refused, in a second snapshot" ;;
+        "0//ok seq 1;ok;ok 7 seq 2;refused 507 DeviceFailed;refused 508 Reopen;ok;") verdict 0 "allocation $number refused, in the write of a second snapshot" ;;
         "0//ok seq 1;ok;ok 7 seq 2;ok;ok 7;ok;") untouched=0; break ;;
-        *) verdict "allocation $number refused in a run with snapshots: $end" 1 ;;
+        *) verdict 1 "allocation $number refused in a run with snapshots: $end" ;;
     esac
 done
-verdict "a run with snapshots that no refusal meets" $untouched
+verdict $untouched "a run with snapshots that no refusal meets"
 
 # A store with several records, which is opened, and answers a request between two snapshots. Where memory is refused before
 # that, the files stay as they are; where it is refused later, what was answered is found.
@@ -137,10 +137,10 @@ for number in $(seq 1 1000); do
         "0//ok 11;ok;refused 509 NoMemory;refused 508 Reopen;refused 508 Reopen;ok 6;") wanted="ok 11;ok 6;" ;;
         "0//ok 11;ok;ok 12 seq 7;refused 509 NoMemory;ok 12;ok 7;") wanted="ok 12;ok 7;" ;;
         "0//ok 11;ok;ok 12 seq 7;ok;ok 12;ok 7;") untouched=0; break ;;
-        *) verdict "allocation $number refused over several records: $end" 1; continue ;;
+        *) verdict 1 "allocation $number refused over several records: $end"; continue ;;
     esac
     found=$(printf 'get m n\nseq\n' | "$ashd" serve "$scratch/other" --budget 1000 --counters 2 | tr '\n' ';')
     [ "$found" = "$wanted" ]
-    verdict "what is found after allocation $number was refused over several records: $found" $?
+    verdict $? "what is found after allocation $number was refused over several records: $found"
 done
-verdict "a run over several records that no refusal meets" $untouched
+verdict $untouched "a run over several records that no refusal meets"

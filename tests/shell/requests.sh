@@ -14,11 +14,11 @@ holds "nothing is answered after quit" $'ok 0\nok'
 
 "$ashd" try --budget 1 --counters 0 < "$scratch/input" > /dev/full 2> "$scratch/error"
 [ $? -eq 1 ] && [ "$(cat "$scratch/error")" = "ashd: 606 Write" ]
-verdict "a full disk as standard output" $?
+verdict $? "a full disk as standard output"
 
 "$ashd" try --budget 1 --counters 0 < / > /dev/null 2> "$scratch/error"
 [ $? -eq 1 ] && [ "$(cat "$scratch/error")" = "ashd: 605 Read" ]
-verdict "a folder as standard input" $?
+verdict $? "a folder as standard input"
 
 # Each reply comes before the next request is sent.
 coproc talk { "$ashd" try --budget 1000 --counters 0; }
@@ -30,6 +30,6 @@ read -r -t 10 value <&"$replies"
 printf 'quit\n' >&"$requests"
 read -r -t 10 left <&"$replies"
 [ "$loaded/$value/$left" = "ok seq 1/ok 7/ok" ]
-verdict "a conversation over a pipe: $loaded/$value/$left" $?
+verdict $? "a conversation over a pipe: $loaded/$value/$left"
 exec {replies}<&- {requests}>&-
 wait

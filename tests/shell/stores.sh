@@ -7,7 +7,7 @@ asks ''
 
 ends "serve a folder without a store" 1 "ashd: 507 DeviceFailed" serve "$store" --budget 1000 --counters 0
 [ -z "$(ls -A "$store")" ]
-verdict "nothing is made where nothing is served" $?
+verdict $? "nothing is made where nothing is served"
 ends "create in a folder that is not there" 1 "ashd: 507 DeviceFailed" create "$scratch/none"
 ends "serve a folder that is not there" 1 "ashd: 507 DeviceFailed" serve "$scratch/none" --budget 1000 --counters 0
 touch "$store/ash.a" "$store/ash.b"
@@ -20,13 +20,13 @@ holds "no word of a create that is refused" ""
 same "a create over a store changes nothing" "$store" "$scratch/empty"
 mkdir "$scratch/-x"
 (cd "$scratch" && "$ashd" create -- -x > output 2> error)
-verdict "a folder after --" $?
+verdict $? "a folder after --"
 same "the store in that folder" "$scratch/-x" "$scratch/empty"
 
 cp examples/first.requests "$scratch/input"
 ends "serve" 0 "" serve --budget=1000 --counters=2 -- "$store"
 cmp -s "$scratch/output" examples/first.replies
-verdict "the first example over a store" $?
+verdict $? "the first example over a store"
 asks 'get m n\nseq\n'
 ends "serve again" 0 "" serve "$store" --counters 0 --budget 1000
 holds "what is found after a run" $'ok 7\nok 2'
@@ -52,7 +52,7 @@ holds "the budget of a store is the one that is given" "aborted f 1 seq 3"
 # sizes NAME FOLDER BYTES BYTES: the two files have so many bytes
 sizes() {
     [ "$(wc -c < "$2/ash.a")" -eq "$3" ] && [ "$(wc -c < "$2/ash.b")" -eq "$4" ]
-    verdict "$1: $(wc -c < "$2/ash.a") and $(wc -c < "$2/ash.b") bytes" $?
+    verdict $? "$1: $(wc -c < "$2/ash.a") and $(wc -c < "$2/ash.b") bytes"
 }
 # opens_gate OFFSET FILE: writes 1 over a byte that is 0
 opens_gate() {

@@ -3,10 +3,10 @@
 cp examples/first.requests "$scratch/input"
 ends "the first example" 0 "" try --budget 1000 --counters 2
 cmp -s "$scratch/output" examples/first.replies
-verdict "the replies of the first example" $?
+verdict $? "the replies of the first example"
 ends "no ticks" 0 "" try --counters 4096 --budget 0
 [ "$(head -n 1 "$scratch/output")" = "aborted (init) 1 seq 1" ]
-verdict "the budget is the one that is given" $?
+verdict $? "the budget is the one that is given"
 
 asks ''
 ends "an empty input" 0 "" try --budget 1000 --counters 2
