@@ -73,11 +73,6 @@ pub(crate) fn check_text(rt: &impl Abort, found: &str, wanted: &str, source: &st
     assert_eq!(rt; found, wanted, "{source}");
 }
 
-/// Looks at what is to be true of a source.
-pub(crate) fn check_true(rt: &impl Abort, found: bool, source: &str) {
-    assert!(rt; found, "{source}");
-}
-
 /// Compares a number with the one that is wanted of a source.
 pub(crate) fn check_number(rt: &impl Abort, found: usize, wanted: usize, source: &str) {
     assert_eq!(rt; found, wanted, "{source}");
@@ -101,16 +96,6 @@ pub(crate) fn check_rows(rt: &impl Abort, alloc: Global, rows: &str) -> Result<(
     for row in rows.trim().lines() {
         let (wanted, source) = parts_of(row);
         check_outcome(rt, alloc, source, wanted, source)?;
-    }
-    Ok(())
-}
-
-/// Checks each row's source as the body of a function without parameters, which begins at offset 10.
-pub(crate) fn check_bodies(rt: &impl Abort, alloc: Global, rows: &str) -> Result<(), Fail> {
-    for row in rows.trim().lines() {
-        let (wanted, body) = parts_of(row);
-        let source = format!(in alloc; "void f() {{{body}}}")?;
-        check_outcome(rt, alloc, source.as_str(), wanted, source.as_str())?;
     }
     Ok(())
 }
