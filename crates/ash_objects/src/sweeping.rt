@@ -74,8 +74,12 @@ fn report<B>(taken: &[Entry<B>], settled: u64, gone: &mut Vec<u64>, events: &mut
 
 impl<B: HostObject> Objects<B> {
     /// Takes away what no hold and no object that stays leads to: gives its boxes up, and appends `Dropped` for each, by
-    /// ascending number. Where memory is refused nothing is taken. Where no object was made and no count fell to zero
-    /// since the last sweep it costs one test.
+    /// ascending number. It looks at what was made and at what lost its last count since the last sweep, and at what goes;
+    /// at nothing else of the table. Where there is none of these it costs one test and takes no memory.
+    ///
+    /// Before it takes anything away it has room made for as many events, numbers that went and entries as objects live.
+    /// The room for entries it gives up at its end; the other two lists keep theirs. Where memory is refused nothing is
+    /// taken away.
     pub fn sweep(&mut self, events: &mut Vec<Event>) -> Result<(), NoMemory>
         ensures collected { OnOk result (Collects self.old self.new) }
         ensures dropped { OnOk result (events.new.items ≡ events.old.items ++ drops (gone_from self.old.objects self.new.objects)) }

@@ -1,6 +1,6 @@
 //! Tests of the table of objects, with memory that is ample: sequences of its calls with the events that they leave, a
-//! kind whose boxes report that they are given up, a table at its limits, and tables from what a state holds. It has
-//! tests alone, so that the crate with the code is proved once.
+//! kind whose boxes report that they are given up, a table at its limits, and tables from what a state holds; and with
+//! memory that is refused once. It has tests alone, so that the crate with the code is proved once.
 #![tactic(auto)]
 
 #[cfg(test)]
@@ -9,6 +9,8 @@ mod arrays;
 mod limits;
 #[cfg(test)]
 mod marks;
+#[cfg(test)]
+mod refusals;
 #[cfg(test)]
 mod reporter;
 #[cfg(test)]

@@ -7,13 +7,13 @@ ghost use Rattle.ash_objects.specs.Restoring.{stored_in};
 
 use crate::reporter::Log;
 use crate::table::{Table, draw, new_log, new_pool, new_reporter};
-use ash_host::{Event, Word};
+use ash_host::{Event, NoMemory, Word};
 use ash_objects::{Body, Objects, Saved, Script, Stored, TableFault, Words};
 use std::alloc::Global;
 use std::test::Fail;
 
 // An object of a class with one field.
-fn script(alloc: Global, number: u64, field: u64) -> Result<Stored, Fail>
+fn script(alloc: Global, number: u64, field: u64) -> Result<Stored, NoMemory>
     ensures number { IfOk result (λ stored. stored.number ≡ number) }
     ensures words { IfOk result (λ stored. words_of stored.body ≡ Word.Object field ∷ []) }
 {
@@ -31,7 +31,7 @@ fn script(alloc: Global, number: u64, field: u64) -> Result<Stored, Fail>
 }
 
 // A counter.
-fn counter(alloc: Global, number: u64, state: &[u8]) -> Result<Stored, Fail>
+fn counter(alloc: Global, number: u64, state: &[u8]) -> Result<Stored, NoMemory>
     ensures number { IfOk result (λ stored. stored.number ≡ number) }
     ensures words { IfOk result (λ stored. words_of stored.body ≡ []) }
 {
@@ -47,8 +47,8 @@ fn counter(alloc: Global, number: u64, state: &[u8]) -> Result<Stored, Fail>
     })
 }
 
-// Two objects that hold the counter 3 and one that holds the counter 5, with their states.
-fn objects(alloc: Global, third: &[u8], fifth: &[u8]) -> Result<Vec<Stored>, Fail>
+/// Two objects that hold the counter 3 and one that holds the counter 5, with their states.
+pub fn objects(alloc: Global, third: &[u8], fifth: &[u8]) -> Result<Vec<Stored>, NoMemory>
     ensures numbered { IfOk result (λ objects. AreNumbered 9 (stored_in objects.items)) }
     ensures few { IfOk result (λ objects. vec_len objects ≤ 4096) }
     ensures short { IfOk result (λ objects. (number : ℕ) → IfSome (object_at number (stored_in objects.items)) (λ body. length (words_of body) ≤ 4096)) }

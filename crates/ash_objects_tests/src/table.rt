@@ -44,13 +44,13 @@ pub fn new_table(alloc: Global, counters: usize) -> Result<(Table, Log), Fail> {
     Ok((Objects::new(alloc, pool, Vec::new(alloc)), log))
 }
 
-fn lives(objects: &Table, number: u64) -> bool
+pub fn lives<B>(objects: &Objects<B>, number: u64) -> bool
     ensures { IsTrue result → Lives objects.now.objects number }
 {
     objects.slot(number).is_some()
 }
 
-pub fn is_alive(objects: &Table, word: Word) -> bool
+pub fn is_alive<B>(objects: &Objects<B>, word: Word) -> bool
     ensures { IsTrue result → IsAlive word objects.now }
 {
     match word {
@@ -59,7 +59,7 @@ pub fn is_alive(objects: &Table, word: Word) -> bool
     }
 }
 
-fn has_field(objects: &Table, number: u64, place: usize) -> bool
+pub fn has_field<B>(objects: &Objects<B>, number: u64, place: usize) -> bool
     ensures { IsTrue result → IsSome (field_of number place objects.now) }
 {
     match objects.body(number) {
@@ -68,7 +68,7 @@ fn has_field(objects: &Table, number: u64, place: usize) -> bool
     }
 }
 
-fn is_host(objects: &Table, number: u64) -> bool
+pub fn is_host<B>(objects: &Objects<B>, number: u64) -> bool
     ensures { IsTrue result → IsSome (box_at number objects.now) }
 {
     match objects.body(number) {
