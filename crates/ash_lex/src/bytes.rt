@@ -36,7 +36,7 @@ pub fn is_letter(byte: u8) -> bool
 pub fn is_word(byte: u8) -> bool
     ensures { result ≡ spec.is_word byte }
 {
-    byte.is_ascii_alphanumeric() || byte == b'_'
+    byte.is_ascii_lowercase() || byte.is_ascii_alphanumeric() || byte == b'_'
 }
 
 /// Whether the bytes begin with a letter, a digit or `_`.

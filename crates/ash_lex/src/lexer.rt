@@ -11,7 +11,7 @@ ghost use Rattle.ash_lex.specs.Steps.{IsStep, StopsStep, StopsText};
 use crate::bytes::line_feeds;
 use crate::faults::LexFault;
 use crate::numbers::value_in;
-use crate::pieces::{Piece, front};
+use crate::pieces::{Piece, begins_with_blank, front};
 use crate::tokens::{Token, TokenKind};
 use crate::words::{reserved_word, unsupported_word};
 use std::alloc::Global;
@@ -22,6 +22,10 @@ pub const MAX_SOURCE: usize = 65_536;
 
 /// U+FEFF in UTF-8.
 const BYTE_ORDER_MARK: [u8; 3] = [0xef, 0xbb, 0xbf];
+
+/// How many bytes a token takes with the blanks around it, at the least in nearly all texts: with room for so many tokens
+/// the list is not moved.
+const BYTES_A_TOKEN: usize = 2;
 
 /// What a step over one piece passes, with its length in bytes.
 #[derive(Debug, Drop)]
@@ -64,6 +68,10 @@ fn next_step(alloc: Global, left: &[u8], at: usize) -> Result<Step, LexFault>
     ensures passes { IfOk result (λ step. IsStep left.now step) }
     ensures stops { IfErr result (λ fault. StopsStep at left.now fault) }
 {
+    // Half of the pieces of most texts are blanks.
+    if begins_with_blank(left) {
+        return Ok(Step::Gap(1));
+    }
     let Some(piece) = front(left) else {
         return Err(LexFault::BadCharacter { at });
     };
@@ -99,7 +107,7 @@ fn tokens_of(alloc: Global, text: &[u8]) -> Result<Vec<Token>, LexFault>
     ensures spelled { IfOk result (λ tokens. Spells text.now (lexemes tokens.items)) }
     ensures stopped { IfErr result (λ fault. StopsText text.now fault) }
 {
-    let mut tokens = Vec::new(alloc);
+    let mut tokens = Vec::with_capacity(alloc, text.len() / BYTES_A_TOKEN)?;
     let mut at = mark_len(text);
     let mut line = 1;
     while at < text.len() {

@@ -1,6 +1,7 @@
 //! The longest piece that a text begins with.
 
-ghost use Rattle.std.specs.Prelude.{◌≡◌, ◌+◌, ◌<◌, ◌≤◌, ◌^◌, length, IfSome, MatchOption};
+ghost use Rattle.std.specs.Prelude.{◌≡◌, ◌+◌, ◌<◌, ◌≤◌, ◌^◌, length, IfSome, IsTrue, MatchOption};
+ghost use Rattle.ash_lex.specs.declared.pieces.Piece.TheVariants.{Gap as GapPiece};
 ghost use Rattle.ash_lex.specs.Scan as spec;
 ghost use Rattle.ash_lex.specs.Steps.{IsFront};
 ghost use Rattle.ash_lex.specs.Tokens.{BeginsNothing};
@@ -108,6 +109,14 @@ fn by_first_byte(text: &[u8]) -> Option<Piece>
     } else {
         sign(text)
     }
+}
+
+/// Whether the text begins with a blank, which is then its longest piece.
+pub fn begins_with_blank(text: &[u8]) -> bool
+    requires { 0 < length text.now }
+    ensures blank { IsTrue result → IsFront text.now (GapPiece 1) }
+{
+    is_blank(text[0])
 }
 
 /// The longest piece that the text begins with.

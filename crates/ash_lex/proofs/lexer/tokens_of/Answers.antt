@@ -7,7 +7,7 @@ use Rattle.ash_lex.proofs.lexer.tokens_of.Goals as goal
 -- the step's fault is the text's first
 pub returns-in_err-len-clause-stopped : goal.returns-in_err-len-clause-stopped
 returns-in_err-len-clause-stopped c =
-    let p = err_from_is_err_and c.from_residual.result c.from_residual.ensures.1 in
+    let p = err_from_is_err_and c.from_residual-in_err-len.result c.from_residual-in_err-len.ensures.1 in
     let here = rw (take_rest c.args.text.now c.loop-at.at) at c.in_err-len.ensures.stops in
     rw (p.1, p.2) (stops_text c.args.text.now c.loop-at.at c.loop-at.line (lexemes c.loop-at.tokens.items) c.in_err-len.field-0.0 c.loop-at.invariant here)
 
