@@ -6,6 +6,8 @@ pub mod Referring
 pub mod Releasing
 pub mod Sorting
 pub mod Marks
+pub mod Flags
+pub mod Listed
 pub mod Touching
 pub mod Collecting
 pub mod Collected

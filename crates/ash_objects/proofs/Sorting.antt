@@ -1,9 +1,9 @@
 -- Entries in order: two lists of marks by number over which the same sums are taken are one.
-use Rattle.std.proofs.Common.{◌≡◌, ℕ, Bool, true, false, cond, List, [], ◌∷◌, refl, sym, ap, ◌∙◌, nat_eq, nat_lt, arith, suc, length, ◌≤◌, ◌<◌, ◌&&◌, get_or, ◌⊎◌, inl, inr}
+use Rattle.std.proofs.Common.{◌≡◌, ℕ, Bool, true, false, cond, List, [], ◌∷◌, refl, sym, subst, ap, ◌∙◌, nat_eq, nat_lt, arith, zero, suc, length, ◌≤◌, ◌<◌, ◌&&◌, get_or, ◌⊎◌, inl, inr, map}
 use Rattle.std.specs.Prelude.{sum_by}
 use Rattle.std.specs.Bool.{beq}
 use Rattle.std.specs.List.{AllByRecursion}
-use Rattle.std.specs.List.Sorted.{IsNonDecreasingBy, IsStrictlySortedBy}
+use Rattle.std.specs.List.Sorted.{IsNonDecreasingBy, IsStrictlySortedBy, IsStrictlyIncreasing}
 use Rattle.std.specs.Ordering.{nat_cmp}
 use Rattle.std.proofs.Common.{Less}
 use Rattle.std.proofs.lemmas.Map.Keys.{sorted_from_strictly_increasing}
@@ -169,3 +169,39 @@ not_below j (e ∷ l) n first =
 -- sorted marks are those in order over which the same is summed
 pub sorted_same : (a b : List (ℕ × Bool)) → IsNonDecreasingBy (λ e. e.0) a → IsInOrder b → ((measure : ℕ × Bool → ℕ) → sum_by measure a ≡ sum_by measure b) → a ≡ b
 sorted_same a b n o same = sums_same a b (not_below 0 a n (λ d some. omega arith)) (ascend b o) same
+
+flagged : ℕ → ℕ × Bool
+flagged n = (n, false)
+
+sum-flagged : (measure : ℕ × Bool → ℕ) (ns : List ℕ) → sum_by measure (map flagged ns) ≡ sum_by (λ n. measure (flagged n)) ns
+sum-flagged measure [] = refl
+sum-flagged measure (n ∷ ns) = omega (arith, sum_by-cons measure (flagged n) (map flagged ns), sum_by-cons (λ k. measure (flagged k)) n ns, sum-flagged measure ns)
+
+numbers-flagged : (ns : List ℕ) → numbers (map flagged ns) ≡ ns
+unfolding flagged
+numbers-flagged [] = refl
+numbers-flagged (n ∷ ns) = ap (λ (l : List ℕ). n ∷ l) (numbers-flagged ns)
+
+length-flagged : (ns : List ℕ) → length (map flagged ns) ≡ length ns
+length-flagged [] = refl
+length-flagged (n ∷ ns) = ap suc (length-flagged ns)
+
+got-flagged : (ns : List ℕ) (k : ℕ) (d : ℕ × Bool) → k < length ns → (get_or (map flagged ns) k d).0 ≡ get_or ns k 0
+unfolding flagged
+got-flagged [] k d within = absurd (omega arith)
+got-flagged (n ∷ ns) zero d within = refl
+got-flagged (n ∷ ns) (suc k) d within = got-flagged ns k d (omega arith)
+
+rising-flagged : (ns : List ℕ) → IsNonDecreasingBy (λ n. n) ns → IsNonDecreasingBy (λ e. e.0) (map flagged ns)
+rising-flagged ns n = λ i j d le within.
+    let many = length-flagged ns in
+    let first = got-flagged ns i d (omega (arith, many)) in
+    let second = got-flagged ns j d (omega (arith, many)) in
+    let rises = n i j 0 le (omega (arith, many)) in
+    omega (arith, first, second, rises)
+
+-- sorted numbers are those that rise over which the same is summed
+pub sorted_numbers : (a b : List ℕ) → IsNonDecreasingBy (λ n. n) a → IsStrictlyIncreasing b → ((measure : ℕ → ℕ) → sum_by measure a ≡ sum_by measure b) → a ≡ b
+sorted_numbers a b n o same =
+    let all = sorted_same (map flagged a) (map flagged b) (rising-flagged a n) (subst (λ (ns : List ℕ). IsStrictlyIncreasing ns) (sym (numbers-flagged b)) o) (λ measure. omega (arith, sum-flagged measure a, sum-flagged measure b, same (λ k. measure (flagged k)))) in
+    sym (numbers-flagged a) ∙ ap (λ (l : List (ℕ × Bool)). numbers l) all ∙ numbers-flagged b

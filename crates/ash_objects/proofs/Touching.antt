@@ -1,22 +1,28 @@
 -- The marks of objects, and what clearing them leaves.
-use Rattle.std.proofs.Common.{◌≡◌, ℕ, Bool, true, false, cond, List, [], ◌∷◌, refl, sym, subst, ap, ◌∙◌, nat_eq, arith, Option, Some, None, length, ◌≤◌, map, ◌||◌}
-use Rattle.std.specs.Prelude.{IsSomeAnd, IsSome, All, filter, is_some}
+use Rattle.std.proofs.Common.{◌≡◌, ℕ, Bool, true, false, cond, List, [], ◌∷◌, refl, sym, subst, ap, ◌∙◌, nat_eq, arith, Option, Some, None, length, ◌≤◌, ◌<◌, ◌+◌, map, ◌||◌}
+use Rattle.std.specs.Prelude.{IsSomeAnd, IsSome, IfSome, filter, is_some, sum_by}
 use Rattle.std.specs.Option.{option_map}
+use Rattle.std.specs.List.{Contains, AllByRecursion}
+use Rattle.std.specs.List.Sorted.{IsStrictlyIncreasing, IsStrictlySortedBy}
+use Rattle.std.specs.Ordering.{nat_cmp}
+use Rattle.std.proofs.Common.{Less}
+use Rattle.std.proofs.lemmas.Map.Keys.{sorted_from_strictly_increasing, IsStrictlyIncreasing-from_sorted}
 use Rattle.std.specs.Map.{keys_of}
 use Rattle.std.proofs.lemmas.Bool.{eqb-true, eq-eqb}
-use Rattle.std.proofs.lemmas.List.Elements.{All-nil, All-cons, All-weaker}
-use Rattle.ash_host.specs.Objects.{object_at, IsInOrder, Lives}
+use Rattle.std.proofs.lemmas.List.Sums.{sum_by-cons}
+use Rattle.ash_host.specs.Objects.{object_at, numbers, IsInOrder}
 use Rattle.ash_host.specs.Reach.{is_among}
 use Rattle.ash_host.proofs.Membership.{is_among-numbers}
-use Rattle.ash_host.proofs.Order.{same_in_order, object_here, in_order_behind}
+use Rattle.ash_host.proofs.Order.{same_in_order, object_here, object_later, none_behind, in_order_behind}
 use Rattle.ash_slots.specs.declared.entry.Item.{Item}
 use Rattle.ash_slots.specs.Bodies.{words_of}
-use Rattle.ash_slots.specs.Store.{Placed, AreStored, IsIn, change_in, with_item, marked_in, unmarked, change_at}
+use Rattle.ash_slots.specs.Store.{Placed, AreStored, IsIn, change_in, with_item, change_at}
 use Rattle.ash_objects.specs.Table.{Living}
+use Rattle.ash_objects.specs.Listing.{Marks, AreListed}
 use Rattle.ash_objects.specs.Counting.{holding, fields_in, living, living_among, living_in, IsTable}
 use Rattle.ash_slots.specs.Counting.{counted}
-use Rattle.ash_objects.specs.Marking.{settled_object, unmark_all}
-use Rattle.ash_slots.proofs.Changing.{object_at-change, length-change, in_order-change, change_in_is, sum_same-change, none_later}
+use Rattle.ash_objects.specs.Marking.{settled_object, marked_in, NoneMarked, unmarked, unmark_all}
+use Rattle.ash_slots.proofs.Changing.{object_at-change, length-change, in_order-change, sum_same-change, object_at-change_in, change_in_is, none_later, change_none}
 use Rattle.ash_objects.proofs.Counts.{object_at-living, numbers-living, each-change, given-change}
 use Rattle.ash_objects.proofs.Fields.{counted_same}
 use Rattle.ash_objects.proofs.Marks.{object_at-mapped, in_order-mapped}
@@ -45,37 +51,26 @@ module _ {B : Type 0} where
       change_in_is slot n _ l s here
       ∙ change_same n _ unmarked l s.in_order (λ p is. ap (λ (i : Item B). with_item (record { count = i.count; touched = false; body = i.body }) p) (sym (subst (λ (v : Option (Placed B)). IsSomeAnd v (λ object. object.item ≡ it)) is mine)))
 
-  -- who lives lives
-  pub lives_unmarked : (n k : ℕ) (l : List (ℕ × Placed B)) → Lives l k → Lives (change_at n unmarked l) k
-  lives_unmarked n k l h = subst (λ (v : Option (Placed B)). IsSome v) (sym (object_at-change n unmarked k l)) (go (nat_eq n k) (object_at k l) h)
+  -- no object in a slot has a mark after it was cleared there
+  pub clear_after : (slot : ℕ) (it : Item B) (l : List (ℕ × Placed B)) → it.touched ≡ false → (m : ℕ) → IfSome (object_at m (change_in slot (with_item it) l)) (λ object. object.slot ≡ slot → (object.item).touched ≡ false)
+  clear_after slot it l clear m =
+      subst (λ (v : Option (Placed B)). IfSome v (λ object. object.slot ≡ slot → (object.item).touched ≡ false)) (sym (object_at-change_in slot (with_item it) m l)) (go (object_at m l))
     where
-      go : (b : Bool) (v : Option (Placed B)) → IsSome v → IsSome (cond b (option_map unmarked v) v)
-      go true None h = h
-      go true (Some p) h = refl
-      go false v h = h
+      each : (p : Placed B) (b : Bool) → nat_eq slot p.slot ≡ b → (cond b (with_item it p) p).slot ≡ slot → ((cond b (with_item it p) p).item).touched ≡ false
+      each p true same at = clear
+      each p false same at = let yes = eq-eqb slot p.slot (sym at) in absurd (cc)
 
-  pub all_unmarked : (n : ℕ) (ns : List ℕ) (l : List (ℕ × Placed B)) → All (λ number. Lives l number) ns → All (λ number. Lives (change_at n unmarked l) number) ns
-  all_unmarked n ns l all = λ k d within. lives_unmarked n _ l (all k d within)
+      go : (v : Option (Placed B)) → IfSome (option_map (λ object. cond (nat_eq slot object.slot) (with_item it object) object) v) (λ object. object.slot ≡ slot → (object.item).touched ≡ false)
+      go None = tt
+      go (Some p) = each p (nat_eq slot p.slot) refl
 
-  lives_later : (m : ℕ) (e : ℕ × Placed B) (l : List (ℕ × Placed B)) → Lives l m → Lives (e ∷ l) m
-  lives_later m e l h = go (nat_eq m e.0)
+  -- nor where there is no object
+  pub clear_empty : (slot : ℕ) (l : List (ℕ × Placed B)) → ((n : ℕ) → IsIn n slot l → ⊥) → (m : ℕ) → IfSome (object_at m l) (λ object. object.slot ≡ slot → (object.item).touched ≡ false)
+  clear_empty slot l empty m = go (object_at m l) refl
     where
-      go : (b : Bool) → IsSome (cond b (Some e.1) (object_at m l))
-      go true = refl
-      go false = h
-
-  -- those that are marked live
-  pub marked_live : (l : List (ℕ × Placed B)) → All (λ number. Lives l number) (marked_in l)
-  marked_live [] = All-nil (λ number. Lives {A = Placed B} [] number)
-  marked_live (e ∷ l) =
-      subst (λ (ns : List ℕ). All (λ number. Lives (e ∷ l) number) ns) (sym (cons_marked e.0 e.1 l)) (go (e.1.item).touched (All-weaker (λ number. Lives l number) (λ number. Lives (e ∷ l) number) (λ m h. lives_later m e l h) (marked_in l) (marked_live l)))
-    where
-      here : Lives (e ∷ l) e.0
-      here = subst (λ (v : Option (Placed B)). IsSome v) (sym (object_here e l)) refl
-
-      go : (b : Bool) → All (λ number. Lives (e ∷ l) number) (marked_in l) → All (λ number. Lives (e ∷ l) number) (cond b (e.0 ∷ marked_in l) (marked_in l))
-      go true rest = All-cons (λ number. Lives (e ∷ l) number) e.0 (marked_in l) here rest
-      go false rest = rest
+      go : (v : Option (Placed B)) → object_at m l ≡ v → IfSome v (λ object. object.slot ≡ slot → (object.item).touched ≡ false)
+      go None is = tt
+      go (Some p) is = λ at. absurd (empty m (subst (λ (v : Option (Placed B)). IsSomeAnd v (λ object. object.slot ≡ slot)) (sym is) at))
 
   -- the marks that a contract sees
   pub marked_is : (all l : List (ℕ × Placed B)) → keys_of (filter (λ e. (e.1).touched) (living_among all l)) ≡ marked_in l
@@ -190,3 +185,101 @@ module _ {B : Type 0} where
       go : (k : ℕ) (v : Option (Placed B)) → option_map (living k) (option_map unmarked v) ≡ option_map settled_object (option_map (living k) v)
       go k None = refl
       go k (Some p) = refl
+
+  -- one that had a mark was taken from those that have one
+  pub marked_less : (f : ℕ → ℕ) (n : ℕ) (l : List (ℕ × Placed B)) → IsInOrder l → IsSomeAnd (object_at n l) (λ object. (object.item).touched ≡ true) → sum_by f (marked_in l) ≡ f n + sum_by f (marked_in (change_at n unmarked l))
+  marked_less f n [] o h = absurd h
+  marked_less f n (e ∷ l) o h =
+      go (nat_eq n e.0) refl h (λ later. marked_less f n l (in_order_behind e l o) later)
+    where
+      now : (b : Bool) → marked_in ((e.0, cond b (unmarked e.1) e.1) ∷ change_at n unmarked l) ≡ cond ((cond b (unmarked e.1) e.1).item).touched (e.0 ∷ marked_in (change_at n unmarked l)) (marked_in (change_at n unmarked l))
+      now b = cons_marked e.0 (cond b (unmarked e.1) e.1) (change_at n unmarked l)
+
+      flagged : (t : Bool) (rest others : List ℕ) → sum_by f rest ≡ f n + sum_by f others → sum_by f (cond t (e.0 ∷ rest) rest) ≡ f n + sum_by f (cond t (e.0 ∷ others) others)
+      flagged true rest others h = omega (arith, sum_by-cons f e.0 rest, sum_by-cons f e.0 others, h)
+      flagged false rest others h = h
+
+      go : (b : Bool) → nat_eq n e.0 ≡ b → IsSomeAnd (cond b (Some e.1) (object_at n l)) (λ object. (object.item).touched ≡ true) → (IsSomeAnd (object_at n l) (λ object. (object.item).touched ≡ true) → sum_by f (marked_in l) ≡ f n + sum_by f (marked_in (change_at n unmarked l))) → sum_by f (marked_in (e ∷ l)) ≡ f n + sum_by f (marked_in ((e.0, cond b (unmarked e.1) e.1) ∷ change_at n unmarked l))
+      go true is h later =
+          let n_is : n ≡ e.0 = eqb-true n e.0 is in
+          let was : marked_in (e ∷ l) ≡ e.0 ∷ marked_in l = cons_marked e.0 e.1 l ∙ ap (λ (t : Bool). cond t (e.0 ∷ marked_in l) (marked_in l)) h in
+          let none = change_none n unmarked l (none_later n e l o is) in
+          let same : marked_in (change_at n unmarked l) ≡ marked_in l = ap (λ (k : List (ℕ × Placed B)). marked_in k) none in
+          let value = ap f n_is in
+          let sums = sum_by-cons f e.0 (marked_in l) in
+          let one = ap (λ (k : List ℕ). sum_by f k) was in
+          let two = ap (λ (k : List ℕ). sum_by f k) (now true ∙ same) in
+          omega (arith, value, sums, one, two)
+      go false is h later =
+          let rest = later h in
+          let one = ap (λ (k : List ℕ). sum_by f k) (cons_marked e.0 e.1 l) in
+          let two = ap (λ (k : List ℕ). sum_by f k) (now false) in
+          let both = flagged (e.1.item).touched (marked_in l) (marked_in (change_at n unmarked l)) rest in
+          omega (arith, one, two, both)
+
+  -- where no object has a mark none is named
+  pub none_marked : (l : List (ℕ × Placed B)) → IsInOrder l → NoneMarked l → marked_in l ≡ []
+  none_marked [] o none = refl
+  none_marked (e ∷ l) o none =
+      cons_marked e.0 e.1 l ∙ ap (λ (t : Bool). cond t (e.0 ∷ marked_in l) (marked_in l)) here ∙ none_marked l (in_order_behind e l o) (λ m. behind m (object_at m l) refl)
+    where
+      here : (e.1.item).touched ≡ false
+      here = subst (λ (v : Option (Placed B)). IfSome v (λ object. (object.item).touched ≡ false)) (object_here e l) (none e.0)
+
+      behind : (m : ℕ) (v : Option (Placed B)) → object_at m l ≡ v → IfSome (object_at m l) (λ object. (object.item).touched ≡ false)
+      behind m None is = subst (λ (v : Option (Placed B)). IfSome v (λ object. (object.item).touched ≡ false)) (sym is) tt
+      behind m (Some p) is =
+          let apart = none_behind e l m o (subst (λ (v : Option (Placed B)). IsSome v) (sym is) refl) in
+          subst (λ (v : Option (Placed B)). IfSome v (λ object. (object.item).touched ≡ false)) (object_later m e l apart) (none m)
+
+  -- one mark less to clear
+  pub alike_less : (n m : ℕ) (l : List (ℕ × Placed B)) → option_map unmarked (object_at m (change_at n unmarked l)) ≡ option_map unmarked (object_at m l)
+  alike_less n m l = ap (λ (v : Option (Placed B)). option_map unmarked v) (object_at-change n unmarked m l) ∙ go (nat_eq n m) (object_at m l)
+    where
+      go : (b : Bool) (v : Option (Placed B)) → option_map unmarked (cond b (option_map unmarked v) v) ≡ option_map unmarked v
+      go false v = refl
+      go true None = refl
+      go true (Some p) = refl
+
+  -- all marks were cleared
+  pub all_cleared : (old now : List (ℕ × Placed B)) → IsInOrder old → IsInOrder now → NoneMarked now → ((m : ℕ) → option_map unmarked (object_at m now) ≡ option_map unmarked (object_at m old)) → now ≡ unmark_all (marked_in old) old
+  all_cleared old now o p none alike =
+      same_in_order now (unmark_all (marked_in old) old) p (unmarked_order (marked_in old) old o)
+      (λ m. go (object_at m now) (none m) ∙ alike m ∙ sym (at_cleared m old o))
+    where
+      go : (v : Option (Placed B)) → IfSome v (λ object. (object.item).touched ≡ false) → v ≡ option_map unmarked v
+      go None h = refl
+      go (Some x) h = ap (λ (t : Bool). Some (record { slot = x.slot; waiting = x.waiting; item = record { count = (x.item).count; touched = t; body = (x.item).body } })) h
+
+  marked_above : (j : ℕ) (l : List (ℕ × Placed B)) → AllByRecursion (λ y. nat_cmp j y ≡ Less) (numbers l) → AllByRecursion (λ y. nat_cmp j y ≡ Less) (marked_in l)
+  marked_above j [] h = tt
+  marked_above j (e ∷ l) h = subst (λ (ns : List ℕ). AllByRecursion (λ y. nat_cmp j y ≡ Less) ns) (sym (cons_marked e.0 e.1 l)) (go (e.1.item).touched (marked_above j l h.1))
+    where
+      go : (b : Bool) → AllByRecursion (λ y. nat_cmp j y ≡ Less) (marked_in l) → AllByRecursion (λ y. nat_cmp j y ≡ Less) (cond b (e.0 ∷ marked_in l) (marked_in l))
+      go true rest = (h.0, rest)
+      go false rest = rest
+
+  marked_sorted : (l : List (ℕ × Placed B)) → IsStrictlySortedBy nat_cmp (numbers l) → IsStrictlySortedBy nat_cmp (marked_in l)
+  unfolding IsStrictlySortedBy
+  marked_sorted [] h = tt
+  marked_sorted (e ∷ l) h = subst (λ (ns : List ℕ). IsStrictlySortedBy nat_cmp ns) (sym (cons_marked e.0 e.1 l)) (go (e.1.item).touched (marked_sorted l h.1))
+    where
+      go : (b : Bool) → IsStrictlySortedBy nat_cmp (marked_in l) → IsStrictlySortedBy nat_cmp (cond b (e.0 ∷ marked_in l) (marked_in l))
+      go true rest = (marked_above e.0 l h.0, rest)
+      go false rest = rest
+
+  -- the numbers of those that have a mark rise
+  pub marked_rise : (l : List (ℕ × Placed B)) → IsInOrder l → IsStrictlyIncreasing (marked_in l)
+  marked_rise l o = IsStrictlyIncreasing-from_sorted (marked_in l) (marked_sorted l (sorted_from_strictly_increasing (numbers l) o))
+
+  -- where no slot is listed no object has a mark
+  pub none_listed : (l : List (ℕ × Placed B)) (marks : Marks) → marks.slots ≡ [] → AreListed l marks → NoneMarked l
+  none_listed l marks none h m = go (object_at m l) (h m)
+    where
+      flag : (p : Placed B) → ((p.item).touched ≡ true → Contains marks.slots p.slot) → (b : Bool) → (p.item).touched ≡ b → (p.item).touched ≡ false
+      flag p h false is = is
+      flag p h true is = let here = subst (λ (k : List ℕ). Contains k p.slot) none (h is) in absurd (let k = here.1 in omega (arith, k))
+
+      go : (v : Option (Placed B)) → IfSome v (λ object. (object.slot < marks.room) × ((object.item).touched ≡ true → Contains marks.slots object.slot)) → IfSome v (λ object. (object.item).touched ≡ false)
+      go None h = tt
+      go (Some p) h = flag p h.1 (p.item).touched refl

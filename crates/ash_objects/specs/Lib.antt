@@ -5,5 +5,6 @@ pub mod Making
 pub mod Sweeping
 pub mod Collecting
 pub mod Marking
+pub mod Listing
 pub mod Arrays
 pub mod Restoring

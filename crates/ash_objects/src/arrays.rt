@@ -133,6 +133,7 @@ impl<B> Objects<B> {
         ensures in_order { IsInOrder self.old.objects }
     {
         grow_elements(&mut self.store, slot, len)?;
+        self.marks.mark(slot);
         Ok(())
     }
 
@@ -147,6 +148,7 @@ impl<B> Objects<B> {
         release_words(&mut self.store, words.after(len));
         words.truncate(len);
         put_elements(&mut self.store, slot, words);
+        self.marks.mark(slot);
     }
 
     /// Gives the array in a slot a length: what is beyond it goes, and what it holds is counted once less for each

@@ -27,6 +27,7 @@ impl<B: HostObject> Objects<B> {
         ensures { (number : ℕ) → slot_of number self.old ≡ Some slot
             → Answers B.HostObject number (Start args.now) result self.old self.new }
     {
+        self.marks.mark(slot);
         start_in(&mut self.store, slot, args)
     }
 
@@ -56,6 +57,7 @@ impl<B: HostObject> Objects<B> {
         ensures { (number : ℕ) → slot_of number self.old ≡ Some slot
             → Answers B.HostObject number (Set prop value) HostAnswer.Nothing self.old self.new }
     {
+        self.marks.mark(slot);
         set_in(&mut self.store, slot, prop, value);
     }
 
@@ -92,6 +94,7 @@ impl<B: HostObject> Objects<B> {
             return Err(NoMemory);
         }
         let number = self.number(slot);
+        self.marks.mark(slot);
         let answer = invoke_in(&mut self.store, slot, method, args);
         if let HostAnswer::NoMemory = answer {
             return Ok(answer);

@@ -6,14 +6,15 @@
 //!
 //! In reading order: `objects` (the table, and its calls on fields and holds), `making` (new objects), `arrays` (calls
 //! of arrays), `host_calls` (calls of host objects and services), `sweeping` (the sweep), `marking` (what was made,
-//! changed or taken away), `restoring` (a table from what a state holds), `counting` (the counts of what an object's
-//! words are handles to).
+//! changed or taken away), `marked_slots` (the slots of what was made or changed), `restoring` (a table from what a state
+//! holds), `counting` (the counts of what an object's words are handles to).
 #![tactic(auto)]
 
 mod arrays;
 mod counting;
 mod host_calls;
 mod making;
+mod marked_slots;
 mod marking;
 mod objects;
 mod restoring;

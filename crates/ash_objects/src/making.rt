@@ -72,6 +72,7 @@ impl<B: HostObject> Objects<B> {
         ensures unchanged { OnErr result (self.new ≡ self.old) }
         ensures made { OnOk result (IsSomeAnd (slot_of next self.new) (λ slot. self.new ≡ with_made slot body self.old)) }
     {
+        self.marks.reserve(self.store.vacant())?;
         let item = Item {
             count: 0,
             touched: true,
@@ -80,6 +81,7 @@ impl<B: HostObject> Objects<B> {
         let Ok(slot) = self.store.insert(next, item) else {
             return Err(NoMemory);
         };
+        self.marks.mark(slot);
         refer_words(&mut self.store, slot);
         self.last = next;
         Ok(())
@@ -162,7 +164,8 @@ impl<B: HostObject> Objects<B> {
         let Some(place) = place_of_kind(&self.pool, kind) else {
             return Err(MakeFault::PoolEmpty);
         };
-        if events.reserve(1).is_err() {
+        let vacant = self.store.vacant();
+        if events.reserve(1).is_err() || self.marks.reserve(vacant).is_err() {
             return Err(MakeFault::NoMemory);
         }
         let item = Item {
@@ -179,6 +182,7 @@ impl<B: HostObject> Objects<B> {
             };
             return Err(MakeFault::NoMemory);
         }
+        self.marks.mark(vacant);
         self.last = number;
         events.push_reserved(Event::Drew(number));
         Ok(number)

@@ -4,6 +4,7 @@ ghost use Rattle.std.specs.Option.{option_copied};
 ghost use Rattle.ash_host.specs.Objects.{Lives};
 ghost use Rattle.ash_objects.specs.Table.{slot_of, body_of, count_of, holds_of, field_of, IsInUse, IsAlive, held, unheld, with_object, with_field};
 
+use crate::marked_slots::MarkedSlots;
 use ash_host::{HostObject, Word};
 use ash_slots::{Body, Store, count_less, count_more, read_word, refer, release, write_word};
 use std::alloc::Global;
@@ -21,11 +22,14 @@ pub struct Objects<B = Box<dyn HostObject>> {
     pub(crate) last: u64,
     pub(crate) settled: u64,
     pub(crate) gone: Vec<u64>,
+    /// The slots of all objects that were made or changed, and of some where such an object was.
+    pub(crate) marks: MarkedSlots,
 }
 
 impl<B> Model for Objects<B> {
     ghost use Rattle.ash_objects.specs.Table.{Table};
-    ghost use Rattle.ash_objects.specs.Counting.{living_in, IsTable};
+    ghost use Rattle.ash_objects.specs.Counting.{living_in};
+    ghost use Rattle.ash_objects.specs.Listing.{IsListed};
 
     ghost Value = { Table B };
 
@@ -38,7 +42,7 @@ impl<B> Model for Objects<B> {
       gone = s.gone.items;
     } };
 
-    ghost invariant = { λ s. IsTable s.store.objects s.last s.settled };
+    ghost invariant = { λ s. IsListed s.store.objects s.last s.settled s.marks };
 }
 
 impl<B> Objects<B> {
@@ -58,6 +62,7 @@ impl<B> Objects<B> {
             last: 0,
             settled: 0,
             gone: Vec::new(alloc),
+            marks: MarkedSlots::new(alloc),
         }
     }
 
@@ -164,6 +169,7 @@ impl<B> Objects<B> {
     {
         refer(&mut self.store, word);
         let before = write_word(&mut self.store, slot, place, word);
+        self.marks.mark(slot);
         release(&mut self.store, before);
     }
 

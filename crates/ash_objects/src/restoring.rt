@@ -6,10 +6,12 @@ ghost use Rattle.ash_slots.specs.Counting.{counted};
 ghost use Rattle.ash_objects.specs.declared.restoring.TableFault.{TableFault};
 ghost use Rattle.ash_objects.specs.declared.restoring.Stored.{Stored};
 ghost use Rattle.ash_objects.specs.Counting.{words_at, AllLive};
+ghost use Rattle.ash_objects.specs.Listing.{AreListed};
 ghost use Rattle.ash_objects.specs.Restoring.{stored_in, states_in, kind_wanted, bytes_of, Drawn, Enough, Short, draw_then, draw_boxes, with_box_first, BroughtBack, IsBack, AreBack, AreBoxesBack, ServiceRefused, BoxRefused, IsRefused, IsRestored, with_taken, AreFit, ArePut, refer_objects};
 
 use crate::counting::refer_words;
 use crate::making::place_of_kind;
+use crate::marked_slots::MarkedSlots;
 use crate::objects::Objects;
 use ash_host::{HostObject, RestoreFault};
 use ash_slots::{Body, Item, Store};
@@ -170,9 +172,10 @@ fn join<B: HostObject>(body: Body<Saved>, taken: Option<B>) -> Body<B>
     }
 }
 
-// Puts these objects into slots, each with what it took, the last first. Nothing is counted.
+// Puts these objects into slots, each with what it took, the last first. Nothing is counted, and nothing is listed.
 fn put_objects<B: HostObject>(
     store: &mut Store<B>,
+    marks: &mut MarkedSlots,
     mut objects: Vec<Stored>,
     mut boxes: Vec<Option<B>>,
 ) -> Result<(), TableFault>
@@ -180,12 +183,16 @@ fn put_objects<B: HostObject>(
     requires in_order { IsInOrder (stored_in objects.items) }
     requires fit { AreFit objects.items boxes.items }
     ensures put { OnOk result (ArePut objects.items boxes.items store.new.objects) }
+    ensures listed { OnOk result (AreListed store.new.objects marks.new) }
     ensures memory { (fault : TableFault) → IsErrOf result fault → fault ≡ TableFault.NoMemory }
 {
     while let Some(object) = objects.pop() {
         let Some(taken) = boxes.pop() else {
             unreachable!()
         };
+        if marks.reserve(store.vacant()).is_err() {
+            return Err(TableFault::NoMemory);
+        }
         let item = Item {
             count: 0,
             touched: false,
@@ -263,7 +270,8 @@ impl<B: HostObject> Objects<B> {
         restore_boxes(&objects, &mut boxes)?;
         let list = numbers_of(alloc, &objects)?;
         let mut store = Store::new(alloc);
-        put_objects(&mut store, objects, boxes)?;
+        let mut marks = MarkedSlots::new(alloc);
+        put_objects(&mut store, &mut marks, objects, boxes)?;
         refer_from(&mut store, &list);
         Ok(Objects {
             store,
@@ -272,6 +280,7 @@ impl<B: HostObject> Objects<B> {
             last,
             settled: last,
             gone: Vec::new(alloc),
+            marks,
         })
     }
 }

@@ -158,14 +158,18 @@ module _ {B : Type 0} where
       let at = subst (λ (v : Option (Placed B)). IsSomeAnd v (λ object. (object.slot ≡ slot) × ((object.item).count ≡ 0))) found.0 h.1 in
       at.1
 
-  -- and the other way round
-  pub entry_idle : (slot : ℕ) (entries : Slab (Entry B)) (index : List (ℕ × ℕ)) (entry : Entry B) → ArePlaced entries index → ((s : ℕ) → IfSome (get entries s) (λ e. object_at e.number index ≡ Some s)) → get entries slot ≡ Some entry → (entry.item).count ≡ 0 → IsIdle slot (placed_in entries index)
-  entry_idle slot entries index entry a whole there none =
+  -- an entry is that of the object of its number
+  pub entry_here : (slot : ℕ) (entries : Slab (Entry B)) (index : List (ℕ × ℕ)) (entry : Entry B) → ArePlaced entries index → ((s : ℕ) → IfSome (get entries s) (λ e. object_at e.number index ≡ Some s)) → get entries slot ≡ Some entry → IsIn entry.number slot (placed_in entries index)
+  entry_here slot entries index entry a whole there =
       let led : object_at entry.number index ≡ Some slot = subst (λ (o : Option (Entry B)). IfSome o (λ e. object_at e.number index ≡ Some slot)) there (whole slot) in
-      let here = slot_from (object_at entry.number (placed_in entries index)) (slots_of entry.number entries index a ∙ led) in
-      let found = item_in entry.number slot entries index entry a there here in
-      (entry.number, subst (λ (v : Option (Placed B)). IsSomeAnd v (λ object. (object.slot ≡ slot) × ((object.item).count ≡ 0))) (sym found.0) (refl, none))
+      slot_from (object_at entry.number (placed_in entries index)) (slots_of entry.number entries index a ∙ led)
     where
       slot_from : (v : Option (Placed B)) → option_map (λ object. object.slot) v ≡ Some slot → IsSomeAnd v (λ object. object.slot ≡ slot)
       slot_from None h = cc
       slot_from (Some p) h = cc
+
+  -- an entry that is counted nowhere is that of an object which is counted nowhere
+  pub entry_idle : (slot : ℕ) (entries : Slab (Entry B)) (index : List (ℕ × ℕ)) (entry : Entry B) → ArePlaced entries index → ((s : ℕ) → IfSome (get entries s) (λ e. object_at e.number index ≡ Some s)) → get entries slot ≡ Some entry → (entry.item).count ≡ 0 → IsIdle slot (placed_in entries index)
+  entry_idle slot entries index entry a whole there none =
+      let found = item_in entry.number slot entries index entry a there (entry_here slot entries index entry a whole there) in
+      (entry.number, subst (λ (v : Option (Placed B)). IsSomeAnd v (λ object. (object.slot ≡ slot) × ((object.item).count ≡ 0))) (sym found.0) (refl, none))

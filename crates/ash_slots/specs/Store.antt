@@ -1,6 +1,5 @@
 -- Objects in their slots, as a list by ascending number.
-use Rattle.std.specs.Prelude.{◌≡◌, ℕ, ◌+◌, ◌≤◌, Bool, true, false, not, List, [], ◌∷◌, length, Option, None, Some, IfSome, IsSomeAnd, Contains, nat_eq, count_by, filter, if◌then◌else◌}
-use Rattle.std.specs.Map.{keys_of}
+use Rattle.std.specs.Prelude.{◌≡◌, ℕ, ◌+◌, ◌≤◌, Bool, true, false, not, List, [], ◌∷◌, length, Option, None, Some, IfSome, IsSomeAnd, Contains, nat_eq, count_by, if◌then◌else◌}
 use Rattle.slab.specs.Slab.{Slab, get}
 use Rattle.ash_host.specs.Objects.{object_at, IsInOrder}
 use Rattle.ash_slots.specs.declared.entry.Item.{Item}
@@ -12,11 +11,13 @@ pub record Placed (B : Type 0) : Type 0 where
   pub waiting : Bool
   pub item : Item B
 
--- the objects by ascending number, how many slots wait for the sweep, and how many can
+-- the objects by ascending number, how many slots wait for the sweep, how many can, and the slot that the next object is
+-- put into
 pub record Store (B : Type 0) : Type 0 where
   pub objects : List (ℕ × Placed B)
   pub pending : ℕ
   pub room : ℕ
+  pub vacant : ℕ
 
 module _ {B : Type 0} where
   -- an entry in a slot
@@ -85,14 +86,6 @@ module _ {B : Type 0} where
   -- an object that waits for the sweep, or doesn't
   abbrev pub with_waiting : Bool → Placed B → Placed B
   with_waiting waiting object = record object { waiting = waiting }
-
-  -- the numbers of those that were made or changed since the marks were cleared
-  abbrev pub marked_in : List (ℕ × Placed B) → List ℕ
-  marked_in objects = keys_of (filter (λ e. (e.1.item).touched) objects)
-
-  -- an object without its mark
-  abbrev pub unmarked : Placed B → Placed B
-  unmarked object = record object { item = record object.item { touched = false } }
 
 -- the entries, with the value at a number changed
 abbrev pub change_at : {A : Type 0} → ℕ → (A → A) → List (ℕ × A) → List (ℕ × A)

@@ -1,9 +1,9 @@
 //! Objects in slots, found by their numbers.
-ghost use Rattle.std.specs.Prelude.{◌≡◌, ◌≤◌, ◌+◌, ◌↔◌, ◌++◌, vec_len, vec_capacity, IsTrue, ℕ, [], true, false, length, option_map, nat_eq, IsSomeAnd, IfSome, IfNone, OnSome, IfOk, IfErr, OnErr, Some, None};
+ghost use Rattle.std.specs.Prelude.{◌≡◌, ◌≤◌, ◌+◌, ◌↔◌, IsTrue, ℕ, [], true, false, length, option_map, nat_eq, IsSomeAnd, IfSome, IfNone, OnSome, IfOk, IfErr, OnErr, Some, None};
 ghost use Rattle.std.specs.Map.{remove_entry};
 ghost use Rattle.ash_host.specs.Objects.{object_at, with_at, IsInOrder};
 ghost use Rattle.std.specs.Borrow.{sem};
-ghost use Rattle.ash_slots.specs.Store.{IsIn, IsOccupied, AreStored, IsIdle, NoneWaits, marked_in, change_in, with_waiting};
+ghost use Rattle.ash_slots.specs.Store.{IsIn, IsOccupied, AreStored, IsIdle, NoneWaits, change_in, with_waiting};
 
 use crate::entry::{Entry, Item};
 use slab::Slab;
@@ -31,6 +31,7 @@ impl<B> Model for Store<B> {
       objects = placed_in s.entries s.index.entries;
       pending = length s.idle.items;
       room = vec_capacity s.idle;
+      vacant = s.entries.vacant_key;
     } };
 
     ghost invariant = { λ s. IsStored s.entries s.index.entries s.idle.items (vec_capacity s.idle) };
@@ -102,6 +103,17 @@ impl<B> Store<B> {
         entry.number
     }
 
+    /// The number of the object in a slot. The slot may be empty.
+    pub fn number_in(&self, slot: usize) -> Option<u64>
+        ensures some { IfSome result (λ number. IsIn number slot self.now.objects) }
+        ensures none { IfNone result (IsOccupied slot self.now.objects → ⊥) }
+    {
+        match self.entries.get(slot) {
+            Some(entry) => Some(entry.number),
+            None => None,
+        }
+    }
+
     /// Whether the object in a slot is counted nowhere. The slot may be empty.
     pub fn is_idle(&self, slot: usize) -> bool
         ensures { IsTrue result ↔ IsIdle slot self.now.objects }
@@ -109,21 +121,6 @@ impl<B> Store<B> {
         match self.entries.get(slot) {
             Some(entry) => entry.item.count == 0,
             None => false,
-        }
-    }
-
-    /// Appends the numbers of the objects that were made or changed since the marks were cleared.
-    pub fn append_marked(&self, numbers: &mut Vec<u64>)
-        requires { vec_len numbers.old + length self.now.objects ≤ vec_capacity numbers.old }
-        ensures { numbers.new.items ≡ numbers.old.items ++ marked_in self.now.objects }
-    {
-        for (number, slot) in &self.index {
-            let Some(entry) = self.entries.get(*slot) else {
-                unreachable!()
-            };
-            if entry.item.touched {
-                numbers.push_reserved(*number);
-            }
         }
     }
 
@@ -171,11 +168,19 @@ impl<B> Store<B> {
         Some(slot)
     }
 
-    /// Puts an object of a new number into a slot. The next sweep looks at it.
+    /// The slot that the next object is put into.
+    pub fn vacant(&self) -> usize
+        ensures { result ≡ self.now.vacant }
+    {
+        self.entries.vacant_key()
+    }
+
+    /// Puts an object of a new number into the vacant slot. The next sweep looks at it.
     pub fn insert(&mut self, number: u64, item: Item<B>) -> Result<usize, AllocFailed<Item<B>>>
         requires { object_at number self.old.objects ≡ None }
         ensures objects { IfOk result (λ slot. self.new.objects
             ≡ with_at number (record { slot = slot; waiting = true; item = item }) self.old.objects) }
+        ensures slot { IfOk result (λ slot. slot ≡ self.old.vacant) }
         ensures unchanged { OnErr result (self.new.objects ≡ self.old.objects) }
         ensures given_back { IfErr result (λ failed. failed.value ≡ item) }
     {

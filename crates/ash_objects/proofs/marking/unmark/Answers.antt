@@ -1,12 +1,15 @@
-use Rattle.std.proofs.Common.{sym, ◌∙◌}
-use Rattle.ash_slots.proofs.Steps.{is_in_from}
-use Rattle.ash_objects.proofs.Touching.{unmarked_at}
+use Rattle.std.proofs.Common.{refl}
+use Rattle.ash_objects.proofs.Touching.{unmarked_at, clear_after, clear_empty}
 use Rattle.ash_objects.proofs.marking.unmark.Goals as goal
 
-pub item_mut-item-requires : goal.item_mut-item-requires
-item_mut-item-requires g c = (c.args.number, is_in_from c.args.number c.in-Some.slot c.args.store.now.objects (sym c.slot.ensures ∙ c.in-Some.is))
+pub returns-in_default-clause-clear : goal.returns-in_default-clause-clear
+returns-in_default-clause-clear g c = clear_empty c.args.slot c.args.store.now.objects (λ n here. c.in_default.ensures.none (n, here))
 
-pub returns : goal.returns
-returns g c =
-    let here = is_in_from c.args.number c.in-Some.slot c.args.store.now.objects (sym c.slot.ensures ∙ c.in-Some.is) in
-    unmarked_at c.in-Some.slot c.args.number c.args.store.now.objects c.item_mut-item.result.now c.item_mut-item.ensures.stored here (c.item_mut-item.ensures.value c.args.number here)
+pub returns-clause-unmarked : goal.returns-clause-unmarked
+returns-clause-unmarked g c =
+    let n = c.in-Some.number in
+    let here = c.in-Some.ensures.some in
+    unmarked_at c.args.slot n c.args.store.now.objects c.item_mut-item.result.now c.item_mut-item.ensures.stored here (c.item_mut-item.ensures.value n here)
+
+pub returns-clause-clear : goal.returns-clause-clear
+returns-clause-clear g c = clear_after c.args.slot _ c.args.store.now.objects refl

@@ -1,10 +1,12 @@
 use Rattle.std.proofs.Common.{vec_len}
+use Rattle.ash_objects.specs.Listing.{AreListed}
 use Rattle.ash_objects.proofs.Putting.{PutState}
 use Rattle.ash_objects.proofs.restoring.put_objects.Given as goal
 
 abbrev pub invariant-loop-object : goal.invariant-loop-object
 invariant-loop-object g l = record {
   state : PutState l.initial.objects.items l.initial.boxes.items l.objects.items l.boxes.items l.store.objects;
+  listed : AreListed l.store.objects l.marks;
 }
 
 -- each turn takes one of them

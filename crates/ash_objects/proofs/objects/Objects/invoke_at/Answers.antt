@@ -1,8 +1,15 @@
 use Rattle.std.proofs.Common.{◌∙◌, refl}
 use Rattle.ash_host.specs.declared.event.Target.TheVariants.{Object}
+use Rattle.ash_slots.specs.Responses.{boxed}
 use Rattle.ash_objects.proofs.Views.{in_view}
 use Rattle.ash_objects.proofs.Boxes.{some_box, table_box, view_box, box_view, called_is}
+use Rattle.ash_objects.proofs.Listed.{slot_within, listed_change, listed_covers}
 use Rattle.ash_objects.proofs.objects.Objects.invoke_at.Goals as goal
+
+pub mark-requires : goal.mark-requires
+mark-requires g c =
+    let at = rw (← c.self.view_is) at c.requires.1 in
+    slot_within c.requires.0 c.args.slot c.self.inside.store.objects _ (in_view c.requires.0 c.args.slot c.self.inside.store.objects at) c.self.invariant.listed
 
 pub invoke_in-answer-requires : goal.invoke_in-answer-requires
 invoke_in-answer-requires g c =
@@ -16,7 +23,10 @@ invariant_of-self g c =
     let l = c.self.inside.store.objects in
     let at = rw (← c.self.view_is) at c.requires.1 in
     let a = c.invoke_in-answer.ensures c.requires.0 (in_view c.requires.0 c.args.slot l at) in
-    rw a.becomes (table_box c.requires.0 l _ _ a.before a.after c.self.invariant a.was)
+    rw a.becomes (record {
+      table = table_box c.requires.0 l _ _ a.before a.after c.self.invariant.table a.was;
+      listed = listed_change c.requires.0 c.args.slot (boxed a.after) l _ (λ p. refl) (in_view c.requires.0 c.args.slot l at) c.mark.ensures.listed (listed_covers l _ _ c.mark.ensures.covers c.self.invariant.listed);
+    })
 
 pub returns-in-NoMemory-clause-answered : goal.returns-in-NoMemory-clause-answered
 returns-in-NoMemory-clause-answered g c = λ number is.
@@ -28,7 +38,7 @@ returns-in-NoMemory-clause-answered g c = λ number is.
       after = a.after;
       was = rw (← c.self.view_is) (box_view number l ∙ a.was);
       responds = a.responds;
-      becomes = rw (← c.self.view_is, a.becomes, view_box number l a.before a.after c.self.invariant.in_order c.self.invariant.counted a.was) refl;
+      becomes = rw (← c.self.view_is, a.becomes, view_box number l a.before a.after c.self.invariant.table.in_order c.self.invariant.table.counted a.was) refl;
     }
 
 pub invariant_of-self-2 : goal.invariant_of-self-2
@@ -36,7 +46,10 @@ invariant_of-self-2 g c =
     let l = c.self.inside.store.objects in
     let at = rw (← c.self.view_is) at c.requires.1 in
     let a = c.invoke_in-answer.ensures c.requires.0 (in_view c.requires.0 c.args.slot l at) in
-    rw a.becomes (table_box c.requires.0 l _ _ a.before a.after c.self.invariant a.was)
+    rw a.becomes (record {
+      table = table_box c.requires.0 l _ _ a.before a.after c.self.invariant.table a.was;
+      listed = listed_change c.requires.0 c.args.slot (boxed a.after) l _ (λ p. refl) (in_view c.requires.0 c.args.slot l at) c.mark.ensures.listed (listed_covers l _ _ c.mark.ensures.covers c.self.invariant.listed);
+    })
 
 pub returns : goal.returns
 returns g c = record {
@@ -49,7 +62,7 @@ returns g c = record {
         after = a.after;
         was = rw (← c.self.view_is) (box_view number l ∙ a.was);
         responds = a.responds;
-        becomes = rw (← c.self.view_is, a.becomes, view_box number l a.before a.after c.self.invariant.in_order c.self.invariant.counted a.was) refl;
+        becomes = rw (← c.self.view_is, a.becomes, view_box number l a.before a.after c.self.invariant.table.in_order c.self.invariant.table.counted a.was) refl;
       };
   called = λ number is. rw (c.push_reserved.ensures.items, c.reserve.ensures.items, c.number-number.ensures number is, called_is (Object number) c.args.method c.invoke_in-answer.result c.in_default.not-NoMemory) refl;
   unchanged = tt;

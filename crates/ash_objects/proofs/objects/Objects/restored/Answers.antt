@@ -5,10 +5,12 @@ use Rattle.ash_host.specs.Objects.{numbers, Lives}
 use Rattle.ash_objects.specs.declared.restoring.TableFault.{TableFault}
 use Rattle.ash_objects.specs.declared.restoring.Stored.{Stored}
 use Rattle.ash_objects.specs.Counting.{words_at, AllLive}
-use Rattle.ash_objects.specs.Restoring.{stored_in, states_in, Enough, draw_boxes, AreBoxesBack, BoxRefused, IsRefused, Service, Object}
+use Rattle.ash_objects.specs.Restoring.{stored_in, states_in, Enough, draw_boxes, AreBoxesBack, BoxRefused, IsRefused, Service, Object, refer_objects}
 use Rattle.ash_objects.proofs.Drawing.{fit_drawn, fit_length, fit_back}
 use Rattle.ash_objects.proofs.Putting.{put_numbers}
 use Rattle.ash_objects.proofs.Stocking.{stock_there, stock_uncounted, stock_table}
+use Rattle.ash_objects.proofs.Listed.{listed_faces}
+use Rattle.ash_objects.proofs.Recounting.{referred_face}
 use Rattle.ash_objects.proofs.Restored.{is_restored}
 use Rattle.ash_objects.proofs.objects.Objects.restored.Goals as goal
 
@@ -84,7 +86,10 @@ invariant_of-result g c =
     let l = c.put_objects.new.store.objects in
     let few : length objects ≤ 4096 = omega (arith, c.requires.few, c.args.objects.ok.0) in
     let all : c.deref-4.result.now ≡ numbers l = c.deref-4.ensures.value ∙ c.in_ok-list.ensures.numbers ∙ ap (λ (os : List Stored). numbers (stored_in os)) c.deref-3.ensures.value ∙ sym (put_numbers objects after l c.in_ok-put_objects.ensures.put) in
-    rw (c.refer_from.ensures, all) (stock_table objects after l c.args.last c.in_ok-put_objects.ensures.put c.requires.numbered few c.requires.short c.requires.alive)
+    rw (c.refer_from.ensures, all) (record {
+      listed = listed_faces (refer_objects (numbers l) l) l _ (λ m. referred_face (numbers l) m l) c.in_ok-put_objects.ensures.listed;
+      table = stock_table objects after l c.args.last c.in_ok-put_objects.ensures.put c.requires.numbered few c.requires.short c.requires.alive;
+    })
 
 pub returns-clause-objects : goal.returns-clause-objects
 returns-clause-objects g c =

@@ -6,13 +6,15 @@ use Rattle.ash_slots.specs.Store.{Placed, IsIn, change_at}
 use Rattle.ash_objects.specs.Counting.{release_all}
 use Rattle.ash_objects.proofs.Views.{in_view}
 use Rattle.ash_objects.proofs.Refilling.{each_some, found_array, array_view, covers_shorter, in_shorter, array_shorter, view_shorter, table_shorter}
+use Rattle.ash_objects.proofs.Releasing.{released_face}
+use Rattle.ash_objects.proofs.Listed.{slot_within, listed_change, listed_covers, listed_faces}
 use Rattle.ash_slots.proofs.Options.{some_if}
 use Rattle.ash_objects.proofs.objects.Objects.shorten.Goals as goal
 
 pub take_elements-words-requires : goal.take_elements-words-requires
 take_elements-words-requires g c =
     let l = c.self.inside.store.objects in
-    let t = c.self.invariant in
+    let t = c.self.invariant.table in
     let n = c.requires.0 in
     let len = c.args.len in
     let a = found_array n l (rw (← c.self.view_is) at c.requires.2) in
@@ -23,7 +25,7 @@ take_elements-words-requires g c =
 pub release_words-requires : goal.release_words-requires
 release_words-requires g c = λ m.
     let l = c.self.inside.store.objects in
-    let t = c.self.invariant in
+    let t = c.self.invariant.table in
     let n = c.requires.0 in
     let len = c.args.len in
     let a = found_array n l (rw (← c.self.view_is) at c.requires.2) in
@@ -38,7 +40,7 @@ release_words-requires g c = λ m.
 pub put_elements-requires : goal.put_elements-requires
 put_elements-requires g c =
     let l = c.self.inside.store.objects in
-    let t = c.self.invariant in
+    let t = c.self.invariant.table in
     let n = c.requires.0 in
     let len = c.args.len in
     let a = found_array n l (rw (← c.self.view_is) at c.requires.2) in
@@ -53,10 +55,16 @@ put_elements-requires g c =
     let put_here = subst (λ (k : List (ℕ × Placed _)). IsIn n c.args.slot k) (sym released) (in_shorter n len a.0 l _ _ t a.1 c.args.slot here) in
     (n, put_here, subst (λ (k : List (ℕ × Placed _)). IsSome (stored_array n k)) (sym released) (array_shorter n len a.0 l _ _ t a.1))
 
+pub mark-requires : goal.mark-requires
+mark-requires g c =
+    let l = c.self.inside.store.objects in
+    let at = rw (← c.self.view_is) at c.requires.1 in
+    slot_within c.requires.0 c.args.slot l _ (in_view c.requires.0 c.args.slot l at) c.self.invariant.listed
+
 pub invariant_of-self : goal.invariant_of-self
 invariant_of-self g c =
     let l = c.self.inside.store.objects in
-    let t = c.self.invariant in
+    let t = c.self.invariant.table in
     let n = c.requires.0 in
     let len = c.args.len in
     let a = found_array n l (rw (← c.self.view_is) at c.requires.2) in
@@ -72,12 +80,18 @@ invariant_of-self g c =
     let put = c.put_elements.ensures n put_here in
     let all : c.put_elements.new.store.objects ≡ change_at n (refilled (take len es)) (release_all (drop len es) (change_at n (refilled []) l)) =
     put ∙ ap (λ (ws : List Word). change_at n (refilled ws) c.release_words.new.store.objects) (c.truncate.ensures ∙ ap (λ (ws : List Word). take len ws) elements) ∙ ap (λ (k : List (ℕ × Placed _)). change_at n (refilled (take len es)) k) released in
-    rw all (table_shorter n len a.0 l _ _ t a.1)
+    let first = listed_covers l _ _ c.mark.ensures.covers c.self.invariant.listed in
+    let emptied = listed_change n c.args.slot (refilled []) l _ (λ p. refl) here c.mark.ensures.listed first in
+    let left = listed_faces (release_all (drop len es) (change_at n (refilled []) l)) (change_at n (refilled []) l) _ (λ m. released_face (drop len es) m (change_at n (refilled []) l)) emptied in
+    rw all (record {
+      table = table_shorter n len a.0 l _ _ t a.1;
+      listed = listed_change n c.args.slot (refilled (take len es)) (release_all (drop len es) (change_at n (refilled []) l)) _ (λ p. refl) (in_shorter n len a.0 l _ _ t a.1 c.args.slot here) c.mark.ensures.listed left;
+    })
 
 pub returns : goal.returns
 returns g c = λ n is.
     let l = c.self.inside.store.objects in
-    let t = c.self.invariant in
+    let t = c.self.invariant.table in
     let len = c.args.len in
     let at = rw (← c.self.view_is) at is in
     let here = in_view n c.args.slot l at in

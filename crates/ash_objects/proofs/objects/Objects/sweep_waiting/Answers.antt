@@ -5,17 +5,25 @@ use Rattle.ash_objects.specs.Counting.{living_in}
 use Rattle.ash_objects.specs.Collecting.{entry_mark, marked_since, marked_drops}
 use Rattle.ash_objects.specs.Sweeping.{gone_from}
 use Rattle.ash_objects.proofs.Collected.{living_mark, table_now, collects_now, gone_marks, drops_is, leaves_reachable, order_now}
+use Rattle.ash_objects.proofs.Listed.{listed_left}
 use Rattle.ash_objects.proofs.objects.Objects.sweep_waiting.Goals as goal
 
 pub invariant_of-self-2 : goal.invariant_of-self-2
 invariant_of-self-2 g c =
-    table_now c.self.inside.store.objects c.collect.new.store.objects c.collect.new.taken.items c.self.invariant.in_order c.self.invariant.counted c.collect.ensures.gone c.self.inside.last c.self.inside.settled c.self.invariant
+    let l = c.self.inside.store.objects in
+    let now = c.collect.new.store.objects in
+    let t = c.self.invariant.table in
+    let h = c.collect.ensures.gone in
+    record {
+      table = table_now l now c.collect.new.taken.items t.in_order t.counted h c.self.inside.last c.self.inside.settled t;
+      listed = listed_left now l _ h.stay c.self.invariant.listed;
+    }
 
 pub returns-clause-collected : goal.returns-clause-collected
 returns-clause-collected g c =
     let l = c.self.inside.store.objects in
     let now = c.collect.new.store.objects in
-    let t = c.self.invariant in
+    let t = c.self.invariant.table in
     let h = c.collect.ensures.gone in
     let marks = map living_mark (gone_from (living_in l) (living_in now)) in
     let sorted = ap (λ (k : List (Entry _)). map entry_mark k) c.deref.ensures.value ∙ c.sort_taken.ensures.order marks (gone_marks l now c.collect.new.taken.items t.in_order t.counted h) in
@@ -28,7 +36,7 @@ pub returns-clause-dropped : goal.returns-clause-dropped
 returns-clause-dropped g c =
     let l = c.self.inside.store.objects in
     let now = c.collect.new.store.objects in
-    let t = c.self.invariant in
+    let t = c.self.invariant.table in
     let h = c.collect.ensures.gone in
     let marks = map living_mark (gone_from (living_in l) (living_in now)) in
     let sorted = ap (λ (k : List (Entry _)). map entry_mark k) c.deref.ensures.value ∙ c.sort_taken.ensures.order marks (gone_marks l now c.collect.new.taken.items t.in_order t.counted h) in
@@ -39,7 +47,7 @@ pub returns-clause-reachable : goal.returns-clause-reachable
 returns-clause-reachable g c = λ rank top ranks.
     let l = c.self.inside.store.objects in
     let now = c.collect.new.store.objects in
-    let t = c.self.invariant in
+    let t = c.self.invariant.table in
     let h = c.collect.ensures.gone in
     let falls = rw (← c.self.view_is) at ranks in
     let collected = collects_now l now c.collect.new.taken.items t.in_order t.counted h c.collect.ensures.done c.self.inside.pool.items c.self.inside.services.items c.self.inside.last c.self.inside.settled c.self.inside.gone.items in

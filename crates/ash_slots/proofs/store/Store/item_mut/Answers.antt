@@ -17,7 +17,7 @@ invariant_of-self-lent g c = λ w.
 pub returns : goal.returns
 returns g c =
     let there = sym c.get_mut.ensures.value ∙ ap option_copied_mut c.in-Some.is in (
-      (refl, λ w. rw (← c.self.view_is) (ap (λ objects. record { objects = objects; pending = length c.self.inside.idle.items; room = vec_capacity c.self.inside.idle }) (written_in (writes_value c.self.inside.entries c.args.slot c.in-Some.entry.now _ there refl) (with_item w) (λ s. refl) c.self.inside.index.entries))),
+      (refl, λ w. rw (← c.self.view_is) (ap (λ objects. record { objects = objects; pending = length c.self.inside.idle.items; room = vec_capacity c.self.inside.idle; vacant = c.self.inside.entries.vacant_key }) (written_in (writes_value c.self.inside.entries c.args.slot c.in-Some.entry.now _ there refl) (with_item w) (λ s. refl) c.self.inside.index.entries))),
       record {
         value = λ number is_in.
             let at = rw (← c.self.view_is) at is_in in
