@@ -10,6 +10,8 @@ mod limits;
 #[cfg(test)]
 mod marks;
 #[cfg(test)]
+mod pools;
+#[cfg(test)]
 mod refusals;
 #[cfg(test)]
 mod reporter;

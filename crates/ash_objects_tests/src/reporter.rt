@@ -1,14 +1,16 @@
-//! A Counter that reports its number when its box is given up.
+//! A Counter that reports which one it is, and its number, when its box is given up.
 
 use ash_host::{Counter, HostAnswer, HostObject, NoMemory, RestoreFault, Word};
 use std::cell::RefCell;
 use std::rc::Rc;
 
-/// The numbers that counters kept when they were given up, in order.
-pub type Log = Rc<RefCell<Vec<i32>>>;
+/// The names of counters that were given up, in order, each with the number that it kept.
+pub type Log = Rc<RefCell<Vec<(u16, i32)>>>;
 
-/// A Counter that reports its number when its box is given up.
+/// A Counter with a name and a kind of its own, which reports its name and its number when its box is given up.
 pub struct Reporter {
+    pub name: u16,
+    pub kind: u16,
     pub counter: Counter,
     pub log: Log,
 }
@@ -16,14 +18,27 @@ pub struct Reporter {
 impl Drop for Reporter {
     fn drop(self) {
         if let Ok(mut log) = self.log.try_borrow_mut() {
-            let _ = log.push(self.counter.get(1).int());
+            let _ = log.push((self.name, self.counter.get(1).int()));
         }
-        let Reporter { counter: _, log: _ } = self;
+        let Reporter {
+            name: _,
+            kind: _,
+            counter: _,
+            log: _,
+        } = self;
+    }
+}
+
+/// Whether these are the counters that were given up, in this order, with their numbers.
+pub fn has_reported(log: &Log, wanted: &[(u16, i32)]) -> bool {
+    match log.try_borrow() {
+        Ok(found) => found.as_slice() == wanted,
+        Err(_) => false,
     }
 }
 
 impl HostObject for Reporter {
-    ghost kind_of = { λ r. ⟦<Counter as HostObject>⟧.kind_of r.counter };
+    ghost kind_of = { λ r. r.kind };
 
     ghost state = { λ r. ⟦<Counter as HostObject>⟧.state r.counter };
 
@@ -32,7 +47,7 @@ impl HostObject for Reporter {
     ghost refuses = { λ r. ⟦<Counter as HostObject>⟧.refuses r.counter };
 
     fn kind(&self) -> u16 {
-        self.counter.kind()
+        self.kind
     }
 
     fn start(&mut self, args: &[Word]) -> HostAnswer {

@@ -5,10 +5,9 @@ ghost use Rattle.ash_host.specs.Objects.{object_at, Lives, AreNumbered, handle};
 ghost use Rattle.ash_slots.specs.Bodies.{words_of};
 ghost use Rattle.ash_objects.specs.Restoring.{stored_in};
 
-use crate::reporter::Log;
-use crate::table::{Table, draw, new_log, new_pool, new_reporter};
+use crate::table::{Table, draw, new_log, new_pool};
 use ash_host::{Event, NoMemory, Word};
-use ash_objects::{Body, Objects, Saved, Script, Stored, TableFault, Words};
+use ash_objects::{Body, Objects, Saved, Script, Stored, Words};
 use std::alloc::Global;
 use std::test::Fail;
 
@@ -30,16 +29,32 @@ fn script(alloc: Global, number: u64, field: u64) -> Result<Stored, NoMemory>
     })
 }
 
-// A counter.
-fn counter(alloc: Global, number: u64, state: &[u8]) -> Result<Stored, NoMemory>
+/// What a state has of a host object.
+#[derive(Clone, Copy)]
+pub struct Kept<'a> {
+    /// The number of its kind.
+    pub kind: u16,
+    /// Its state in bytes.
+    pub state: &'a [u8],
+}
+
+impl<'a> Kept<'a> {
+    /// What a state has of a counter.
+    pub fn counter(state: &'a [u8]) -> Kept<'a> {
+        Kept { kind: 1, state }
+    }
+}
+
+// A host object.
+fn host(alloc: Global, number: u64, kept: Kept<'_>) -> Result<Stored, NoMemory>
     ensures number { IfOk result (λ stored. stored.number ≡ number) }
     ensures words { IfOk result (λ stored. words_of stored.body ≡ []) }
 {
-    let mut bytes = Vec::new(alloc);
-    bytes.extend_from_slice(state)?;
+    let mut state = Vec::new(alloc);
+    state.extend_from_slice(kept.state)?;
     let saved = Saved {
-        kind: 1,
-        state: bytes,
+        kind: kept.kind,
+        state,
     };
     Ok(Stored {
         number,
@@ -47,8 +62,8 @@ fn counter(alloc: Global, number: u64, state: &[u8]) -> Result<Stored, NoMemory>
     })
 }
 
-/// Two objects that hold the counter 3 and one that holds the counter 5, with their states.
-pub fn objects(alloc: Global, third: &[u8], fifth: &[u8]) -> Result<Vec<Stored>, NoMemory>
+/// Two objects that hold the host object 3 and one that holds the host object 5, and these two.
+pub fn objects(alloc: Global, third: Kept<'_>, fifth: Kept<'_>) -> Result<Vec<Stored>, NoMemory>
     ensures numbered { IfOk result (λ objects. AreNumbered 9 (stored_in objects.items)) }
     ensures few { IfOk result (λ objects. vec_len objects ≤ 4096) }
     ensures short { IfOk result (λ objects. (number : ℕ) → IfSome (object_at number (stored_in objects.items)) (λ body. length (words_of body) ≤ 4096)) }
@@ -58,37 +73,27 @@ pub fn objects(alloc: Global, third: &[u8], fifth: &[u8]) -> Result<Vec<Stored>,
     let mut objects = Vec::new(alloc);
     objects.push(script(alloc, 1, 3)?)?;
     objects.push(script(alloc, 2, 5)?)?;
-    objects.push(counter(alloc, 3, third)?)?;
+    objects.push(host(alloc, 3, third)?)?;
     objects.push(script(alloc, 4, 3)?)?;
-    objects.push(counter(alloc, 5, fifth)?)?;
+    objects.push(host(alloc, 5, fifth)?)?;
     Ok(objects)
 }
 
-// A table from that state, over so many free counters and one that is a service.
-fn restored(
-    alloc: Global,
-    log: &Log,
-    counters: usize,
-    third: &[u8],
-    service: &[u8],
-) -> Result<Result<Table, TableFault>, Fail> {
-    let mut state = Vec::new(alloc);
-    state.extend_from_slice(service)?;
-    let mut states = Vec::new(alloc);
-    states.push(state)?;
-    let mut services = Vec::new(alloc);
-    services.push(new_reporter(log)?)?;
-    let pool = new_pool(alloc, log, counters)?;
-    let objects = objects(alloc, third, &[5, 0, 0, 0])?;
-    Ok(Objects::restored(alloc, objects, 9, &states, pool, services))
+// A table from that state, over three counters.
+fn restored(alloc: Global) -> Result<Table, Fail> {
+    let log = new_log(alloc, 3)?;
+    let pool = new_pool(alloc, &log, 3)?;
+    let objects = objects(
+        alloc,
+        Kept::counter(&[3, 0, 0, 0]),
+        Kept::counter(&[5, 0, 0, 0]),
+    )?;
+    Ok(Objects::restored(alloc, objects, 9, &[], pool, Vec::new(alloc))?)
 }
 
 #[test]
 fn counts_of_a_state_are_its_handles(rt: HostRuntime) -> Result<(), Fail> {
-    let log = new_log(rt.alloc())?;
-    let Ok(objects) = restored(rt.alloc(), &log, 3, &[3, 0, 0, 0], &[8, 0, 0, 0])? else {
-        return Err("it was refused")?;
-    };
+    let objects = restored(rt.alloc())?;
     assert_eq!(rt; objects.count(1), 0);
     assert_eq!(rt; objects.count(3), 2);
     assert_eq!(rt; objects.count(5), 1);
@@ -98,11 +103,8 @@ fn counts_of_a_state_are_its_handles(rt: HostRuntime) -> Result<(), Fail> {
 
 #[test]
 fn numbers_rise_from_the_last_of_a_state(rt: HostRuntime) -> Result<(), Fail> {
-    let log = new_log(rt.alloc())?;
-    let Ok(mut objects) = restored(rt.alloc(), &log, 3, &[3, 0, 0, 0], &[8, 0, 0, 0])? else {
-        return Err("it was refused")?;
-    };
     let mut events = Vec::new(rt.alloc());
+    let mut objects = restored(rt.alloc())?;
     assert_eq!(rt; draw(&mut objects, 1, &mut events)?, 10);
     objects.sweep(&mut events)?;
     let expected = [
@@ -112,43 +114,5 @@ fn numbers_rise_from_the_last_of_a_state(rt: HostRuntime) -> Result<(), Fail> {
         Event::Dropped(10),
     ];
     assert_eq!(rt; events.as_slice(), expected.as_slice());
-    Ok(())
-}
-
-// Why no table is made.
-fn fault(
-    alloc: Global,
-    counters: usize,
-    third: &[u8],
-    service: &[u8],
-) -> Result<Option<TableFault>, Fail> {
-    let log = new_log(alloc)?;
-    Ok(restored(alloc, &log, counters, third, service)?.err())
-}
-
-#[test]
-fn a_short_pool_is_reported_first(rt: HostRuntime) -> Result<(), Fail> {
-    assert_eq!(rt;
-        fault(rt.alloc(), 1, &[3], &[3])?,
-        Some(TableFault::PoolShort(1))
-    );
-    Ok(())
-}
-
-#[test]
-fn a_refused_service_is_reported_next(rt: HostRuntime) -> Result<(), Fail> {
-    assert_eq!(rt;
-        fault(rt.alloc(), 2, &[3], &[3])?,
-        Some(TableFault::RestoreRefused(0))
-    );
-    Ok(())
-}
-
-#[test]
-fn a_refused_object_is_reported(rt: HostRuntime) -> Result<(), Fail> {
-    assert_eq!(rt;
-        fault(rt.alloc(), 2, &[3], &[8, 0, 0, 0])?,
-        Some(TableFault::RestoreRefused(3))
-    );
     Ok(())
 }

@@ -13,8 +13,8 @@ static LET_GO: Sequence<'static> = Sequence {
         Event::Called(Target::Object(1), 1),
         Event::Dropped(1),
     ],
-    given_up: &[2],
-    with_the_table: &[2],
+    given_up: &[(1, 2)],
+    with_the_table: &[(1, 2)],
 };
 
 #[test]
@@ -40,8 +40,8 @@ static EACH: Sequence<'static> = Sequence {
         Event::Called(Target::Object(2), 1),
         Event::Dropped(2),
     ],
-    given_up: &[1, 7],
-    with_the_table: &[1, 7],
+    given_up: &[(1, 1), (2, 7)],
+    with_the_table: &[(1, 1), (2, 7)],
 };
 
 #[test]
@@ -71,8 +71,8 @@ static ASCENDING: Sequence<'static> = Sequence {
         Event::Dropped(3),
         Event::Dropped(5),
     ],
-    given_up: &[3, 5],
-    with_the_table: &[3, 5, 0],
+    given_up: &[(1, 3), (2, 5)],
+    with_the_table: &[(1, 3), (2, 5), (3, 0)],
 };
 
 #[test]
@@ -99,7 +99,7 @@ static CHAIN: Sequence<'static> = Sequence {
     ],
     events: &[Event::Drew(4)],
     given_up: &[],
-    with_the_table: &[7],
+    with_the_table: &[(1, 7)],
 };
 
 #[test]
@@ -116,8 +116,8 @@ static ONCE: Sequence<'static> = Sequence {
         Step::LacksKind(2),
     ],
     events: &[Event::Drew(1), Event::Dropped(1)],
-    given_up: &[1],
-    with_the_table: &[1],
+    given_up: &[(1, 1)],
+    with_the_table: &[(1, 1)],
 };
 
 #[test]
@@ -133,8 +133,8 @@ static RAISED: Sequence<'static> = Sequence {
         Event::Called(Target::Object(1), 2),
         Event::Dropped(1),
     ],
-    given_up: &[1],
-    with_the_table: &[1],
+    given_up: &[(1, 1)],
+    with_the_table: &[(1, 1)],
 };
 
 #[test]
@@ -180,8 +180,8 @@ static OVER_ITSELF: Sequence<'static> = Sequence {
         Step::SweepBut(1),
     ],
     events: &[Event::Drew(2), Event::Dropped(2)],
-    given_up: &[1],
-    with_the_table: &[1],
+    given_up: &[(1, 1)],
+    with_the_table: &[(1, 1)],
 };
 
 #[test]

@@ -1,6 +1,6 @@
 //! What a test does with a table, step by step: the steps are data, so that the calls are proved once and not in each test.
 
-use crate::reporter::Log;
+use crate::reporter::has_reported;
 use crate::table::{Table, draw, hold, invoke, make, new_table, set_field, sweep_but};
 use ash_host::{Event, HostAnswer, Word};
 use ash_objects::MakeFault;
@@ -37,13 +37,13 @@ pub enum Step {
 
 /// Steps over a table with so many free counters, and what they must leave.
 pub struct Sequence<'a> {
-    pub counters: usize,
+    pub counters: u16,
     pub steps: &'a [Step],
     pub events: &'a [Event],
-    /// The values of the counters that were given up, in order.
-    pub given_up: &'a [i32],
+    /// The names and numbers of the counters that were given up, in order.
+    pub given_up: &'a [(u16, i32)],
     /// The same, once the table is gone too.
-    pub with_the_table: &'a [i32],
+    pub with_the_table: &'a [(u16, i32)],
 }
 
 fn makes(alloc: Global, objects: &mut Table, fields: usize, number: u64) -> Result<bool, Fail> {
@@ -105,14 +105,6 @@ fn take(
 
 fn check_true(rt: &impl Abort, found: bool, what: &str, number: usize) {
     assert!(rt; found, "{what} {number}");
-}
-
-// Whether these are the values that counters reported when they were given up.
-fn has_reported(log: &Log, wanted: &[i32]) -> bool {
-    match log.try_borrow() {
-        Ok(found) => found.as_slice() == wanted,
-        Err(_) => false,
-    }
 }
 
 /// Takes the steps in order, and looks at what each comes to and at what they leave.

@@ -6,7 +6,7 @@ ghost use Rattle.ash_objects.specs.Arrays.{array_at, elements_at};
 ghost use Rattle.ash_objects.specs.Responses.{box_at};
 
 use crate::reporter::{Log, Reporter};
-use ash_host::{Counter, Event, HostAnswer, Word};
+use ash_host::{Counter, Event, HostAnswer, NoMemory, Word};
 use ash_objects::{Body, MakeFault, Objects, Words};
 use std::alloc::Global;
 use std::cell::RefCell;
@@ -15,31 +15,35 @@ use std::test::Fail;
 
 pub type Table = Objects<Reporter>;
 
-/// What counters report to.
-pub fn new_log(alloc: Global) -> Result<Log, Fail> {
-    Ok(Rc::new(alloc, RefCell::new(Vec::new(alloc)))?)
+/// What counters report to, with room for so many.
+pub fn new_log(alloc: Global, many: usize) -> Result<Log, NoMemory> {
+    let mut names = Vec::new(alloc);
+    names.reserve(many)?;
+    Ok(Rc::new(alloc, RefCell::new(names))?)
 }
 
-/// A counter that reports to a log.
-pub fn new_reporter(log: &Log) -> Result<Reporter, Fail> {
+/// A counter of a kind that reports to a log under a name.
+pub fn new_reporter(log: &Log, name: u16, kind: u16) -> Result<Reporter, NoMemory> {
     Ok(Reporter {
+        name,
+        kind,
         counter: Counter::new(),
         log: log.clone()?,
     })
 }
 
-/// So many counters.
-pub fn new_pool(alloc: Global, log: &Log, counters: usize) -> Result<Vec<Reporter>, Fail> {
+/// So many counters of kind 1, with the names from 1 on.
+pub fn new_pool(alloc: Global, log: &Log, counters: u16) -> Result<Vec<Reporter>, NoMemory> {
     let mut pool = Vec::new(alloc);
-    for _ in 0..counters {
-        pool.push(new_reporter(log)?)?;
+    for place in 0..counters {
+        pool.push(new_reporter(log, place + 1, 1)?)?;
     }
     Ok(pool)
 }
 
 /// A table with so many free counters, and what they report to.
-pub fn new_table(alloc: Global, counters: usize) -> Result<(Table, Log), Fail> {
-    let log = new_log(alloc)?;
+pub fn new_table(alloc: Global, counters: u16) -> Result<(Table, Log), NoMemory> {
+    let log = new_log(alloc, usize::from(counters))?;
     let pool = new_pool(alloc, &log, counters)?;
     Ok((Objects::new(alloc, pool, Vec::new(alloc)), log))
 }
@@ -78,7 +82,7 @@ pub fn is_host<B>(objects: &Objects<B>, number: u64) -> bool
 }
 
 /// Whether it is an array that lives.
-pub fn is_array(objects: &Table, number: u64) -> bool
+pub fn is_array<B>(objects: &Objects<B>, number: u64) -> bool
     ensures array { IsTrue result → IsSome (array_at number objects.now) }
     ensures elements { IsTrue result → IsSome (elements_at number objects.now) }
 {
@@ -86,7 +90,7 @@ pub fn is_array(objects: &Table, number: u64) -> bool
 }
 
 /// How many words an object holds.
-pub fn words_in(objects: &Table, number: u64) -> usize {
+pub fn words_in<B>(objects: &Objects<B>, number: u64) -> usize {
     match objects.body(number) {
         Some(body) => body.words().len(),
         None => 0,
