@@ -19,6 +19,7 @@ checks() {
 }
 
 checks 0 "ok" ""
+checks 0 "ok" "int n = 2;"
 checks 0 "ok" "int n = 2; int f(int k) { n += k; return n; }"
 checks 0 "ok" "bool b = true; int64 n = 3; class A { int k; }"
 checks 0 "ok" "class Box { Counter@ c; }"

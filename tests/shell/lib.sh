@@ -1,6 +1,6 @@
 # What the files beside this one share. Each of them is one subject, and finds an empty folder in $scratch.
 
-ashd=${ASHD:-$top/crates/ashd/out/ashd}
+ashd=$(realpath -m "${ASHD:-$top/crates/ashd/out/ashd}")
 passed=0
 failed=0
 
@@ -30,9 +30,9 @@ ends() {
     verdict $? "$name (status $was, $(cat "$scratch/error"))"
 }
 
-# holds NAME TEXT: the output of the last run was this
+# holds NAME TEXT: the output of the last run was this, with a line feed after it where it isn't empty
 holds() {
-    [ "$(cat "$scratch/output")" = "$2" ]
+    printf '%s' "${2:+$2$'\n'}" | cmp -s - "$scratch/output"
     verdict $? "$1: $(head -c 300 "$scratch/output")"
 }
 
@@ -48,9 +48,53 @@ keep() {
     cp "$1/ash.a" "$1/ash.b" "$2"
 }
 
-# put BYTE OFFSET FILE: overwrites one byte, which is written as for printf
+# put BYTES OFFSET FILE: overwrites bytes, which are written as for printf
 put() {
     printf "$1" | dd of="$3" bs=1 seek="$2" conv=notrunc status=none
+}
+
+# is_wanted WANTED STATUS OUTPUT: a check that ends with this status and prints this finds what is wanted: `ok`, a fault, or
+# `read`, which is of a script that can be parsed, whatever is found of its types or can't be run so far
+is_wanted() {
+    case $1 in
+        ok) [ "$2/$3" = "0/ok"$'\n' ] ;;
+        read) [[ $2/$3 = "0/ok"$'\n' || $2/$3 =~ ^1/refused\ (199|3[01][0-9])\ [A-Za-z0-9\ ]+$'\n'$ ]] ;;
+        *) [ "$2/$3" = "1/refused $1"$'\n' ] ;;
+    esac
+}
+
+# row PLACE WANTED SOURCE: a check of this source finds what is wanted, and prints nothing further
+row() {
+    local status output error found
+    printf '%s' "$3" > "$scratch/script"
+    "$ashd" check "$scratch/script" > "$scratch/output" 2> "$scratch/error"
+    status=$?
+    IFS= read -r -d '' output < "$scratch/output"
+    IFS= read -r -d '' error < "$scratch/error"
+    found=$output${error:+standard error: $error}
+    is_wanted "$2" "$status" "$output" && [ -z "$error" ]
+    verdict $? "$1: $2 | $3 (status $status: ${found//$'\n'/; })"
+}
+
+# rows_of FILE COMMAND..: calls the command with the place of each row, what is before its first bar between two spaces, and
+# what is after that. A line is empty, a comment, which begins with `# `, or a row.
+rows_of() {
+    local file=$1 lines=() line number=0 rows=0
+    shift
+    mapfile -t lines < "$file"
+    for line in "${lines[@]}"; do
+        number=$((number + 1))
+        case $line in
+            '' | '# '*) ;;
+            *' | '*)
+                rows=$((rows + 1))
+                "$@" "$file:$number" "${line%% | *}" "${line#* | }"
+                ;;
+            *) verdict 1 "$file:$number: a row without a bar: $line" ;;
+        esac
+    done
+    [ "$rows" -gt 0 ]
+    verdict $? "$file: a file without rows"
 }
 
 # registered_text: the text of what ashd registers, which has 191 bytes

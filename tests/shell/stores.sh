@@ -11,7 +11,10 @@ verdict $? "nothing is made where nothing is served"
 ends "create in a folder that is not there" 1 "ashd: 507 DeviceFailed" create "$scratch/none"
 ends "serve a folder that is not there" 1 "ashd: 507 DeviceFailed" serve "$scratch/none" --budget 1000 --counters 0
 touch "$store/ash.a" "$store/ash.b"
+asks 'seq\n'
 ends "serve two empty files" 1 "ashd: 501 NoGeneration" serve "$store" --budget 1000 --counters 0
+holds "no reply where there is no store" ""
+asks ''
 ends "create" 0 "" create "$store"
 holds "the word of create" created
 same "the bytes of an empty store" "$store" "$scratch/empty"
@@ -70,6 +73,10 @@ asks 'load m 0\n\n'
 ends "serve a load" 0 "" serve "$scratch/bytes" --budget 1000 --counters 0
 same "the bytes after a load" "$scratch/bytes" "$wanted"
 sizes "a load" "$scratch/bytes" $((242 + 234)) 1
+asks 'snapshot x\nseq\n'
+ends "serve what is no snapshot" 0 "" serve "$scratch/bytes" --budget 1000 --counters 0
+holds "what is no snapshot" $'refused 601 BadRequest\nok 1'
+same "it changes nothing" "$scratch/bytes" "$wanted"
 generation 2 228 1 "$module" > "$wanted/ash.b"
 asks 'snapshot\nsnapshot x\nseq\n'
 ends "serve a snapshot" 0 "" serve "$scratch/bytes" --budget 1000 --counters 0
@@ -109,3 +116,10 @@ holds "what is found in a store of an older ashd" $'ok 7\nok 2\nok 8 seq 3'
 asks 'get m n\nseq\n'
 ends "serve it again" 0 "" serve "$scratch/older" --budget 1000 --counters 0
 holds "what is found in it again" $'ok 8\nok 3'
+
+# A generation of the last number: no other comes after it.
+empty_store "$scratch/last"
+put '\377\377\377\377\377\377\377\377' 9 "$scratch/last/ash.a"
+asks 'snapshot\nload m 0\n\nsnapshot\nseq\n'
+ends "serve the last generation" 0 "" serve "$scratch/last" --budget 1000 --counters 0
+holds "the last generation" $'refused 511 GenerationSpent\nok seq 1\nrefused 511 GenerationSpent\nok 1'

@@ -1,7 +1,7 @@
 //! Sources of 65,536 bytes: their trees are shallow, so that comparing and dropping one takes little stack.
 
 use crate::compare::{check_number, check_text, check_true};
-use crate::grammar::{parsed, printed};
+use crate::declarations::{parsed, printed};
 use crate::tokens::push_times;
 use ash_lex::{MAX_SOURCE, Token, lex};
 use std::alloc::{AllocError, Global};
@@ -51,53 +51,25 @@ fn check_rows(rt: &impl Abort, alloc: Global, rows: &[(&str, &str, &str)]) -> Re
 }
 
 #[test]
-fn largest_sources_of_items(rt: HostRuntime) -> Result<(), Fail> {
+fn largest_sources(rt: HostRuntime) -> Result<(), Fail> {
     let rows = &[
         ("", " ", ""),
         ("", ";", ""),
         ("", "int a;", ""),
         ("int a", ",a", ";"),
         ("class A {", "A() {}", "}"),
-    ];
-    check_rows(&rt, rt.alloc(), rows)
-}
-
-#[test]
-fn largest_sources_of_statements(rt: HostRuntime) -> Result<(), Fail> {
-    let rows = &[
         ("void f() {", ";", "}"),
         ("void f() {", "{}", "}"),
         ("void f() { switch (a) {", " case 1: ;", "} }"),
-    ];
-    check_rows(&rt, rt.alloc(), rows)
-}
-
-#[test]
-fn largest_sources_of_expressions(rt: HostRuntime) -> Result<(), Fail> {
-    let rows = &[
         ("int a = 1", "+1", ";"),
         ("int a = 1", " || 1 && 2 + 3", ";"),
         ("int a = b", ".c", ";"),
         ("int a = b", "++", ";"),
         ("int a = f(1", ",2", ");"),
-    ];
-    check_rows(&rt, rt.alloc(), rows)
-}
-
-#[test]
-fn largest_sources_of_indexes_and_casts(rt: HostRuntime) -> Result<(), Fail> {
-    let rows = &[
         ("int a = b", "[1]", ";"),
         ("int a = b", "[c[d]]", ";"),
         ("int a = b", "[array<int>(1)[c]]", ";"),
         ("int a = 1", "+cast<A>(b)[c]", ";"),
-    ];
-    check_rows(&rt, rt.alloc(), rows)
-}
-
-#[test]
-fn largest_sources_of_types(rt: HostRuntime) -> Result<(), Fail> {
-    let rows = &[
         ("", "array<A@>@ a;", ""),
         ("void f(array<int> a", ", array<A@>@ a", ") {}"),
         ("void f(int a", ", int a", ") {}"),

@@ -1,16 +1,14 @@
 //! Tests of the front end: tokens, trees and registrations. They are in a crate of their own, so that the crates with the
 //! code are proved once.
 //!
-//! In reading order: `compare`, with the comparisons; `tokens`, `signs` and `words`, of `ash_lex`; `grammar`, `trees`,
-//! `depth`, `truncated` and `largest`, of `ash_parse`; `registrations` and `registry_limits`, of `ash_registry`.
+//! In reading order: `compare`, with the comparisons; `tokens`, `signs` and `words`, of `ash_lex`; `declarations`, `trees`
+//! and `largest`, of `ash_parse`; `registrations` and `registry_limits`, of `ash_registry`.
 #![tactic(auto)]
 
 #[cfg(test)]
 mod compare;
 #[cfg(test)]
-mod depth;
-#[cfg(test)]
-mod grammar;
+mod declarations;
 #[cfg(test)]
 mod largest;
 #[cfg(test)]
@@ -23,7 +21,5 @@ mod signs;
 mod tokens;
 #[cfg(test)]
 mod trees;
-#[cfg(test)]
-mod truncated;
 #[cfg(test)]
 mod words;

@@ -1,15 +1,18 @@
 //! Trees, written out by hand. `@8` is the place of offset 8 in the first line, `@8/2` of offset 8 in the second.
 
 use crate::compare::check_text;
-use crate::grammar::parsed;
+use crate::declarations::parsed;
 use crate::tokens::printed_fault;
 use ash_lex::{Token, lex};
+use ash_parse::{has_one_fault, has_one_module};
 use std::alloc::{AllocError, Global};
 use std::process::Abort;
 use std::test::*;
 
 /// What `{:?}` prints of the tree of these tokens, or of their fault.
 fn printed_tree(alloc: Global, tokens: &[Token]) -> Result<String, AllocError> {
+    has_one_module(tokens);
+    has_one_fault(tokens);
     match parsed(alloc, tokens) {
         Ok(tree) => format!(in alloc; "{tree:?}"),
         Err(fault) => format!(in alloc; "{fault}"),

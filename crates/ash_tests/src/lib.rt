@@ -1,20 +1,15 @@
-//! Tests of serving: requests served from bytes to bytes, with the replies that were worked out by hand, and stores with
-//! what the program registers. It has tests alone, so that the crates with the code are proved once.
+//! Tests of serving, where a disk, a reader or a writer fails and after a crash, and of stores with what the program
+//! registers. It has tests alone, so that the crates with the code are proved once; what requests to the program itself show
+//! is in the transcripts and rows of `tests/`.
 //!
 //! `hosts` makes the hosts of the others and has them serve requests.
 #![tactic(auto)]
 
 #[cfg(test)]
-mod durable_rows;
-#[cfg(test)]
-mod grammar;
+mod disks;
 #[cfg(test)]
 mod hosts;
 #[cfg(test)]
 mod registered;
 #[cfg(test)]
-mod rows;
-#[cfg(test)]
 mod serving;
-#[cfg(test)]
-mod typing;

@@ -1,4 +1,4 @@
-//! Stores with what the program registers: the text in their bytes, and opening them with another registry.
+//! Stores with what the program registers, which are opened again, with another registry too.
 
 use crate::hosts::{check, closed, new_host, opened};
 use ash_disk::MemoryDisk;
@@ -18,10 +18,6 @@ static EMPTY: [u8; 51] = [
     0x00, 0x00, 0x00, 0x00, 0x00, 0x00, 0x00, 0x00, 0x00, 0x00, 0x00, 0x00, 0x00, 0x00, 0x00, 0x00,
     0x00, 0x00, 0x00,
 ];
-
-/// The text of the program's registrations.
-const TEXT: &[u8] =
-    b"type Counter 1\nfactory Counter (int)\nmethod Counter 1 int add(int)\nmethod Counter 2 void fail(int)\nproperty Counter 1 int value\nservice 2\nfunction 0 1 int tally(int)\nfunction 0 2 int total()\n";
 
 /// The program's registrations, and one more method.
 fn one_more(alloc: Global) -> Result<Registry, RegistryFault> {
@@ -78,28 +74,6 @@ fn reopened(host: Host<MemoryDisk>) -> Result<Host<MemoryDisk>, StoreFault> {
     host.reopen().map_err(|refused| refused.fault)
 }
 
-/// The file of an empty store with that text: its image is longer by the text, which comes after its length, and the rest
-/// is that of an empty store.
-fn with_text(alloc: Global) -> Result<Vec<u8>, AllocError> {
-    let mut file = Vec::from_slice(alloc, &EMPTY[..17])?;
-    file.push(0x1d + 191)?;
-    file.extend_from_slice(&EMPTY[18..23])?;
-    file.push(191)?;
-    file.extend_from_slice(&EMPTY[24..27])?;
-    file.extend_from_slice(TEXT)?;
-    file.extend_from_slice(&EMPTY[27..])?;
-    Ok(file)
-}
-
-#[test]
-fn the_text_in_a_new_store(rt: HostRuntime) -> Result<(), Fail> {
-    let (first, second) = closed(made(rt.alloc())?);
-    let wanted = with_text(rt.alloc())?;
-    check(&rt, &first.bytes(), &wanted.as_slice(), "the first disk");
-    check(&rt, &second.bytes(), &[0].as_slice(), "the second disk");
-    Ok(())
-}
-
 /// The disks of a store with the program's registrations and a module, which were handed back where it was opened with
 /// one method more.
 fn refused_disks(rt: &impl Abort, alloc: Global) -> Result<(MemoryDisk, MemoryDisk), Fail> {
@@ -145,44 +119,11 @@ fn one_more_method_is_another_interface(rt: HostRuntime) -> Result<(), Fail> {
     Ok(())
 }
 
-static TAKEN: [&str; 3] = [
-    "int tally = 1;",
-    "int Counter = 1;",
-    "int total() { return 1; }",
-];
-
 #[test]
-fn a_registered_name_is_taken(rt: HostRuntime) -> Result<(), Fail> {
-    let mut host = made(rt.alloc())?;
-    for source in &TAKEN {
-        check(
-            &rt,
-            &load(&mut host, source),
-            &Err(Refusal::NameTaken { at: 4 }),
-            source,
-        );
-    }
-    // A host that is opened again has what was registered.
-    let mut host = reopened(host)?;
+fn a_host_that_is_opened_again_has_what_was_registered(rt: HostRuntime) -> Result<(), Fail> {
+    let mut host = reopened(made(rt.alloc())?)?;
     let taken = load(&mut host, "int tally = 1;");
-    check(
-        &rt,
-        &taken,
-        &Err(Refusal::NameTaken { at: 4 }),
-        "opened again",
-    );
-    check(
-        &rt,
-        &load(&mut host, "int add = 1;"),
-        &Ok(1),
-        "another name",
-    );
-    let (first, _) = closed(host);
-    check(
-        &rt,
-        &refusal_with_program(rt.alloc(), first.bytes())?,
-        &None,
-        "its file",
-    );
+    let wanted = Err(Refusal::NameTaken { at: 4 });
+    check(&rt, &taken, &wanted, "a registered name");
     Ok(())
 }

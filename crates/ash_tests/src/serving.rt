@@ -1,13 +1,12 @@
-//! The run over slices and vectors, and over readers and writers that fail.
+//! Serving and checking over readers and writers that fail, and a store that is served again from its disks.
 
-use crate::hosts::{Row, check, check_rows, check_text, closed, ending, new_host, opened, replies};
+use crate::hosts::{check, check_text, closed, ending, new_host, opened, replies};
 use ash_disk::{MemoryDisk, Survives};
-use ash_durable::StoreFault;
 use ash_registry::Registry;
 use ash_serve::RunFault;
 use ash_serve::program::check::end_check;
 use ash_serve::program::fault::Fault;
-use ash_serve::program::service::{Ended, serve_new, serve_stored};
+use ash_serve::program::service::{Ended, serve_stored};
 use std::alloc::Global;
 use std::io;
 use std::io::{ErrorKind, Read, Write};
@@ -66,25 +65,6 @@ const INPUT: &[u8] =
 const OUTPUT: &str =
     "ok 0\nrefused 601 BadRequest\nrefused 401 NoModule\nrefused 401 NoModule\nrefused 104 Unexpected 3\nrefused 601 BadRequest\nrefused 601 BadRequest\nrefused 601 BadRequest\nok\n";
 
-static EACH_LINE: [Row; 1] = [Row {
-    budget: 1000,
-    source: None,
-    requests: INPUT,
-    replies: OUTPUT,
-    end: Ok(()),
-}];
-
-#[test]
-fn answers_each_line(rt: HostRuntime) -> Result<(), Fail> {
-    check_rows(&rt, rt.alloc(), &EACH_LINE)
-}
-
-/// What is written where a new store is served.
-fn served_new(alloc: Global, written: &mut Vec<u8>) -> Result<(), Fault> {
-    let (a, b) = (MemoryDisk::new(alloc), MemoryDisk::new(alloc));
-    serve_new(alloc, a, b, Registry::new(alloc), INPUT, written, 1000).end
-}
-
 /// What is written where the store on two disks is served, and how that ends.
 fn served_stored(
     alloc: Global,
@@ -104,26 +84,6 @@ fn stored(alloc: Global) -> Result<(MemoryDisk, MemoryDisk), Fail> {
 }
 
 #[test]
-fn serves_a_new_store_and_one_that_is_there(rt: HostRuntime) -> Result<(), Fail> {
-    let alloc = rt.alloc();
-    let mut written = Vec::new(alloc);
-    served_new(alloc, &mut written)?;
-    check(&rt, &written.as_slice(), &OUTPUT.as_bytes(), "a new store");
-
-    let (a, b) = stored(alloc)?;
-    let mut written = Vec::new(alloc);
-    served_stored(alloc, a, b, b"get m n\nseq\n", &mut written).end?;
-    check(
-        &rt,
-        &written.as_slice(),
-        &b"ok 7\nok 1\n".as_slice(),
-        "a store that is there",
-    );
-    serves_no_store(&rt, alloc);
-    Ok(())
-}
-
-#[test]
 fn serves_again_from_the_disks_that_it_hands_back(rt: HostRuntime) -> Result<(), Fail> {
     let alloc = rt.alloc();
     let (a, b) = stored(alloc)?;
@@ -134,54 +94,6 @@ fn serves_again_from_the_disks_that_it_hands_back(rt: HostRuntime) -> Result<(),
     let wanted = b"ok seq 2\nok 7\nok 8\nok 2\n".as_slice();
     check(&rt, &written.as_slice(), &wanted, "a store that was served");
     Ok(())
-}
-
-/// Compares what serving tells and writes where there is no store.
-fn serves_no_store(rt: &impl Abort, alloc: Global) {
-    let (a, b) = (MemoryDisk::new(alloc), MemoryDisk::new(alloc));
-    let mut written = Vec::new(alloc);
-    let fault = match served_stored(alloc, a, b, INPUT, &mut written).end {
-        Err(Fault::Store(fault)) => Some(fault),
-        _ => None,
-    };
-    let wanted = (Some(StoreFault::NoGeneration), 0);
-    check(rt, &(fault, written.len()), &wanted, "no store");
-}
-
-static CUT: [Row; 4] = [
-    Row {
-        budget: 1000,
-        source: None,
-        requests: b"seq\nse",
-        replies: "ok 0\n",
-        end: Err(RunFault::Truncated),
-    },
-    Row {
-        budget: 1000,
-        source: None,
-        requests: b"seq\nload m 4\nabc",
-        replies: "ok 0\n",
-        end: Err(RunFault::Truncated),
-    },
-    Row {
-        budget: 1000,
-        source: None,
-        requests: b"seq\nload m 3\nabc",
-        replies: "ok 0\n",
-        end: Err(RunFault::Truncated),
-    },
-    Row {
-        budget: 1000,
-        source: None,
-        requests: b"seq\nload m 3\nabcd",
-        replies: "ok 0\n",
-        end: Err(RunFault::Truncated),
-    },
-];
-
-#[test]
-fn a_cut_request_is_reported(rt: HostRuntime) -> Result<(), Fail> {
-    check_rows(&rt, rt.alloc(), &CUT)
 }
 
 /// Compares how a run ended after so many reads or writes, and that what was written is a front of the output.
@@ -305,18 +217,8 @@ fn check_written(
 }
 
 #[test]
-fn a_check_ends_with_a_line_and_a_status(rt: HostRuntime) -> Result<(), Fail> {
+fn a_check_whose_file_or_line_fails(rt: HostRuntime) -> Result<(), Fail> {
     let registry = Registry::new(rt.alloc());
-    for (source, line, status) in [
-        ("int n = 2;", "ok\n", 0),
-        ("int f() { }", "refused 307 NoReturn 4\n", 1),
-    ] {
-        let mut written = Vec::new(rt.alloc());
-        let end = end_check(rt.alloc(), &registry, source.as_bytes(), &mut written);
-        assert_eq!(rt; written.as_slice(), line.as_bytes(), "of {source}");
-        assert_eq!(rt; end.status, status, "of {source}");
-        assert!(rt; end.fault.is_none(), "of {source}");
-    }
     let unread = Failing {
         bytes: b"int n = 2;",
         left: 4,

@@ -1,5 +1,4 @@
-//! Requests and their replies, byte for byte, of a host that is opened again, also after a crash, and of one whose disk
-//! fails.
+//! Requests and their replies, byte for byte, of a host whose disk fails, and of one that is opened again after a crash.
 
 use crate::hosts::{check, check_text, closed, created, new_host, opened, replies};
 use ash_disk::{FuseDisk, MemoryDisk, Survives};
@@ -11,115 +10,6 @@ use std::test::Fail;
 
 const FIRST: &[u8] =
     b"load m 45\nint n = 2; int f(int k) { n += k; return n; }\ncall m f 5\nget m n\nseq\n";
-
-/// What a host replies to these requests, whose store is then opened again.
-fn again(
-    alloc: Global,
-    mut host: Host<MemoryDisk>,
-    requests: &[u8],
-) -> Result<(String, Host<MemoryDisk>), Fail> {
-    let found = replies(alloc, &mut host, requests)?;
-    let (a, b) = closed(host);
-    Ok((found, opened(alloc, a, b, Registry::new(alloc))?))
-}
-
-#[test]
-fn a_run_after_opening(rt: HostRuntime) -> Result<(), Fail> {
-    let host = new_host(rt.alloc(), Registry::new(rt.alloc()))?;
-    let (before, mut host) = again(rt.alloc(), host, FIRST)?;
-    check_text(&rt, &before, "ok seq 1\nok 7 seq 2\nok 7\nok 2\n", "before");
-    let after = replies(rt.alloc(), &mut host, b"get m n\nseq\ncall m f 1\n")?;
-    check_text(&rt, &after, "ok 7\nok 2\nok 8 seq 3\n", "after");
-    Ok(())
-}
-
-/// Compares what a host replies before its store is opened again, and what it replies then.
-fn check_again(
-    rt: &impl Abort,
-    alloc: Global,
-    before: (&[u8], &str),
-    after: (&[u8], &str),
-) -> Result<(), Fail> {
-    let host = new_host(alloc, Registry::new(alloc))?;
-    let (found, mut host) = again(alloc, host, before.0)?;
-    check_text(rt, &found, before.1, "before");
-    let found = replies(alloc, &mut host, after.0)?;
-    check_text(rt, &found, after.1, "after");
-    Ok(())
-}
-
-/// Three modules, which are not loaded in the order of their names.
-const THREE: &[u8] = b"load b 10\nint n = 1;\n\
-    load a 45\nint n = 2; int f(int k) { n += k; return n; }\n\
-    load c 10\nint n = 3;\n\
-    call a f 5\n";
-
-#[test]
-fn three_modules_after_opening(rt: HostRuntime) -> Result<(), Fail> {
-    check_again(
-        &rt,
-        rt.alloc(),
-        (THREE, "ok seq 1\nok seq 2\nok seq 3\nok 7 seq 4\n"),
-        (
-            b"get a n\nget b n\nget c n\nseq\ncall a f 1\nload b 0\n\nload d 0\n\n",
-            "ok 7\nok 1\nok 3\nok 4\nok 8 seq 5\nrefused 402 ModuleTaken\nok seq 6\n",
-        ),
-    )
-}
-
-/// The same, where one of them is discarded.
-const TWO: &[u8] = b"load b 10\nint n = 1;\n\
-    load a 45\nint n = 2; int f(int k) { n += k; return n; }\n\
-    load c 10\nint n = 3;\n\
-    discard a\n";
-
-#[test]
-fn a_discarded_module_after_opening(rt: HostRuntime) -> Result<(), Fail> {
-    check_again(
-        &rt,
-        rt.alloc(),
-        (TWO, "ok seq 1\nok seq 2\nok seq 3\nok seq 4\n"),
-        (
-            b"get a n\nget b n\nget c n\ncall a f 1\ndiscard a\nseq\n",
-            "refused 401 NoModule\nok 1\nok 3\nrefused 401 NoModule\nrefused 401 NoModule\nok 4\n",
-        ),
-    )
-}
-
-#[test]
-fn a_snapshot_after_opening(rt: HostRuntime) -> Result<(), Fail> {
-    check_again(
-        &rt,
-        rt.alloc(),
-        (
-            b"load m 45\nint n = 2; int f(int k) { n += k; return n; }\ncall m f 5\nsnapshot\nseq\n",
-            "ok seq 1\nok 7 seq 2\nok\nok 2\n",
-        ),
-        (
-            b"get m n\nseq\nsnapshot\ncall m f 1\ndiscard m\n",
-            "ok 7\nok 2\nok\nok 8 seq 3\nok seq 4\n",
-        ),
-    )
-}
-
-/// The first bytes of both disks of a host that has answered these requests.
-fn gates_after(alloc: Global, requests: &[u8]) -> Result<(Option<u8>, Option<u8>), Fail> {
-    let mut host = new_host(alloc, Registry::new(alloc))?;
-    replies(alloc, &mut host, requests)?;
-    let (a, b) = closed(host);
-    Ok((a.bytes().first().copied(), b.bytes().first().copied()))
-}
-
-#[test]
-fn a_snapshot_opens_the_second_file(rt: HostRuntime) -> Result<(), Fail> {
-    let found = gates_after(rt.alloc(), b"load m 0\n\n")?;
-    check(&rt, &found, &(Some(1), Some(0)), "before a snapshot");
-    let found = gates_after(rt.alloc(), b"load m 0\n\nsnapshot x\nseq\n")?;
-    check(&rt, &found, &(Some(1), Some(0)), "after none");
-    let found = gates_after(rt.alloc(), b"load m 0\n\nsnapshot\n")?;
-    check(&rt, &found, &(Some(1), Some(1)), "after a snapshot");
-    Ok(())
-}
 
 /// A host over disks in memory, each of which fails after so many calls.
 fn fused(alloc: Global, first: u64, second: u64) -> Result<Host<FuseDisk<MemoryDisk>>, StoreFault> {
@@ -283,26 +173,6 @@ static SECOND_SNAPSHOTS: [Fused; 2] = [
 #[test]
 fn a_second_snapshot_that_is_not_kept(rt: HostRuntime) -> Result<(), Fail> {
     check_each(&rt, rt.alloc(), true, SNAPSHOT_ALONE, &SECOND_SNAPSHOTS)
-}
-
-/// A disk that holds the file of an empty store with a generation of this number.
-fn numbered(alloc: Global, number: u64) -> Result<MemoryDisk, AllocError> {
-    let mut file = Vec::from_slice(alloc, b"\x01ASHOST01")?;
-    file.extend_from_slice(&number.to_le_bytes())?;
-    file.extend_from_slice(&[29, 0, 0, 0, 1, 0])?;
-    file.extend_from_slice(&[0; 28])?;
-    MemoryDisk::with_bytes(alloc, &file)
-}
-
-#[test]
-fn a_generation_that_is_spent(rt: HostRuntime) -> Result<(), Fail> {
-    let alloc = rt.alloc();
-    let (a, b) = (numbered(alloc, u64::MAX)?, MemoryDisk::new(alloc));
-    let mut host = opened(alloc, a, b, Registry::new(alloc))?;
-    let found = replies(alloc, &mut host, b"snapshot\nload m 0\n\nsnapshot\nseq\n")?;
-    let wanted = "refused 511 GenerationSpent\nok seq 1\nrefused 511 GenerationSpent\nok 1\n";
-    check_text(&rt, &found, wanted, "the last generation");
-    Ok(())
 }
 
 /// The disks after the first example.

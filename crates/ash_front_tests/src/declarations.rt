@@ -1,0 +1,78 @@
+//! Registered declarations: `ok`, or the first fault by the grammar. The offsets are counted by hand.
+
+use crate::compare::check_text;
+use crate::tokens::printed_fault;
+use ash_lex::{Token, lex};
+use ash_parse::{
+    ParseFault, has_one_declaration, has_one_declaration_fault, parse_declaration, parse_module,
+};
+use ash_tree::Module;
+use std::alloc::{AllocError, Global};
+use std::process::Abort;
+use std::test::*;
+
+/// `ok`, or a fault as it is printed.
+pub(crate) fn printed(alloc: Global, fault: Option<&ParseFault>) -> Result<String, AllocError> {
+    match fault {
+        None => String::from_str(alloc, "ok"),
+        Some(fault) => format!(in alloc; "{fault}"),
+    }
+}
+
+/// The tree of a script's tokens.
+pub(crate) fn parsed(alloc: Global, tokens: &[Token]) -> Result<Module, ParseFault> {
+    parse_module(alloc, tokens)
+}
+
+/// The fault of a registered declaration's tokens.
+fn declaration_fault(alloc: Global, tokens: &[Token]) -> Option<ParseFault> {
+    has_one_declaration(tokens);
+    has_one_declaration_fault(tokens);
+    parse_declaration(alloc, tokens).err()
+}
+
+/// How a registered declaration is parsed: `ok`, or its fault.
+fn declaration_outcome_of(alloc: Global, source: &str) -> Result<String, Fail> {
+    match lex(alloc, source) {
+        Ok(tokens) => Ok(printed(alloc, declaration_fault(alloc, tokens.as_slice()).as_ref())?),
+        Err(fault) => Ok(printed_fault(alloc, &fault)?),
+    }
+}
+
+/// Each row has a registered declaration, and how it is parsed.
+fn check_declarations(rt: &impl Abort, alloc: Global, rows: &[(&str, &str)]) -> Result<(), Fail> {
+    for (source, wanted) in rows {
+        let found = declaration_outcome_of(alloc, source)?;
+        check_text(rt, found.as_str(), wanted, source);
+    }
+    Ok(())
+}
+
+#[test]
+fn reads_declarations(rt: HostRuntime) -> Result<(), Fail> {
+    let rows = &[
+        ("int add(int)", "ok"),
+        ("int add(int a, Foo@ b, bool)", "ok"),
+        ("void fail()", "ok"),
+        ("Foo@ make(int n)", "ok"),
+        ("int value", "ok"),
+        ("array<int>@ g(array<Foo@>, array<int>@ a)", "ok"),
+        ("array<int> value", "ok"),
+        ("int g(array<Foo>)", "104 Unexpected 15"),
+        ("int g(array<array<int>>)", "104 Unexpected 12"),
+        ("int g(array<int>>)", "104 Unexpected 15"),
+        ("int g(I@ i)", "ok"),
+        ("int g(cast<A> a)", "104 Unexpected 6"),
+        ("int g[2]", "104 Unexpected 5"),
+        ("int[] g()", "104 Unexpected 3"),
+        ("int g() : I", "104 Unexpected 8"),
+        ("interface I { }", "104 Unexpected 0"),
+        ("class A : I { }", "104 Unexpected 0"),
+        ("int g(", "104 Unexpected 6"),
+        ("int g() ;", "104 Unexpected 8"),
+        ("void x", "104 Unexpected 6"),
+        ("int if(int)", "104 Unexpected 4"),
+        ("double d", "105 Unsupported double 0"),
+    ];
+    check_declarations(&rt, rt.alloc(), rows)
+}
