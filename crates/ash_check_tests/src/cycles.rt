@@ -1,16 +1,19 @@
 //! Cycles of classes: the places, among the classes alone, of those on the cycle that is reported, worked out by hand.
 
-use crate::sources::{check_number, check_text, parts_of, tree_of};
+use crate::sources::{Question, check_number, check_rows, printed, tree_of};
 use ash_classes::{Cycle, class_ranks};
-use ash_tree::Module;
 use std::alloc::{AllocError, Global};
 use std::fmt::Write;
 use std::process::Abort;
 use std::test::Fail;
 
-/// The ranks of a script's classes, or the cycle that is reported of it.
-fn ranks_of(alloc: Global, script: &Module) -> Result<Result<Vec<usize>, Cycle>, AllocError> {
-    class_ranks(alloc, script)
+/// The ranks of a source's classes, or the cycle that is reported of it, or why there is neither.
+fn ranks_of(alloc: Global, source: &str) -> Result<Result<Vec<usize>, Cycle>, String> {
+    let script = tree_of(alloc, source)?;
+    match class_ranks(alloc, &script) {
+        Ok(found) => Ok(found),
+        Err(AllocError) => Err(String::new(alloc)),
+    }
 }
 
 /// The places of a cycle's classes.
@@ -23,92 +26,39 @@ fn places_of(alloc: Global, cycle: &Cycle) -> Result<String, AllocError> {
 }
 
 /// The cycle that is reported of a source, or `none`; or why the source has no tree.
-fn cycle_of(alloc: Global, source: &str) -> Result<String, Fail> {
-    let script = match tree_of(alloc, source) {
-        Ok(script) => script,
-        Err(fault) => return Ok(format!(in alloc; "{fault}")?),
-    };
-    match ranks_of(alloc, &script)? {
-        Ok(_) => Ok(String::from_str(alloc, "none")?),
-        Err(cycle) => Ok(places_of(alloc, &cycle)?),
+pub(crate) fn cycle_of(alloc: Global, source: &str) -> String {
+    match ranks_of(alloc, source) {
+        Ok(Ok(_)) => printed(alloc, &"none"),
+        Ok(Err(cycle)) => match places_of(alloc, &cycle) {
+            Ok(places) => places,
+            Err(AllocError) => String::new(alloc),
+        },
+        Err(fault) => fault,
     }
 }
 
-/// Each row has a cycle, a bar, and the source that it is reported of.
-fn check_cycles(rt: &impl Abort, alloc: Global, rows: &str) -> Result<(), Fail> {
-    for row in rows.trim().lines() {
-        let (wanted, source) = parts_of(row);
-        let found = cycle_of(alloc, source)?;
-        check_text(rt, found.as_str(), wanted, source);
-    }
-    Ok(())
-}
+// In the order of the rows: a class with a handle of itself; objects and handles both count; a class that only leads to a
+// cycle; names of no class are no reference; a shorter way comes before one that begins earlier; of two shortest ways the
+// first in source order; the first class that reaches itself and not the shortest cycle.
+const CYCLES: &str = "
+    0 | class Node { Node@ x; }
+    0 1 | class A { B x; } class B { A@ x; }
+    1 | class A { B@ x; } class B { B@ x; }
+    1 2 | A@ x; class A { C@ x; } class B { C@ x; } class C { B x; }
+    none | class Box { Counter@ x; Bo x; box@ x; }
+    0 3 | class A { B@ x; D@ x; } class B { C@ x; } class C { A@ x; } class D { A@ x; }
+    0 1 2 | class A { D@ x; B@ x; } class B { E@ x; C@ x; } class C { A@ x; } class D { C@ x; } class E { A@ x; }
+    0 1 | class A { B@ x; } class B { B@ x; A@ x; }
+    0 | class B { A@ x; B@ x; } class A { B@ x; }
+    ";
 
 #[test]
-fn a_class_with_a_handle_of_itself(rt: HostRuntime) -> Result<(), Fail> {
-    check_cycles(&rt, rt.alloc(), "0 | class Node { Node@ x; }")
-}
-
-#[test]
-fn objects_and_handles_both_count(rt: HostRuntime) -> Result<(), Fail> {
-    check_cycles(&rt, rt.alloc(), "0 1 | class A { B x; } class B { A@ x; }")
-}
-
-#[test]
-fn a_class_that_only_leads_to_a_cycle(rt: HostRuntime) -> Result<(), Fail> {
-    check_cycles(
-        &rt,
-        rt.alloc(),
-        "
-        1 | class A { B@ x; } class B { B@ x; }
-        1 2 | A@ x; class A { C@ x; } class B { C@ x; } class C { B x; }
-        ",
-    )
-}
-
-#[test]
-fn names_of_no_class_are_no_reference(rt: HostRuntime) -> Result<(), Fail> {
-    check_cycles(
-        &rt,
-        rt.alloc(),
-        "none | class Box { Counter@ x; Bo x; box@ x; }",
-    )
-}
-
-#[test]
-fn a_shorter_way_comes_before_one_that_begins_earlier(rt: HostRuntime) -> Result<(), Fail> {
-    check_cycles(
-        &rt,
-        rt.alloc(),
-        "0 3 | class A { B@ x; D@ x; } class B { C@ x; } class C { A@ x; } class D { A@ x; }",
-    )
-}
-
-#[test]
-fn of_two_shortest_ways_the_first_in_source_order(rt: HostRuntime) -> Result<(), Fail> {
-    check_cycles(
-        &rt,
-        rt.alloc(),
-        "0 1 2 | class A { D@ x; B@ x; } class B { E@ x; C@ x; } class C { A@ x; } class D { C@ x; } class E { A@ x; }",
-    )
-}
-
-#[test]
-fn the_first_class_that_reaches_itself_and_not_the_shortest_cycle(
-    rt: HostRuntime,
-) -> Result<(), Fail> {
-    check_cycles(
-        &rt,
-        rt.alloc(),
-        "
-        0 1 | class A { B@ x; } class B { B@ x; A@ x; }
-        0 | class B { A@ x; B@ x; } class A { B@ x; }
-        ",
-    )
+fn cycles_that_are_reported(rt: HostRuntime) {
+    check_rows(&rt, rt.alloc(), Question::Cycle, CYCLES)
 }
 
 /// 256 classes, each with a handle of the next; the last has a handle of this type.
-fn chain(alloc: Global, last: &str) -> Result<String, Fail> {
+fn chain(alloc: Global, last: &str) -> Result<String, AllocError> {
     let mut source = String::new(alloc);
     for i in 0..255u16 {
         write!(source, "class C{i} {{ C{}@ x; }} ", i + 1)?;
@@ -117,65 +67,58 @@ fn chain(alloc: Global, last: &str) -> Result<String, Fail> {
     Ok(source)
 }
 
-/// The ranks of the classes of a source that has no cycle.
-fn ranks_in(alloc: Global, source: &str) -> Result<Vec<usize>, Fail> {
-    let script = tree_of(alloc, source)?;
-    match ranks_of(alloc, &script)? {
-        Ok(ranks) => Ok(ranks),
-        Err(_) => Err(Fail::from("a cycle")),
-    }
-}
-
 /// Looks at ranks that fall from each class to the next, to 0.
-fn check_falling(rt: &impl Abort, ranks: &[usize]) {
-    let mut wanted = ranks.len();
+fn check_falling(rt: &impl Abort, ranks: &[usize], count: usize) {
+    check_number(rt, ranks.len(), count, "the classes");
+    let mut wanted = count;
     for rank in ranks {
         wanted = wanted.saturating_sub(1);
         check_number(rt, *rank, wanted, "the rank of a class");
     }
 }
 
-#[test]
-fn the_ranks_of_a_long_chain(rt: HostRuntime) -> Result<(), Fail> {
-    let source = chain(rt.alloc(), "Counter")?;
-    let ranks = ranks_in(rt.alloc(), source.as_str())?;
-    // Below 256, and falling from each class to the next: there is one way only.
-    check_falling(&rt, ranks.as_slice());
-    check_number(&rt, ranks.len(), 256, "the classes");
-    Ok(())
-}
-
-/// The cycle of a source that has one.
-fn cycle_in(alloc: Global, source: &str) -> Result<Cycle, Fail> {
-    let script = tree_of(alloc, source)?;
-    match ranks_of(alloc, &script)? {
-        Ok(_) => Err(Fail::from("no cycle")),
-        Err(cycle) => Ok(cycle),
-    }
-}
-
-/// Looks at the places from 1 on.
-fn check_rising(rt: &impl Abort, places: &[usize]) {
+/// Looks at the places of the classes on a cycle, which follow each other from 0 on.
+fn check_rising(rt: &impl Abort, cycle: &Cycle, count: usize) {
+    check_number(rt, cycle.first, 0, "the first class");
+    check_number(rt, cycle.others.len(), count, "the other classes");
     let mut wanted = 1_usize;
-    for place in places {
+    for place in &cycle.others {
         check_number(rt, *place, wanted, "the place of a class");
         wanted = wanted.wrapping_add(1);
     }
 }
 
+/// Looks at the ranks of the classes of a source that has no cycle, which are so many.
+fn check_ranks(rt: &impl Abort, alloc: Global, source: &str, count: usize) -> Result<(), Fail> {
+    match ranks_of(alloc, source) {
+        Ok(Ok(ranks)) => {
+            check_falling(rt, ranks.as_slice(), count);
+            Ok(())
+        }
+        _ => Err(Fail::from("no ranks")),
+    }
+}
+
+// Below 256, and falling from each class to the next: there is one way only.
 #[test]
-fn a_ring_of_256_classes(rt: HostRuntime) -> Result<(), Fail> {
-    let source = chain(rt.alloc(), "C0")?;
-    let cycle = cycle_in(rt.alloc(), source.as_str())?;
-    check_number(&rt, cycle.first, 0, "the first class");
-    check_rising(&rt, cycle.others.as_slice());
-    check_number(&rt, cycle.others.len(), 255, "the other classes");
-    Ok(())
+fn the_ranks_of_a_long_chain(rt: HostRuntime) -> Result<(), Fail> {
+    let source = chain(rt.alloc(), "Counter")?;
+    check_ranks(&rt, rt.alloc(), source.as_str(), 256)
 }
 
 #[test]
 fn no_class_at_all(rt: HostRuntime) -> Result<(), Fail> {
-    let ranks = ranks_in(rt.alloc(), "")?;
-    check_number(&rt, ranks.len(), 0, "the classes");
-    Ok(())
+    check_ranks(&rt, rt.alloc(), "", 0)
+}
+
+#[test]
+fn a_ring_of_256_classes(rt: HostRuntime) -> Result<(), Fail> {
+    let source = chain(rt.alloc(), "C0")?;
+    match ranks_of(rt.alloc(), source.as_str()) {
+        Ok(Err(cycle)) => {
+            check_rising(&rt, &cycle, 255);
+            Ok(())
+        }
+        _ => Err(Fail::from("no cycle")),
+    }
 }

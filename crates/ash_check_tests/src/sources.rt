@@ -1,76 +1,125 @@
-//! Rows: each has how the check of a source ends (`ok`, or its fault with the offset, counted by hand), a bar, and the
-//! source.
+//! Rows: each has what is found of a source, counted by hand, a bar, and the source. What is found is how the check of the
+//! source ends (`ok`, or its fault with the offset), or what another question asks.
 
-use ash_check::{CheckFault, Checked, check};
-use ash_lex::{LexFault, lex};
-use ash_parse::{ParseFault, parse_module};
+use crate::cycles::cycle_of;
+use crate::expressions::{operands_of, type_of};
+use ash_check::{Checked, check};
+use ash_lex::lex;
+use ash_parse::parse_module;
 use ash_registry::{Registry, RegistryFault};
 use ash_tree::Module;
-use std::alloc::Global;
+use std::alloc::{AllocError, Global};
+use std::fmt::Display;
 use std::process::Abort;
 use std::test::Fail;
-use thiserror::Error;
 
-/// Why a source has no typed module.
-#[derive(Debug, Drop, Error)]
-pub(crate) enum SourceFault {
-    #[error("a registration: {0}")]
-    Registry(#[from] RegistryFault),
-    #[error(transparent)]
-    Lex(#[from] LexFault),
-    #[error(transparent)]
-    Parse(#[from] ParseFault),
-    #[error(transparent)]
-    Check(#[from] CheckFault),
-}
-
-/// The type `Counter`, which takes an `int`, a service, and the type `Plain`, which scripts can't construct.
-fn registered(alloc: Global) -> Result<Registry, RegistryFault> {
-    let mut registry = Registry::new(alloc);
-    registry.object_type("Counter", 1)?;
-    registry.factory("Counter", "Counter@ f(int)")?;
-    registry.method("Counter", "int add(int)", 1)?;
-    registry.method("Counter", "void fail(int)", 2)?;
-    registry.property("Counter", "int value", 1)?;
-    let service = registry.service(2)? as u16;
-    registry.function(service, "int tally(int)", 1)?;
-    registry.function(service, "int total()", 2)?;
-    registry.object_type("Plain", 3)?;
-    Ok(registry)
-}
-
-/// The tree of a source.
-pub(crate) fn tree_of(alloc: Global, source: &str) -> Result<Module, SourceFault> {
-    let tokens = lex(alloc, source)?;
-    Ok(parse_module(alloc, tokens.as_slice())?)
-}
-
-/// The typed module of a source, with the ranks of its classes.
-pub(crate) fn checked(alloc: Global, source: &str) -> Result<Checked, SourceFault> {
-    let registry = registered(alloc)?;
-    let script = tree_of(alloc, source)?;
-    Ok(check(alloc, &registry, &script)?)
-}
-
-/// How the check of a source ends.
-fn outcome_of(alloc: Global, source: &str) -> Result<String, Fail> {
-    match checked(alloc, source) {
-        Ok(_) => Ok(String::from_str(alloc, "ok")?),
-        Err(fault) => Ok(format!(in alloc; "{fault}").ok().ok_or("out of memory")?),
+/// A fault as it is printed, or nothing where memory is refused.
+pub(crate) fn printed<F: Display>(alloc: Global, fault: &F) -> String {
+    match format!(in alloc; "{fault}") {
+        Ok(text) => text,
+        Err(_) => String::new(alloc),
     }
 }
 
-/// The parts of a row: how its source ends, and the source.
-pub(crate) fn parts_of(row: &str) -> (&str, &str) {
-    row.trim()
-        .split_once(" | ")
-        .unwrap_or((row, "no bar in this row"))
+/// What is registered.
+enum Registration {
+    Type(&'static str, u16),
+    Factory(&'static str, &'static str),
+    Method(&'static str, &'static str, u16),
+    Property(&'static str, &'static str, u16),
+    Service(u16),
+    Function(u16, &'static str, u16),
 }
 
-/// Compares a text with the one that is wanted of a source, or of what names it. That is done here alone, so that the
-/// tests are proved quickly.
-pub(crate) fn check_text(rt: &impl Abort, found: &str, wanted: &str, source: &str) {
-    assert_eq!(rt; found, wanted, "{source}");
+/// The type `Counter`, which takes an `int`, a service, and the type `Plain`, which scripts can't construct.
+static REGISTERED: [Registration; 9] = [
+    Registration::Type("Counter", 1),
+    Registration::Factory("Counter", "Counter@ f(int)"),
+    Registration::Method("Counter", "int add(int)", 1),
+    Registration::Method("Counter", "void fail(int)", 2),
+    Registration::Property("Counter", "int value", 1),
+    Registration::Service(2),
+    Registration::Function(0, "int tally(int)", 1),
+    Registration::Function(0, "int total()", 2),
+    Registration::Type("Plain", 3),
+];
+
+fn register(registry: &mut Registry, registration: &Registration) -> Result<(), RegistryFault> {
+    match registration {
+        Registration::Type(name, kind) => registry.object_type(name, *kind),
+        Registration::Factory(of, decl) => registry.factory(of, decl),
+        Registration::Method(of, decl, id) => registry.method(of, decl, *id),
+        Registration::Property(of, decl, id) => registry.property(of, decl, *id),
+        Registration::Service(kind) => match registry.service(*kind) {
+            Ok(_) => Ok(()),
+            Err(fault) => Err(fault),
+        },
+        Registration::Function(service, decl, id) => registry.function(*service, decl, *id),
+    }
+}
+
+fn registered(alloc: Global) -> Result<Registry, String> {
+    let mut registry = Registry::new(alloc);
+    for registration in &REGISTERED {
+        match register(&mut registry, registration) {
+            Ok(()) => {}
+            Err(fault) => return Err(printed(alloc, &fault)),
+        }
+    }
+    Ok(registry)
+}
+
+/// The tree of a source, or its fault.
+pub(crate) fn tree_of(alloc: Global, source: &str) -> Result<Module, String> {
+    let tokens = match lex(alloc, source) {
+        Ok(tokens) => tokens,
+        Err(fault) => return Err(printed(alloc, &fault)),
+    };
+    match parse_module(alloc, tokens.as_slice()) {
+        Ok(tree) => Ok(tree),
+        Err(fault) => Err(printed(alloc, &fault)),
+    }
+}
+
+/// The typed module of a source, with the ranks of its classes, or its fault.
+pub(crate) fn checked(alloc: Global, source: &str) -> Result<Checked, String> {
+    let registry = registered(alloc)?;
+    let script = tree_of(alloc, source)?;
+    match check(alloc, &registry, &script) {
+        Ok(found) => Ok(found),
+        Err(fault) => Err(printed(alloc, &fault)),
+    }
+}
+
+/// How the check of a source ends.
+fn outcome_of(alloc: Global, source: &str) -> String {
+    match checked(alloc, source) {
+        Ok(_) => printed(alloc, &"ok"),
+        Err(fault) => fault,
+    }
+}
+
+/// What is asked of a source.
+#[derive(Clone, Copy)]
+pub(crate) enum Question {
+    /// How its check ends.
+    Outcome,
+    /// The type of its value.
+    Type,
+    /// What the last operator of its value takes its operands for.
+    Operands,
+    /// The cycle of its classes.
+    Cycle,
+}
+
+/// The answer to a question, or the fault of the source.
+fn answer(alloc: Global, question: Question, source: &str) -> String {
+    match question {
+        Question::Outcome => outcome_of(alloc, source),
+        Question::Type => type_of(alloc, source),
+        Question::Operands => operands_of(alloc, source),
+        Question::Cycle => cycle_of(alloc, source),
+    }
 }
 
 /// Compares a number with the one that is wanted of a source.
@@ -78,24 +127,26 @@ pub(crate) fn check_number(rt: &impl Abort, found: usize, wanted: usize, source:
     assert_eq!(rt; found, wanted, "{source}");
 }
 
-/// Compares how the check of a source ends, which has this name.
-pub(crate) fn check_outcome(
+/// Compares the answer to a question about a source, which has this name.
+pub(crate) fn check_answer(
     rt: &impl Abort,
     alloc: Global,
+    question: Question,
     source: &str,
     wanted: &str,
     name: &str,
-) -> Result<(), Fail> {
-    let found = outcome_of(alloc, source)?;
-    check_text(rt, found.as_str(), wanted, name);
-    Ok(())
+) {
+    let found = answer(alloc, question, source);
+    assert_eq!(rt; found.as_str(), wanted, "{name}");
 }
 
-/// Checks each row's source.
-pub(crate) fn check_rows(rt: &impl Abort, alloc: Global, rows: &str) -> Result<(), Fail> {
+/// Asks a question about each row's source.
+pub(crate) fn check_rows(rt: &impl Abort, alloc: Global, question: Question, rows: &str) {
     for row in rows.trim().lines() {
-        let (wanted, source) = parts_of(row);
-        check_outcome(rt, alloc, source, wanted, source)?;
+        let (wanted, source) = row
+            .trim()
+            .split_once(" | ")
+            .unwrap_or((row, "no bar in this row"));
+        check_answer(rt, alloc, question, source, wanted, source);
     }
-    Ok(())
 }

@@ -1,6 +1,6 @@
 //! Stores that are there already or damaged, and disks that fail.
 
-use crate::checks::{check, check_bytes};
+use crate::checks::{check, check_bytes, check_text};
 use ash_disk::{FuseDisk, MemoryDisk, Survives};
 use ash_durable::{Host, StoreFault};
 use ash_host::Word;
@@ -8,9 +8,10 @@ use ash_meaning::refusal::Refusal;
 use ash_meaning::request::{Argument, Reply, Request};
 use ash_registry::Registry;
 use ash_store_fixtures::hosts::{
-    EMPTY, SOURCE, State, call, closed, created, discard, disk, found, found_state, fuse, global,
-    image_after, inner, load, opened, replies_to, seq, snapshot, used,
+    EMPTY, SOURCE, State, call, closed, created, disk, found, found_state, fuse, image_after, load,
+    opened, replies_to, seq, used,
 };
+use ash_store_fixtures::lives::{File, Step, bytes_of, lived_on_fuses};
 use std::alloc::Global;
 use std::process::Abort;
 use std::test::Fail;
@@ -40,39 +41,60 @@ fn a_store_that_is_there(rt: HostRuntime) -> Result<(), Fail> {
     Ok(())
 }
 
+/// Two files, and why no store is made over them.
+type Over = (&'static str, &'static [u8], &'static [u8]);
+
+static OVER: [Over; 2] = [
+    ("made over an open file", &[], &[1, 0]),
+    ("made over an open first file", &[1, 0], &[]),
+];
+
+fn check_not_made(rt: &impl Abort, alloc: Global, row: &Over) -> Result<(), Fail> {
+    let (what, first, second) = *row;
+    let made = not_made(alloc, first, second)?;
+    check(rt, &made, &Some(StoreFault::AlreadyThere), what);
+    Ok(())
+}
+
+/// Two files, and what opening them gives: a number, or why they are not opened.
+type Two = (&'static str, File, File, Result<u64, StoreFault>);
+
+const DAMAGED: Result<u64, StoreFault> = Err(StoreFault::Damaged(0));
+
+// The file that is open is the current one, whichever it is.
+static TWO: [Two; 4] = [
+    ("both open", File::Empty, File::Bytes(&[1, 0]), DAMAGED),
+    (
+        "the first no file",
+        File::Bytes(&[1, 0]),
+        File::Empty,
+        DAMAGED,
+    ),
+    ("one generation twice", File::Empty, File::Empty, DAMAGED),
+    ("the second open", File::Bytes(&[]), File::Empty, Ok(0)),
+];
+
+fn check_found(rt: &impl Abort, alloc: Global, row: &Two) -> Result<(), Fail> {
+    let (what, first, second, wanted) = *row;
+    let (first, second) = (bytes_of(alloc, first)?, bytes_of(alloc, second)?);
+    let found = found(alloc, first.as_slice(), second.as_slice())?;
+    check(rt, &found, &wanted, what);
+    Ok(())
+}
+
+#[test]
+fn no_store_is_made_over_files_that_are_open(rt: HostRuntime) -> Result<(), Fail> {
+    for row in &OVER {
+        check_not_made(&rt, rt.alloc(), row)?;
+    }
+    Ok(())
+}
+
 #[test]
 fn files_that_are_open(rt: HostRuntime) -> Result<(), Fail> {
-    let alloc = rt.alloc();
-    let made = not_made(alloc, &[], &[1, 0])?;
-    check(
-        &rt,
-        &made,
-        &Some(StoreFault::AlreadyThere),
-        "made over an open file",
-    );
-    let made = not_made(alloc, &[1, 0], &[])?;
-    check(
-        &rt,
-        &made,
-        &Some(StoreFault::AlreadyThere),
-        "made over an open first file",
-    );
-    let damaged = Err(StoreFault::Damaged(0));
-    check(&rt, &found(alloc, &EMPTY, &[1, 0])?, &damaged, "both open");
-    check(
-        &rt,
-        &found(alloc, &[1, 0], &EMPTY)?,
-        &damaged,
-        "the first no file",
-    );
-    check(
-        &rt,
-        &found(alloc, &EMPTY, &EMPTY)?,
-        &damaged,
-        "one generation twice",
-    );
-    // The file that is open is the current one, whichever it is.
-    check(&rt, &found(alloc, &[], &EMPTY)?, &Ok(0), "the second open");
+    for row in &TWO {
+        check_found(&rt, rt.alloc(), row)?;
+    }
     Ok(())
 }
 
@@ -82,73 +104,72 @@ fn fused(alloc: Global, first: u64, second: u64) -> Result<Host<FuseDisk<MemoryD
     created(alloc, first, second, Registry::new(alloc))
 }
 
-/// What is refused of a host whose first write fails, in order.
-fn refusals(host: &mut Host<FuseDisk<MemoryDisk>>) -> [Option<Refusal>; 6] {
-    [
-        load(host, SOURCE).err(),
-        load(host, SOURCE).err(),
-        call(host, &[]).err(),
-        discard(host).err(),
-        global(host, "n").err(),
-        snapshot(host).err(),
-    ]
+// What is asked of a host whose first write fails, and what is answered.
+static REFUSED: [Step; 7] = [
+    Step::Load,
+    Step::Load,
+    Step::CallIn("m"),
+    Step::Discard,
+    Step::Global("n"),
+    Step::Snapshot,
+    Step::Seq,
+];
+
+const REFUSALS: &str =
+    "Err(DeviceFailed)\nErr(Reopen)\nErr(Reopen)\nErr(Reopen)\nErr(Reopen)\nErr(Reopen)\n0\n";
+
+/// How many calls of the first disk succeed, and what is the gate of the record, if it is there.
+type FirstWrite = (&'static str, u64, Option<u8>);
+
+// A store is made by nine calls on the first disk: its length; its length once more and its first bytes; a write and a sync of
+// its first gate; two writes and two syncs of the generation. Then the write fails of the first record. Or its sync, or the
+// write of the gate before it, or the sync of that.
+static FIRST_WRITES: [FirstWrite; 4] = [
+    ("the write fails", 9, None),
+    ("the sync fails", 10, Some(0)),
+    ("the write of the gate fails", 11, Some(0)),
+    ("the sync of the gate fails", 12, Some(1)),
+];
+
+/// Looks at the first disk where a first write fails.
+fn check_first(rt: &impl Abort, bytes: &[u8], gate: Option<u8>, what: &str) {
+    let image = bytes.get(..50).unwrap_or_default();
+    check_bytes(rt, image, EMPTY.get(..50).unwrap_or_default(), what);
+    match gate {
+        Some(gate) => check(rt, &bytes.get(50).copied(), &Some(gate), what),
+        None => check_bytes(rt, bytes, &EMPTY, what),
+    }
 }
 
-/// Compares what is refused where the first disk fails after so many calls. Gives the host's disks.
-fn check_refusals(
-    rt: &impl Abort,
-    alloc: Global,
-    calls: u64,
-) -> Result<(MemoryDisk, MemoryDisk), Fail> {
-    let mut host = fused(alloc, calls, 100)?;
-    let found = (calls, refusals(&mut host), seq(&host));
-    let wanted = [
-        Some(Refusal::DeviceFailed),
-        Some(Refusal::Reopen),
-        Some(Refusal::Reopen),
-        Some(Refusal::Reopen),
-        Some(Refusal::Reopen),
-        Some(Refusal::Reopen),
-    ];
-    check(rt, &found, &(calls, wanted, 0), "after some calls");
-    let (first, second) = closed(host);
-    Ok((inner(first), inner(second)))
+/// Compares what is refused where the first disk fails after so many calls, and looks at the disks.
+fn check_first_write(rt: &impl Abort, alloc: Global, row: &FirstWrite) -> Result<(), Fail> {
+    let (what, calls, gate) = *row;
+    let (found, disks) = lived_on_fuses(alloc, (calls, 100), &REFUSED)?;
+    check_text(rt, found.as_str(), REFUSALS, what);
+    check_first(rt, disks.0.bytes(), gate, what);
+    check_bytes(rt, disks.1.bytes(), &[0], what);
+    Ok(())
 }
 
 #[test]
 fn a_first_write_that_fails(rt: HostRuntime) -> Result<(), Fail> {
-    // A store is made by nine calls on the first disk: its length; its length once more and its first bytes; a write and
-    // a sync of its first gate; two writes and two syncs of the generation. Then the write fails of the first record.
-    let (first, second) = check_refusals(&rt, rt.alloc(), 9)?;
-    check_bytes(&rt, first.bytes(), &EMPTY, "the first disk");
-    check_bytes(&rt, second.bytes(), &[0], "the second disk");
-    // Or its sync, or the write of the gate before it, or the sync of that.
-    for (calls, gate) in [(10, 0), (11, 0), (12, 1)] {
-        let (first, second) = check_refusals(&rt, rt.alloc(), calls)?;
-        let image = first.bytes().get(..50).unwrap_or_default();
-        check_bytes(&rt, image, EMPTY.get(..50).unwrap_or_default(), "the image");
-        check(
-            &rt,
-            &first.bytes().get(50).copied(),
-            &Some(gate),
-            "the gate",
-        );
-        check_bytes(&rt, second.bytes(), &[0], "the second disk");
+    for row in &FIRST_WRITES {
+        check_first_write(&rt, rt.alloc(), row)?;
     }
     Ok(())
 }
 
-/// The disks of a host that has loaded a module and lost the answer to a call, since its first disk failed after so many
-/// calls.
+// A host loads a module and loses the answer to a call, and then it is asked once more.
+static LOST: [Step; 3] = [Step::Load, Step::Call(5), Step::Call(5)];
+
+const LOST_CALL: &str =
+    "Ok(Answer { outcome: Finished(None), seq: 1 })\nErr(DeviceFailed)\nErr(Reopen)\n";
+
+/// The disks of that host, whose first disk fails after so many calls.
 fn lost_call(rt: &impl Abort, alloc: Global, calls: u64) -> Result<(MemoryDisk, MemoryDisk), Fail> {
-    let mut host = fused(alloc, calls, 100)?;
-    load(&mut host, SOURCE)?;
-    let lost = call(&mut host, &[Argument::Number(5)]).err();
-    check(rt, &lost, &Some(Refusal::DeviceFailed), "the call");
-    let next = call(&mut host, &[Argument::Number(5)]).err();
-    check(rt, &next, &Some(Refusal::Reopen), "the next request");
-    let (first, second) = closed(host);
-    Ok((inner(first), inner(second)))
+    let (found, disks) = lived_on_fuses(alloc, (calls, 100), &LOST)?;
+    check_text(rt, found.as_str(), LOST_CALL, "a lost call");
+    Ok(disks)
 }
 
 /// What opening gives after a crash that leaves such a part of what was not synced.
@@ -159,43 +180,55 @@ fn after_crash(
 ) -> Result<Result<State, StoreFault>, Fail> {
     let first = image_after(&disks.0, usize::MAX, survives)?;
     let second = image_after(&disks.1, usize::MAX, survives)?;
-    found_state(alloc, &first, &second)
+    found_state(alloc, first.as_slice(), second.as_slice())
 }
 
 const BEFORE: Result<State, StoreFault> = Ok((1, Some(2)));
 
 const AFTER: Result<State, StoreFault> = Ok((2, Some(7)));
 
-#[test]
-fn a_first_sync_that_fails(rt: HostRuntime) -> Result<(), Fail> {
-    // Nine calls make the store and four load the module; then the record is written. Its gate is 0 until it is synced.
-    let disks = lost_call(&rt, rt.alloc(), 14)?;
-    for survives in [Survives::Nothing, Survives::Everything] {
-        let found = after_crash(rt.alloc(), &disks, survives)?;
-        check(&rt, &found, &BEFORE, "after a crash");
+/// The crash of a number: the extremes, and those of 200 seeds.
+fn survives_of(number: u64) -> Survives {
+    match number {
+        0 => Survives::Nothing,
+        1 => Survives::Everything,
+        _ => Survives::Part(number.wrapping_sub(2)),
     }
-    for seed in 0..200 {
-        let found = after_crash(rt.alloc(), &disks, Survives::Part(seed))?;
-        check(&rt, &(seed, found), &(seed, BEFORE), "after a crash");
+}
+
+/// Compares what is found after each crash with what it is to be after one that nothing survives, one that everything
+/// survives, and any other, where it may be the first or this.
+fn check_crashes(
+    rt: &impl Abort,
+    alloc: Global,
+    disks: &(MemoryDisk, MemoryDisk),
+    everything: Result<State, StoreFault>,
+) -> Result<(), Fail> {
+    for number in 0..202 {
+        let survives = survives_of(number);
+        let found = after_crash(alloc, disks, survives)?;
+        let wanted = match survives {
+            Survives::Nothing => BEFORE,
+            Survives::Part(_) if found == BEFORE => BEFORE,
+            _ => everything,
+        };
+        check(rt, &(survives, found), &(survives, wanted), "after a crash");
     }
     Ok(())
 }
 
+// Nine calls make the store and four load the module; then the record is written. Its gate is 0 until it is synced.
+#[test]
+fn a_first_sync_that_fails(rt: HostRuntime) -> Result<(), Fail> {
+    let disks = lost_call(&rt, rt.alloc(), 14)?;
+    check_crashes(&rt, rt.alloc(), &disks, BEFORE)
+}
+
+// The record is written and synced, and its gate is written.
 #[test]
 fn a_second_sync_that_fails(rt: HostRuntime) -> Result<(), Fail> {
-    // The record is written and synced, and its gate is written.
     let disks = lost_call(&rt, rt.alloc(), 16)?;
-    let found = after_crash(rt.alloc(), &disks, Survives::Nothing)?;
-    check(&rt, &found, &BEFORE, "nothing survives");
-    let found = after_crash(rt.alloc(), &disks, Survives::Everything)?;
-    check(&rt, &found, &AFTER, "everything survives");
-    for seed in 0..200 {
-        let found = after_crash(rt.alloc(), &disks, Survives::Part(seed))?;
-        if found != BEFORE {
-            check(&rt, &(seed, found), &(seed, AFTER), "after a crash");
-        }
-    }
-    Ok(())
+    check_crashes(&rt, rt.alloc(), &disks, AFTER)
 }
 
 /// The requests of a host whose disk fails when the answer to the third is kept.

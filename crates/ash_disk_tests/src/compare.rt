@@ -1,23 +1,19 @@
-//! Comparisons, each in one place, so that the tests that make them are proved quickly.
+//! Comparisons, each in one place, so that the tests that make them are proved quickly. Each names the row of a test and what
+//! of it is compared.
 
 use std::process::Abort;
 
 /// Looks at what is to be true.
-pub(crate) fn check_true(rt: &impl Abort, found: bool, what: &str) {
-    assert!(rt; found, "{what}");
+pub(crate) fn check_true(rt: &impl Abort, found: bool, row: &str, what: &str) {
+    assert!(rt; found, "{row}: {what}");
 }
 
 /// Compares a number with the one that is wanted.
-pub(crate) fn check_number(rt: &impl Abort, found: u64, wanted: u64, what: &str) {
-    assert_eq!(rt; found, wanted, "{what}");
-}
-
-/// Compares a text with the one that is wanted.
-pub(crate) fn check_text(rt: &impl Abort, found: &str, wanted: &str, what: &str) {
-    assert_eq!(rt; found, wanted, "{what}");
+pub(crate) fn check_number(rt: &impl Abort, found: u64, wanted: u64, row: &str, what: &str) {
+    assert_eq!(rt; found, wanted, "{row}: {what}");
 }
 
 /// Compares bytes with those that are wanted.
-pub(crate) fn check_bytes(rt: &impl Abort, found: &[u8], wanted: &[u8], what: &str) {
-    assert_eq!(rt; found, wanted, "{what}");
+pub(crate) fn check_bytes(rt: &impl Abort, found: &[u8], wanted: &[u8], row: &str, what: &str) {
+    assert_eq!(rt; found, wanted, "{row}: {what}");
 }

@@ -1,202 +1,270 @@
-//! Disks: that calls succeed, what a real file holds, and how much the crash images differ. No clause says these.
+//! Disks: that calls succeed, what a real file holds, and how much the crash images differ. No clause says these. The calls
+//! are data, so that each is proved once and not in each test.
 
-use crate::compare::{check_bytes, check_number, check_text, check_true};
-use ash_disk::{DeviceFailed, Disk, FileDisk, FuseDisk, MemoryDisk, Survives, write_durably};
+use crate::compare::{check_bytes, check_number, check_true};
+use ash_disk::{Disk, FileDisk, FuseDisk, MemoryDisk, Survives, write_durably};
 use std::alloc::{AllocError, Global};
+use std::path::PathBuf;
 use std::process::Abort;
 use std::test::Fail;
-use std::{env, fs};
+use std::{env, fs, io};
 
-// Looks at how many bytes a disk has.
-fn check_length<D: Disk>(rt: &impl Abort, disk: &mut D, wanted: u64) -> Result<(), DeviceFailed> {
-    check_number(rt, disk.len()?, wanted, "the length");
-    Ok(())
+/// A call of a disk, with what it must come to.
+#[derive(Clone, Copy)]
+enum Step {
+    /// The disk has so many bytes.
+    Length(u64),
+    /// These bytes stand from a place on, eight at the most.
+    Read(u64, &'static [u8]),
+    /// From a place on there are fewer bytes than these, so they are not read.
+    Lacks(u64, &'static [u8]),
+    /// These bytes are written from a place on.
+    Write(u64, &'static [u8]),
+    /// A write of these bytes from a place on fails.
+    Refuses(u64, &'static [u8]),
+    /// What was written is synced.
+    Sync,
+    /// These bytes are written from a place on, and synced.
+    WriteDurably(u64, &'static [u8]),
 }
 
-// Looks at the bytes from a place on.
-fn check_read<D: Disk>(
-    rt: &impl Abort,
-    alloc: Global,
-    disk: &mut D,
-    at: u64,
-    wanted: &[u8],
-) -> Result<(), Fail> {
-    let mut part = vec![in alloc; 9_u8; wanted.len()]?;
-    disk.read(at, part.as_mut_slice())?;
-    check_bytes(rt, part.as_slice(), wanted, "the bytes that are read");
-    Ok(())
-}
-
-fn can_read<D: Disk>(disk: &mut D, at: u64, part: &mut [u8]) -> bool {
-    disk.read(at, part).is_ok()
-}
-
-fn can_write<D: Disk>(disk: &mut D, at: u64, bytes: &[u8]) -> bool {
-    disk.write_at(at, bytes).is_ok()
-}
-
-// Writes each of these bytes from their places on, and syncs.
-fn write_all<D: Disk>(disk: &mut D, parts: &[(u64, &[u8])]) -> Result<(), DeviceFailed> {
-    for (at, bytes) in parts {
-        disk.write_at(*at, bytes)?;
+// The bytes from a place on, as many as there are of the others, or nothing where they are not read.
+fn is_read<D: Disk>(disk: &mut D, at: u64, like: &[u8]) -> Option<bool> {
+    let mut part = [9_u8; 8];
+    let part = part.get_mut(..like.len())?;
+    match disk.read(at, part) {
+        Ok(()) => Some(*part == *like),
+        Err(_) => None,
     }
-    disk.sync()
+}
+
+// Makes a call, and returns whether it came to what it must.
+fn take<D: Disk>(disk: &mut D, step: Step) -> bool {
+    match step {
+        Step::Length(length) => disk.len() == Ok(length),
+        Step::Read(at, bytes) => is_read(disk, at, bytes) == Some(true),
+        Step::Lacks(at, bytes) => is_read(disk, at, bytes).is_none(),
+        Step::Write(at, bytes) => disk.write_at(at, bytes).is_ok(),
+        Step::Refuses(at, bytes) => disk.write_at(at, bytes).is_err(),
+        Step::Sync => disk.sync().is_ok(),
+        Step::WriteDurably(at, bytes) => write_durably(disk, at, bytes).is_ok(),
+    }
+}
+
+// How many calls came to what they must, up to the first that did not.
+fn count_met<D: Disk>(disk: &mut D, steps: &[Step]) -> u64 {
+    let mut met = 0_u64;
+    for step in steps {
+        if !take(disk, *step) {
+            return met;
+        }
+        met = met.saturating_add(1);
+    }
+    met
+}
+
+// Makes all of these calls. Where one does not come to what it must, it is the one of the number that is found.
+fn check_steps<D: Disk>(rt: &impl Abort, disk: &mut D, steps: &[Step], what: &str) {
+    let met = count_met(disk, steps);
+    check_number(
+        rt,
+        met,
+        steps.len() as u64,
+        what,
+        "the calls that came to what they must",
+    );
+}
+
+/// A disk in memory: what it is called, what it holds, the calls of it, the bytes after them, and how many of the calls
+/// were writes and syncs.
+struct Memory {
+    what: &'static str,
+    before: &'static [u8],
+    steps: &'static [Step],
+    after: &'static [u8],
+    calls: u64,
 }
 
 // Looks at the bytes of a disk, and at how many writes and syncs it has had.
-fn check_memory(rt: &impl Abort, disk: &MemoryDisk, wanted: &[u8], calls: u64) {
-    check_bytes(rt, disk.bytes(), wanted, "the bytes");
-    check_number(rt, disk.calls() as u64, calls, "the writes and syncs");
+pub(crate) fn check_disk(rt: &impl Abort, disk: &MemoryDisk, wanted: &[u8], calls: u64, row: &str) {
+    check_bytes(rt, disk.bytes(), wanted, row, "the bytes");
+    check_number(rt, disk.calls() as u64, calls, row, "the writes and syncs");
 }
+
+fn check_memory(rt: &impl Abort, alloc: Global, row: &Memory) -> Result<(), Fail> {
+    let mut disk = MemoryDisk::with_bytes(alloc, row.before)?;
+    check_steps(rt, &mut disk, row.steps, row.what);
+    check_disk(rt, &disk, row.after, row.calls, row.what);
+    Ok(())
+}
+
+fn check_memories(rt: &impl Abort, alloc: Global, rows: &[Memory]) -> Result<(), Fail> {
+    for row in rows {
+        check_memory(rt, alloc, row)?;
+    }
+    Ok(())
+}
+
+static READ_AND_WRITTEN: [Memory; 2] = [
+    Memory {
+        what: "an empty disk",
+        before: b"",
+        steps: &[
+            Step::Length(0),
+            Step::Write(0, b"gate"),
+            Step::Write(2, b"neration"),
+            Step::Sync,
+            Step::Length(10),
+            Step::Read(1, b"aner"),
+        ],
+        after: b"ganeration",
+        calls: 3,
+    },
+    Memory {
+        what: "a disk that nothing is written to",
+        before: b"seven",
+        steps: &[],
+        after: b"seven",
+        calls: 0,
+    },
+];
 
 #[test]
 fn memory_is_read_and_written(rt: HostRuntime) -> Result<(), Fail> {
-    let mut disk = MemoryDisk::new(rt.alloc());
-    check_length(&rt, &mut disk, 0)?;
-    write_all(&mut disk, &[(0, b"gate"), (2, b"neration")])?;
-    check_length(&rt, &mut disk, 10)?;
-    check_read(&rt, rt.alloc(), &mut disk, 1, b"aner")?;
-    check_memory(&rt, &disk, b"ganeration", 3);
-    let disk = MemoryDisk::with_bytes(rt.alloc(), b"seven")?;
-    check_memory(&rt, &disk, b"seven", 0);
-    Ok(())
+    check_memories(&rt, rt.alloc(), &READ_AND_WRITTEN)
 }
+
+static BEYOND: [Memory; 1] = [Memory {
+    what: "a disk with five bytes",
+    before: b"seven",
+    steps: &[
+        Step::Read(2, b"ven"),
+        // A byte beyond, and then far beyond.
+        Step::Lacks(3, b"en?"),
+        Step::Lacks(u64::MAX, b"???"),
+        Step::Refuses(6, b"s"),
+        Step::Read(5, b""),
+        Step::Write(5, b"s"),
+    ],
+    after: b"sevens",
+    calls: 1,
+}];
 
 #[test]
 fn beyond_the_file_is_a_failure(rt: HostRuntime) -> Result<(), Fail> {
-    let mut disk = MemoryDisk::with_bytes(rt.alloc(), b"seven")?;
-    check_read(&rt, rt.alloc(), &mut disk, 2, b"ven")?;
-    check_true(&rt, !can_read(&mut disk, 3, &mut [0; 3]), "a byte beyond");
-    check_true(
-        &rt,
-        !can_read(&mut disk, u64::MAX, &mut [0; 3]),
-        "far beyond",
-    );
-    check_true(&rt, !can_write(&mut disk, 6, b"s"), "a write beyond");
-    check_read(&rt, rt.alloc(), &mut disk, 5, b"")?;
-    check_true(&rt, can_write(&mut disk, 5, b"s"), "a write at the end");
-    check_memory(&rt, &disk, b"sevens", 1);
-    Ok(())
+    check_memories(&rt, rt.alloc(), &BEYOND)
 }
 
-// What a fuse of k calls lets through of a small commit, and whether the commit is done.
-fn fused(alloc: Global, k: u64) -> Result<(MemoryDisk, bool), AllocError> {
-    let mut fuse = FuseDisk::new(MemoryDisk::with_bytes(alloc, b"0")?, k);
-    let done = commit(&mut fuse).is_ok();
-    Ok((fuse.into_inner(), done))
-}
+// A small commit over the byte `0`.
+static COMMIT: [Step; 5] = [
+    Step::Write(1, b"ab"),
+    Step::Sync,
+    Step::WriteDurably(0, b"1"),
+    Step::Read(0, b"1"),
+    Step::Length(3),
+];
 
-fn commit(disk: &mut impl Disk) -> Result<(), DeviceFailed> {
-    disk.write_at(1, b"ab")?;
-    disk.sync()?;
-    write_durably(disk, 0, b"1")?;
-    disk.read(0, &mut [0])?;
-    disk.len()?;
-    Ok(())
-}
+// What a fuse lets through of that commit: its name, what the disk holds after it, how many calls were writes and syncs,
+// and how many steps were taken.
+type Fused = (&'static str, &'static [u8], u64, u64);
 
-// What a disk holds after k calls, how many of them were writes and syncs, and whether they suffice.
-fn check_fused(
-    rt: &impl Abort,
-    alloc: Global,
-    k: u64,
-    row: &(&[u8], u64, bool),
-) -> Result<(), Fail> {
-    let (bytes, calls, done) = *row;
-    let (disk, was_done) = fused(alloc, k)?;
-    let what = format!(in alloc; "{k} calls")?;
-    check_bytes(rt, disk.bytes(), bytes, what.as_str());
-    check_number(rt, disk.calls() as u64, calls, what.as_str());
-    check_true(rt, was_done == done, what.as_str());
-    Ok(())
-}
+static FUSED: [Fused; 8] = [
+    ("0 calls", b"0", 0, 0),
+    ("1 call", b"0ab", 1, 1),
+    ("2 calls", b"0ab", 2, 2),
+    ("3 calls", b"1ab", 3, 2),
+    ("4 calls", b"1ab", 4, 3),
+    ("5 calls", b"1ab", 4, 4),
+    ("6 calls", b"1ab", 4, 5),
+    ("7 calls", b"1ab", 4, 5),
+];
 
-// Each row is of one call more.
-fn check_fuses(rt: &impl Abort, alloc: Global, rows: &[(&[u8], u64, bool)]) -> Result<(), Fail> {
-    let mut k = 0_u64;
-    for row in rows {
-        check_fused(rt, alloc, k, row)?;
-        k = k.saturating_add(1);
-    }
+// Takes the commit over a disk that fails after so many calls.
+fn check_fuse(rt: &impl Abort, alloc: Global, calls: u64, row: &Fused) -> Result<(), Fail> {
+    let (what, bytes, memory_calls, steps) = *row;
+    let mut fuse = FuseDisk::new(MemoryDisk::with_bytes(alloc, b"0")?, calls);
+    let met = count_met(&mut fuse, &COMMIT);
+    check_number(rt, met, steps, what, "the calls that succeed");
+    check_disk(rt, &fuse.into_inner(), bytes, memory_calls, what);
     Ok(())
 }
 
 #[test]
 fn a_fuse_fails_from_its_call_on(rt: HostRuntime) -> Result<(), Fail> {
-    let rows: &[(&[u8], u64, bool)] = &[
-        (b"0", 0, false),
-        (b"0ab", 1, false),
-        (b"0ab", 2, false),
-        (b"1ab", 3, false),
-        (b"1ab", 4, false),
-        (b"1ab", 4, false),
-        (b"1ab", 4, true),
-        (b"1ab", 4, true),
-    ];
-    check_fuses(&rt, rt.alloc(), rows)
-}
-
-// Three bytes on the device, a write that is synced, and two that are not.
-fn four_calls(alloc: Global) -> Result<MemoryDisk, Fail> {
-    let mut disk = MemoryDisk::with_bytes(alloc, &[7, 7, 7])?;
-    write_all(&mut disk, &[(1, &[1, 2])])?;
-    disk.write_at(3, &[4, 5, 6])?;
-    disk.write_at(0, &[9])?;
-    Ok(disk)
-}
-
-// What a crash after so many writes and syncs leaves.
-fn image(disk: &MemoryDisk, calls: usize, survives: Survives) -> Result<Vec<u8>, Fail> {
-    if calls > disk.calls() {
-        return Err(Fail::from("fewer calls"));
-    }
-    Ok(disk.crash_image(calls, survives)?)
-}
-
-// Each row is of one call more, and has what a crash leaves where nothing survives, and where everything does.
-fn check_images(
-    rt: &impl Abort,
-    alloc: Global,
-    disk: &MemoryDisk,
-    rows: &[(&[u8], &[u8])],
-) -> Result<(), Fail> {
-    let mut calls = 0_usize;
-    for (nothing, everything) in rows {
-        let what = format!(in alloc; "a crash after {calls} calls")?;
-        let found = image(disk, calls, Survives::Nothing)?;
-        check_bytes(rt, found.as_slice(), nothing, what.as_str());
-        let found = image(disk, calls, Survives::Everything)?;
-        check_bytes(rt, found.as_slice(), everything, what.as_str());
+    let mut calls = 0_u64;
+    for row in &FUSED {
+        check_fuse(&rt, rt.alloc(), calls, row)?;
         calls = calls.saturating_add(1);
     }
     Ok(())
 }
 
+// A write that is synced, and two that are not.
+static FOUR: [Step; 4] = [
+    Step::Write(1, &[1, 2]),
+    Step::Sync,
+    Step::Write(3, &[4, 5, 6]),
+    Step::Write(0, &[9]),
+];
+
+// Three bytes on the device, and those calls.
+fn four_calls(rt: &impl Abort, alloc: Global) -> Result<MemoryDisk, AllocError> {
+    let mut disk = MemoryDisk::with_bytes(alloc, &[7, 7, 7])?;
+    check_steps(rt, &mut disk, &FOUR, "the four calls");
+    check_disk(rt, &disk, &[9, 1, 2, 4, 5, 6], 4, "the four calls");
+    Ok(disk)
+}
+
+// What a crash after so many writes and syncs leaves, or after all where there are fewer.
+pub(crate) fn image(
+    disk: &MemoryDisk,
+    calls: usize,
+    survives: Survives,
+) -> Result<Vec<u8>, AllocError> {
+    disk.crash_image(calls.min(disk.calls()), survives)
+}
+
+// A crash, and what it leaves: its name, after how many calls it comes, what survives, and the bytes.
+type Crash = (&'static str, usize, Survives, &'static [u8]);
+
+static CRASHES: [Crash; 10] = [
+    ("nothing of none", 0, Survives::Nothing, &[7, 7, 7]),
+    ("all of none", 0, Survives::Everything, &[7, 7, 7]),
+    ("nothing of one call", 1, Survives::Nothing, &[7, 7, 7]),
+    ("all of one call", 1, Survives::Everything, &[7, 1, 2]),
+    ("nothing of two calls", 2, Survives::Nothing, &[7, 1, 2]),
+    ("all of two calls", 2, Survives::Everything, &[7, 1, 2]),
+    ("nothing of three", 3, Survives::Nothing, &[7, 1, 2]),
+    ("all of three", 3, Survives::Everything, &[7, 1, 2, 4, 5, 6]),
+    ("nothing of four", 4, Survives::Nothing, &[7, 1, 2]),
+    ("all of four", 4, Survives::Everything, &[9, 1, 2, 4, 5, 6]),
+];
+
 #[test]
 fn a_crash_leaves_nothing_or_everything(rt: HostRuntime) -> Result<(), Fail> {
-    let disk = four_calls(rt.alloc())?;
-    let rows: &[(&[u8], &[u8])] = &[
-        (&[7, 7, 7], &[7, 7, 7]),
-        (&[7, 7, 7], &[7, 1, 2]),
-        (&[7, 1, 2], &[7, 1, 2]),
-        (&[7, 1, 2], &[7, 1, 2, 4, 5, 6]),
-        (&[7, 1, 2], &[9, 1, 2, 4, 5, 6]),
-    ];
-    check_images(&rt, rt.alloc(), &disk, rows)
+    let disk = four_calls(&rt, rt.alloc())?;
+    for (what, calls, survives, wanted) in &CRASHES {
+        let found = image(&disk, *calls, *survives)?;
+        check_bytes(&rt, found.as_slice(), wanted, what, "the image");
+    }
+    Ok(())
 }
 
 // Which of four kinds of image a seed gives: nothing, everything, grown in part, or another.
 fn kind_of(image: &[u8]) -> usize {
-    match image {
-        [7, 1, 2] => 0,
-        [9, 1, 2, 4, 5, 6] => 1,
-        [_, 1, 2, _] | [_, 1, 2, _, _] => 2,
-        _ => 3,
+    if image == [7, 1, 2].as_slice() {
+        0
+    } else if image == [9, 1, 2, 4, 5, 6].as_slice() {
+        1
+    } else if image.get(1..3) == Some([1, 2].as_slice()) && matches!(image.len(), 4 | 5) {
+        2
+    } else {
+        3
     }
 }
 
-// Whether so many seeds give each kind of image.
-fn has_each_kind(disk: &MemoryDisk, seeds: u64) -> Result<bool, Fail> {
+// Which kinds of image so many seeds give.
+fn kinds_of(disk: &MemoryDisk, seeds: u64) -> Result<[bool; 4], AllocError> {
     let mut seen = [false; 4];
     for seed in 0..seeds {
         let image = image(disk, 4, Survives::Part(seed))?;
@@ -204,49 +272,93 @@ fn has_each_kind(disk: &MemoryDisk, seeds: u64) -> Result<bool, Fail> {
             *kind = true;
         }
     }
-    Ok(seen == [true; 4])
+    Ok(seen)
 }
 
 #[test]
 fn torn_images_differ(rt: HostRuntime) -> Result<(), Fail> {
-    let disk = four_calls(rt.alloc())?;
-    check_number(&rt, disk.calls() as u64, 4, "the writes and syncs");
-    check_true(&rt, has_each_kind(&disk, 200)?, "a kind of image");
+    let disk = four_calls(&rt, rt.alloc())?;
+    let kinds = kinds_of(&disk, 200)?;
+    check_true(
+        &rt,
+        kinds == [true; 4],
+        "of 200 seeds",
+        "each kind of image",
+    );
     Ok(())
+}
+
+/// How a file is opened.
+#[derive(Clone, Copy)]
+enum Way {
+    /// It is made where there is none.
+    Make,
+    /// It is there.
+    Existing,
+    /// It is there, and is open for reading alone.
+    Reading,
+}
+
+fn opened(rt: &HostRuntime, path: &str, way: Way) -> io::Result<FileDisk> {
+    match way {
+        Way::Make => FileDisk::open_or_make(rt, path),
+        Way::Existing => FileDisk::open(rt, path),
+        Way::Reading => match fs::File::open(rt, path) {
+            Ok(file) => Ok(FileDisk::new(file)),
+            Err(error) => Err(error),
+        },
+    }
+}
+
+/// What is done with a file from its opening on: what that is called, how it is opened, and the calls.
+type Use = (&'static str, Way, &'static [Step]);
+
+static USES: [Use; 4] = [
+    (
+        "a new file",
+        Way::Make,
+        &[
+            Step::Length(0),
+            Step::Write(0, b"gate and "),
+            Step::Write(9, b"body"),
+            Step::Sync,
+        ],
+    ),
+    (
+        "the file",
+        Way::Existing,
+        &[
+            Step::Length(13),
+            Step::Read(7, b"d body"),
+            Step::Lacks(8, b" body?"),
+            Step::WriteDurably(0, b"G"),
+        ],
+    ),
+    ("the file once more", Way::Make, &[Step::Read(0, b"Gate a")]),
+    // A file that is open for reading alone fails at a write.
+    (
+        "the file to be read",
+        Way::Reading,
+        &[Step::Refuses(0, b"g")],
+    ),
+];
+
+// Where the file is to be: no other run has it.
+fn path_of(rt: &HostRuntime) -> Result<PathBuf, Fail> {
+    let folder = env::temp_dir(rt)?;
+    let name = format!(in rt.alloc(); "ash_disk_{}", std::process::id(rt.process()))?;
+    Ok(folder.join(rt.alloc(), name.as_str())?)
 }
 
 #[test]
 fn a_file_is_read_after_it_is_opened_again(rt: HostRuntime) -> Result<(), Fail> {
-    let alloc = rt.alloc();
-    let folder = env::temp_dir(&rt)?;
-    let name = format!(in alloc; "ash_disk_{}", std::process::id(rt.process()))?;
-    let path = folder.join(alloc, name.as_str())?;
-    let path = path.as_str();
-    check_true(&rt, FileDisk::open(&rt, path).is_err(), "no file is there");
-    let mut disk = FileDisk::open_or_make(&rt, path)?;
-    check_length(&rt, &mut disk, 0)?;
-    write_all(&mut disk, &[(0, b"gate and "), (9, b"body")])?;
-    drop(disk);
-    let mut disk = FileDisk::open(&rt, path)?;
-    check_length(&rt, &mut disk, 13)?;
-    check_read(&rt, alloc, &mut disk, 7, b"d body")?;
-    check_true(&rt, !can_read(&mut disk, 8, &mut [0; 6]), "beyond the file");
-    write_durably(&mut disk, 0, b"G")?;
-    drop(disk);
-    let mut disk = FileDisk::open_or_make(&rt, path)?;
-    check_read(&rt, alloc, &mut disk, 0, b"Gate a")?;
-    drop(disk);
-    // A file that is open for reading alone fails at a write.
-    let mut disk = FileDisk::new(fs::File::open(&rt, path)?);
-    check_true(&rt, !can_write(&mut disk, 0, b"g"), "a write to it");
-    drop(disk);
-    fs::remove_file(&rt, path)?;
-    Ok(())
-}
-
-#[test]
-fn a_failure_is_written_with_its_number(rt: HostRuntime) -> Result<(), Fail> {
-    let text = format!(in rt.alloc(); "{DeviceFailed}")?;
-    check_text(&rt, text.as_str(), "507 DeviceFailed", "the failure");
+    let path = path_of(&rt)?;
+    let is_absent = opened(&rt, path.as_str(), Way::Existing).is_err();
+    check_true(&rt, is_absent, "before it is made", "no file is there");
+    for (what, way, steps) in &USES {
+        let mut disk = opened(&rt, path.as_str(), *way)?;
+        check_steps(&rt, &mut disk, steps, what);
+    }
+    fs::remove_file(&rt, path.as_str())?;
     Ok(())
 }

@@ -2,14 +2,12 @@
 
 use std::process::Abort;
 
-/// Looks at what is to be true.
-pub(crate) fn check_true(rt: &impl Abort, found: bool, what: &str) {
-    assert!(rt; found, "{what}");
-}
+/// How much a state has, if there is one: the bytes of its text, and its modules.
+pub(crate) type Sizes = Option<(usize, usize)>;
 
-/// Compares a number with the one that is wanted.
-pub(crate) fn check_number(rt: &impl Abort, found: u64, wanted: u64, what: &str) {
-    assert_eq!(rt; found, wanted, "{what}");
+/// Compares how much a state has with what is wanted of a row.
+pub(crate) fn check_sizes(rt: &impl Abort, found: Sizes, wanted: Sizes, row: &str, what: &str) {
+    assert_eq!(rt; found, wanted, "{row} {what}");
 }
 
 /// Compares a text with the one that is wanted.

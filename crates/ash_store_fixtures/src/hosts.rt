@@ -39,10 +39,6 @@ pub fn inner(disk: FuseDisk<MemoryDisk>) -> MemoryDisk {
     disk.into_inner()
 }
 
-pub fn calls(disk: &MemoryDisk) -> usize {
-    disk.calls()
-}
-
 /// What a crash after so many calls leaves of a disk, or after all calls where there are fewer.
 pub fn image_after(
     disk: &MemoryDisk,
@@ -188,12 +184,6 @@ pub fn with_modules(alloc: Global, names: &[&str]) -> Result<Host<MemoryDisk>, F
         host.load(name, b"", 0)?;
     }
     Ok(host)
-}
-
-/// The first disk of that host.
-pub fn used_file(alloc: Global) -> Result<MemoryDisk, Fail> {
-    let (first, _) = closed(used(alloc)?);
-    Ok(first)
 }
 
 /// The disk of the second generation, which holds the state of a host with a new store, and no record.

@@ -2,9 +2,11 @@
 //! of what it gives; each call of a host stands in a function of its own, so that its contract is seen once and not in every
 //! test.
 //!
-//! `hosts` makes hosts and calls them, `files` and `full` write the files of stores.
+//! `hosts` makes hosts and calls them, `files` and `full` write the files of stores, and `lives` carries out what is asked
+//! of a host as data.
 #![tactic(auto)]
 
 pub mod files;
 pub mod full;
 pub mod hosts;
+pub mod lives;

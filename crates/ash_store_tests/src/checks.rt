@@ -1,7 +1,11 @@
 //! Comparisons that say what was compared.
 
+use ash_disk::MemoryDisk;
+use ash_store_fixtures::lives::{File, Run, bytes_of, disks_of, lived};
+use std::alloc::Global;
 use std::fmt::Debug;
 use std::process::Abort;
+use std::test::Fail;
 
 /// Compares what is found with what is wanted.
 pub fn check<T: Debug + PartialEq>(rt: &impl Abort, found: &T, wanted: &T, what: &str) {
@@ -22,4 +26,70 @@ pub fn check_text(rt: &impl Abort, found: &str, wanted: &str, what: &str) {
     if found != wanted {
         panic!(rt; "{what}: found {found}, wanted {wanted}");
     }
+}
+
+/// Compares how many writes and syncs two disks have had.
+pub fn check_calls(
+    rt: &impl Abort,
+    disks: &(MemoryDisk, MemoryDisk),
+    wanted: (usize, usize),
+    what: &str,
+) {
+    let found = (disks.0.calls(), disks.1.calls());
+    if found != wanted {
+        panic!(rt; "{what}: found {found:?} calls of the disks, wanted {wanted:?}");
+    }
+}
+
+/// Compares the bytes of a disk with a file by hand.
+pub fn check_file(
+    rt: &impl Abort,
+    alloc: Global,
+    disk: &MemoryDisk,
+    file: File,
+    what: &str,
+    which: &str,
+) -> Result<(), Fail> {
+    let wanted = bytes_of(alloc, file)?;
+    let (found, wanted) = (disk.bytes(), wanted.as_slice());
+    if found != wanted {
+        panic!(rt; "{what}, {which} disk: found {found:?}, wanted {wanted:?}");
+    }
+    Ok(())
+}
+
+/// Carries out a run, and compares what is answered, the files that it leaves, and the calls of both disks.
+pub fn check_run(
+    rt: &impl Abort,
+    alloc: Global,
+    disks: (MemoryDisk, MemoryDisk),
+    run: &Run,
+) -> Result<(MemoryDisk, MemoryDisk), Fail> {
+    let (answers, disks) = lived(alloc, disks, run)?;
+    check_text(rt, answers.as_str(), run.answers, run.what);
+    check_file(rt, alloc, &disks.0, run.first, run.what, "the first")?;
+    check_file(rt, alloc, &disks.1, run.second, run.what, "the second")?;
+    check_calls(rt, &disks, run.calls, run.what);
+    Ok(disks)
+}
+
+/// Runs, one after the other, over disks that begin with two files.
+pub type Life = (File, File, &'static [Run]);
+
+/// Carries out the runs of a life.
+pub fn check_life(rt: &impl Abort, alloc: Global, life: &Life) -> Result<(), Fail> {
+    let (first, second, runs) = *life;
+    let mut disks = disks_of(alloc, first, second)?;
+    for run in runs {
+        disks = check_run(rt, alloc, disks, run)?;
+    }
+    Ok(())
+}
+
+/// Carries out lives.
+pub fn check_lives(rt: &impl Abort, alloc: Global, lives: &[Life]) -> Result<(), Fail> {
+    for life in lives {
+        check_life(rt, alloc, life)?;
+    }
+    Ok(())
 }

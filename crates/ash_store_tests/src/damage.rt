@@ -5,7 +5,8 @@ use crate::store::{file_with, loaded};
 use ash_disk::MemoryDisk;
 use ash_durable::StoreFault;
 use ash_registry::Registry;
-use ash_store_fixtures::hosts::{closed, disk, found, opened, second_generation, used, used_file};
+use ash_store_fixtures::hosts::{closed, disk, found, opened};
+use ash_store_fixtures::lives::{File, bytes_of};
 use std::alloc::{AllocError, Global};
 use std::process::Abort;
 use std::test::Fail;
@@ -29,21 +30,6 @@ fn wanted_of(cuts: &[Cut], length: usize) -> Found {
     wanted
 }
 
-/// Compares what opening gives a file that is cut to each length.
-fn check_cuts(rt: &impl Abort, alloc: Global, file: &[u8], cuts: &[Cut]) -> Result<(), Fail> {
-    for length in 0..=file.len() {
-        let cut = file.get(..length).unwrap_or_default();
-        let found = (length, found(alloc, cut, &[0])?);
-        check(
-            rt,
-            &found,
-            &(length, wanted_of(cuts, length)),
-            "cut to a length",
-        );
-    }
-    Ok(())
-}
-
 // Of a store with one record. Its first gate counts where something follows, and the first image ends at 50, where the
 // gate before the record is. The record and the next gate end at 94.
 static CUTS_OF_LOADED: [Cut; 4] = [
@@ -53,37 +39,85 @@ static CUTS_OF_LOADED: [Cut; 4] = [
     (94, Ok(1)),
 ];
 
-// The same with two records, of which each has 5 bytes around its body, and this a tag and an image of 87 bytes: an empty
-// one of 29, and a module with a name of one byte, 45 bytes of source and one global, which are 2 + 4 + 45 + 2 + 5.
-static CUTS_OF_USED: [Cut; 5] = [
-    (0, Err(StoreFault::NoGeneration)),
-    (2, DAMAGED),
-    (51, Err(StoreFault::Damaged(50))),
-    (144, Err(StoreFault::Damaged(143))),
-    (237, Ok(2)),
+/// A file: what it is called, its bytes, how many there are, and what opening gives where it is cut.
+type CutFile = (&'static str, File, usize, &'static [Cut]);
+
+static CUT_FILES: [CutFile; 2] = [
+    // The same with two records, of which each has 5 bytes around its body, and this a tag and an image of 87 bytes: an
+    // empty one of 29, and a module with a name of one byte, 45 bytes of source and one global, which are 2 + 4 + 45 + 2 + 5.
+    // What comes after the last gate is not read.
+    (
+        "two records, and three bytes more",
+        File::Written(1, (0, None), &[(1, Some(2)), (2, Some(7))], &[1, 2, 3]),
+        237 + 3,
+        &[
+            (0, Err(StoreFault::NoGeneration)),
+            (2, DAMAGED),
+            (51, Err(StoreFault::Damaged(50))),
+            (144, Err(StoreFault::Damaged(143))),
+            (237, Ok(2)),
+        ],
+    ),
+    // And with no record. The image has 87 bytes, and its next gate is at 21 + 87.
+    (
+        "one image",
+        File::Written(2, (2, Some(7)), &[], &[]),
+        109,
+        &[
+            (0, Err(StoreFault::NoGeneration)),
+            (2, DAMAGED),
+            (109, Ok(2)),
+        ],
+    ),
 ];
 
-// And with no record. The image has 87 bytes, and its next gate is at 21 + 87.
-static CUTS_OF_ONE_IMAGE: [Cut; 3] = [
-    (0, Err(StoreFault::NoGeneration)),
-    (2, DAMAGED),
-    (109, Ok(2)),
-];
+/// Compares what opening gives a file that is cut.
+fn check_cut(
+    rt: &impl Abort,
+    alloc: Global,
+    cut: &[u8],
+    cuts: &[Cut],
+    what: &str,
+) -> Result<(), Fail> {
+    let found = (cut.len(), found(alloc, cut, &[0])?);
+    let wanted = (cut.len(), wanted_of(cuts, cut.len()));
+    check(rt, &found, &wanted, what);
+    Ok(())
+}
+
+/// Compares what opening gives a file that is cut to each length.
+fn check_cuts(
+    rt: &impl Abort,
+    alloc: Global,
+    file: &[u8],
+    cuts: &[Cut],
+    what: &str,
+) -> Result<(), Fail> {
+    for length in 0..=file.len() {
+        check_cut(
+            rt,
+            alloc,
+            file.get(..length).unwrap_or_default(),
+            cuts,
+            what,
+        )?;
+    }
+    Ok(())
+}
+
+fn check_cut_file(rt: &impl Abort, alloc: Global, row: &CutFile) -> Result<(), Fail> {
+    let (what, file, length, cuts) = *row;
+    let file = bytes_of(alloc, file)?;
+    check(rt, &file.len(), &length, what);
+    check_cuts(rt, alloc, file.as_slice(), cuts, what)
+}
 
 #[test]
 fn a_file_cut_short(rt: HostRuntime) -> Result<(), Fail> {
-    let alloc = rt.alloc();
-    check_cuts(&rt, alloc, loaded(), &CUTS_OF_LOADED)?;
-    let first = used_file(alloc)?;
-    check(&rt, &first.bytes().len(), &237, "the length");
-    check_cuts(&rt, alloc, first.bytes(), &CUTS_OF_USED)?;
-    let second = second_generation(used(alloc)?)?;
-    check(&rt, &second.bytes().len(), &109, "the length of an image");
-    check_cuts(&rt, alloc, second.bytes(), &CUTS_OF_ONE_IMAGE)?;
-    // What comes after the last gate is not read.
-    let mut longer = Vec::from_slice(alloc, first.bytes())?;
-    longer.extend_from_slice(&[1, 2, 3])?;
-    check(&rt, &found(alloc, &longer, &[0])?, &Ok(2), "a longer file");
+    check_cuts(&rt, rt.alloc(), loaded(), &CUTS_OF_LOADED, "one record")?;
+    for row in &CUT_FILES {
+        check_cut_file(&rt, rt.alloc(), row)?;
+    }
     Ok(())
 }
 
@@ -204,9 +238,9 @@ fn check_changed(rt: &impl Abort, alloc: Global, file: &[u8], row: Changed) -> R
 
 #[test]
 fn a_byte_changed(rt: HostRuntime) -> Result<(), Fail> {
-    let second = second_generation(used(rt.alloc())?)?;
+    let file = bytes_of(rt.alloc(), File::Written(2, (2, Some(7)), &[], &[]))?;
     for row in &CHANGED {
-        check_changed(&rt, rt.alloc(), second.bytes(), *row)?;
+        check_changed(&rt, rt.alloc(), file.as_slice(), *row)?;
     }
     Ok(())
 }

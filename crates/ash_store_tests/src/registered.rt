@@ -350,22 +350,32 @@ fn shapes_come_first(rt: HostRuntime) -> Result<(), Fail> {
     Ok(())
 }
 
-#[test]
-fn the_text_in_each_record(rt: HostRuntime) -> Result<(), Fail> {
-    let alloc = rt.alloc();
-    let first = stored(alloc, Place::Record)?;
-    let text = b"type Tall 1\n";
-    let in_image = first.bytes().get(27..39).unwrap_or_default();
-    check_bytes(&rt, in_image, text, "in the image");
-    let in_record = first.bytes().get(74..86).unwrap_or_default();
-    check_bytes(&rt, in_record, text, "in the record");
-    // What is opened goes on with that text.
-    let (a, b) = (disk(alloc, first.bytes())?, disk(alloc, &[0])?);
+/// The first disk of a store that is opened and then takes its module away.
+fn after_a_discard(alloc: Global, first: &[u8]) -> Result<MemoryDisk, Fail> {
+    let (a, b) = (disk(alloc, first)?, disk(alloc, &[0])?);
     let mut host = opened(alloc, a, b, one_type(alloc, "Tall")?)?;
     discard(&mut host)?;
     let (first, _) = closed(host);
-    // The next gate of the first record is at 135, and the second's text 12 bytes after it.
-    let in_record = first.bytes().get(147..159).unwrap_or_default();
-    check_bytes(&rt, in_record, text, "in the second record");
+    Ok(first)
+}
+
+/// Compares the text at a place of a disk with that of what is registered.
+fn check_text_at(rt: &impl Abort, disk: &MemoryDisk, at: usize, what: &str) {
+    let found = disk
+        .bytes()
+        .get(at..at.wrapping_add(12))
+        .unwrap_or_default();
+    check_bytes(rt, found, b"type Tall 1\n", what);
+}
+
+#[test]
+fn the_text_in_each_record(rt: HostRuntime) -> Result<(), Fail> {
+    let first = stored(rt.alloc(), Place::Record)?;
+    check_text_at(&rt, &first, 27, "in the image");
+    check_text_at(&rt, &first, 74, "in the record");
+    // What is opened goes on with that text. The next gate of the first record is at 135, and the second's text 12 bytes
+    // after it.
+    let first = after_a_discard(rt.alloc(), first.bytes())?;
+    check_text_at(&rt, &first, 147, "in the second record");
     Ok(())
 }

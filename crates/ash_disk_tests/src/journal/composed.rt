@@ -3,8 +3,7 @@ ghost use Rattle.std.specs.Prelude.{◌≡◌, ◌<◌, ◌^◌, ◌∷◌, [], 
 ghost use Rattle.ash_journal.specs.Reading.{bodies_of};
 ghost use Rattle.ash_journal.specs.Journal.{Holds, IsReady};
 
-use super::{check_journal, closed};
-use crate::compare::check_bytes;
+use crate::compare::{check_bytes, check_number};
 use ash_disk::{Disk, MemoryDisk};
 use ash_journal::{Journal, Opened};
 use std::alloc::Global;
@@ -123,13 +122,33 @@ fn composed_in_memory(alloc: Global) -> Result<Journal<MemoryDisk>, CallerError>
     composed(alloc, first, second, b"image", b"body")
 }
 
+const CLOSED: &[u8] =
+    b"\x01ASHOST01\x02\0\0\0\0\0\0\0\x05\0\0\0image\x01\x04\0\0\0body\x01\x04\0\0\0body\0";
+
 #[test]
 fn every_call_once(rt: HostRuntime) -> Result<(), Fail> {
     let journal = composed_in_memory(rt.alloc())?;
-    check_journal(&rt, &journal, 2, 18);
-    let (_, second) = closed(journal);
-    let file =
-        b"\x01ASHOST01\x02\0\0\0\0\0\0\0\x05\0\0\0image\x01\x04\0\0\0body\x01\x04\0\0\0body\0";
-    check_bytes(&rt, second.bytes(), file, "the second file");
+    check_number(
+        &rt,
+        journal.generation(),
+        2,
+        "every call once",
+        "the generation",
+    );
+    check_number(
+        &rt,
+        journal.record_bytes(),
+        18,
+        "every call once",
+        "the bytes of records",
+    );
+    let (_, second) = journal.close();
+    check_bytes(
+        &rt,
+        second.bytes(),
+        CLOSED,
+        "every call once",
+        "the second file",
+    );
     Ok(())
 }

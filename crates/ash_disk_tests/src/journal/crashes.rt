@@ -1,27 +1,41 @@
 //! Stops at every call of either disk, and what crashes leave of them.
 
-use super::{add, opened, put};
+use super::{Placed, Step, add, count_met, found_in, is_held};
 use crate::compare::check_number;
+use crate::disks::image;
 use ash_disk::{Disk, FuseDisk, MemoryDisk, Survives};
 use ash_journal::{AppendError, Journal, OpenFault, Opened};
 use std::alloc::{AllocError, Global};
 use std::process::Abort;
 use std::test::Fail;
 
-// What a journal holds after each step of the run: which image, and how many records.
-const STATES: [(&[u8], usize); 7] = [
-    (b"zero", 0),
-    (b"zero", 1),
-    (b"zero", 2),
-    (b"zero", 3),
-    (b"next", 0),
-    (b"next", 1),
-    (b"next", 2),
+// What is asked of a journal once it is created with the image `zero`.
+static STEPS: [Step; 5] = [
+    Step::Add(b"first"),
+    Step::Add(b""),
+    Step::Add(b"the third"),
+    Step::Put(b"next"),
+    Step::Add(b"first"),
 ];
 
-const BODIES: [&[u8]; 3] = [b"first", b"", b"the third"];
+// And what once it is closed and opened again.
+static STEPS_AGAIN: [Step; 2] = [Step::Settle, Step::Add(b"")];
 
-// Where a run stopped: how many steps were acknowledged, and the disks.
+/// What a journal holds: its image and its records.
+type Held = (&'static [u8], &'static [Placed]);
+
+// What a journal holds after it is created, and after each generation and record that is added.
+static STATES: [Held; 7] = [
+    (b"zero", &[]),
+    (b"zero", &[(25, b"first")]),
+    (b"zero", &[(25, b"first"), (35, b"")]),
+    (b"zero", &[(25, b"first"), (35, b""), (40, b"the third")]),
+    (b"next", &[]),
+    (b"next", &[(25, b"first")]),
+    (b"next", &[(25, b"first"), (35, b"")]),
+];
+
+// Where a run stopped: how many states were acknowledged, and the disks.
 #[derive(Drop)]
 struct Stopped {
     done: usize,
@@ -29,68 +43,40 @@ struct Stopped {
     second: MemoryDisk,
 }
 
-// Appends the record of a number.
-fn next_record<D: Disk>(journal: &mut Journal<D>, number: usize) -> bool {
-    match BODIES.get(number) {
-        Some(body) => add(journal, body).is_ok(),
-        None => false,
-    }
-}
-
-// The steps of a run from a created journal on: how many were acknowledged, and the disks.
-fn steps<D: Disk>(mut journal: Journal<D>) -> (usize, Journal<D>) {
-    let mut done = 1;
-    for number in 0..3 {
-        if !next_record(&mut journal, number) {
-            return (done, journal);
-        }
-        done = number + 2;
-    }
-    if put(&mut journal, b"next").is_err() {
-        return (4, journal);
-    }
-    if !next_record(&mut journal, 0) {
-        return (5, journal);
-    }
-    (6, journal)
-}
-
-// The last steps: the disks are opened again, and a record is added.
+// The end of a run: the disks are opened again, and a record is added.
 fn last_steps<D: Disk>(alloc: Global, first: D, second: D) -> (usize, D, D) {
-    let mut found = match Journal::open(alloc, first, second) {
-        Ok(found) => found,
-        Err(refused) => return (6, refused.first, refused.second),
-    };
-    let done = if found.journal.settle().is_ok() && next_record(&mut found.journal, 1) {
-        7
-    } else {
-        6
-    };
-    let Opened {
-        journal,
-        image: _,
-        records: _,
-    } = found;
-    let (first, second) = journal.close();
-    (done, first, second)
+    match Journal::open(alloc, first, second) {
+        Ok(found) => {
+            let mut journal = found.journal;
+            let is_done = count_met(&mut journal, &STEPS_AGAIN) == STEPS_AGAIN.len();
+            let (first, second) = journal.close();
+            (usize::from(is_done), first, second)
+        }
+        Err(refused) => (0, refused.first, refused.second),
+    }
+}
+
+// A run over two disks: how many states were acknowledged, and the disks.
+fn run<D: Disk>(alloc: Global, first: D, second: D) -> (usize, D, D) {
+    match Journal::create(alloc, first, second, b"zero") {
+        Err(refused) => (0, refused.first, refused.second),
+        Ok(mut journal) => {
+            let done = count_met(&mut journal, &STEPS).wrapping_add(1);
+            let (first, second) = journal.close();
+            if done <= STEPS.len() {
+                return (done, first, second);
+            }
+            let (more, first, second) = last_steps(alloc, first, second);
+            (done.wrapping_add(more), first, second)
+        }
+    }
 }
 
 // A run over two disks that fail after so many calls.
-fn run(alloc: Global, first_calls: u64, second_calls: u64) -> Stopped {
+fn stop(alloc: Global, first_calls: u64, second_calls: u64) -> Stopped {
     let first = FuseDisk::new(MemoryDisk::new(alloc), first_calls);
     let second = FuseDisk::new(MemoryDisk::new(alloc), second_calls);
-    let (done, first, second) = match Journal::create(alloc, first, second, b"zero") {
-        Err(refused) => (0, refused.first, refused.second),
-        Ok(journal) => {
-            let (done, journal) = steps(journal);
-            let (first, second) = journal.close();
-            if done == 6 {
-                last_steps(alloc, first, second)
-            } else {
-                (done, first, second)
-            }
-        }
-    };
+    let (done, first, second) = run(alloc, first, second);
     Stopped {
         done,
         first: first.into_inner(),
@@ -98,26 +84,20 @@ fn run(alloc: Global, first_calls: u64, second_calls: u64) -> Stopped {
     }
 }
 
-// Whether what was found is the state after so many steps.
-fn is_state(found: &Opened<MemoryDisk>, steps: usize) -> bool {
-    let Some((image, count)) = STATES.get(steps.wrapping_sub(1)) else {
-        return false;
-    };
-    if found.image.as_slice() != *image || found.records.len() != *count {
-        return false;
+// Whether what was found is the state of a number, from 1 on.
+fn is_state(found: &Opened<MemoryDisk>, number: usize) -> bool {
+    match STATES.get(number.wrapping_sub(1)) {
+        Some((image, records)) => is_held(found, image, records),
+        None => false,
     }
-    found
-        .records
-        .iter()
-        .zip(BODIES.iter())
-        .all(|(record, body)| record.body.as_slice() == *body)
 }
 
 // What an image holds is what was acknowledged, or the step in progress more; before the first step it may be none. And
 // so it stays once that is settled, with one record more.
 fn holds(alloc: Global, done: usize, first: &[u8], second: &[u8]) -> Result<bool, AllocError> {
-    let mut found = match opened(alloc, first, second)? {
+    let mut found = match found_in(alloc, first, second) {
         Ok(found) => found,
+        Err(OpenFault::NoMemory) => return Err(AllocError),
         Err(fault) => return Ok(done == 0 && fault == OpenFault::NoGeneration),
     };
     if !is_state(&found, done) && !is_state(&found, done.wrapping_add(1)) {
@@ -132,22 +112,11 @@ fn holds(alloc: Global, done: usize, first: &[u8], second: &[u8]) -> Result<bool
         Err(AppendError::NoMemory) => return Err(AllocError),
         Err(AppendError::DeviceFailed) => return Ok(false),
     }
-    let Opened {
-        journal,
-        image: _,
-        records: _,
-    } = found;
-    let (first, second) = journal.close();
-    match opened(alloc, first.bytes(), second.bytes())? {
+    let (first, second) = found.journal.close();
+    match found_in(alloc, first.bytes(), second.bytes()) {
         Ok(again) => Ok(again.records.len() == count.wrapping_add(1)),
         Err(_) => Ok(false),
     }
-}
-
-// An image that a crash after all calls of a disk may leave.
-fn image(disk: &MemoryDisk, survives: Survives) -> Result<Vec<u8>, AllocError> {
-    let calls = disk.calls();
-    disk.crash_image(calls, survives)
 }
 
 // What a crash left of the first disk and of the second.
@@ -155,11 +124,10 @@ type Crash = (Survives, Survives);
 
 // Whether what a crash leaves of the disks holds.
 fn outlives(alloc: Global, stopped: &Stopped, crash: Crash) -> Result<bool, AllocError> {
-    let first = image(&stopped.first, crash.0)?;
-    let second = image(&stopped.second, crash.1)?;
+    let first = image(&stopped.first, usize::MAX, crash.0)?;
+    let second = image(&stopped.second, usize::MAX, crash.1)?;
     holds(alloc, stopped.done, &first, &second)
 }
-
 // The first crash that loses something, of the extremes, and of a thousand that seeds give.
 fn loss(alloc: Global, stopped: &Stopped) -> Result<Option<Crash>, AllocError> {
     let (nothing, everything) = (Survives::Nothing, Survives::Everything);
@@ -190,7 +158,7 @@ fn check_stop(
     first_calls: u64,
     second_calls: u64,
 ) -> Result<usize, Fail> {
-    let stopped = run(alloc, first_calls, second_calls);
+    let stopped = stop(alloc, first_calls, second_calls);
     let loss = loss(alloc, &stopped)?;
     assert_eq!(rt;
         loss,
@@ -221,7 +189,13 @@ fn count_stops(rt: &impl Abort, alloc: Global, is_first: bool) -> Result<u64, Fa
 fn the_first_disk_fails(rt: HostRuntime) -> Result<(), Fail> {
     let stops = count_stops(&rt, rt.alloc(), true)?;
     // A look is 2 calls, a gate 2, a commit 4, and opening 3 where the file is not current.
-    check_number(&rt, stops, 2 + 2 + 4 + 3 * 4 + 3, "the stops");
+    check_number(
+        &rt,
+        stops,
+        2 + 2 + 4 + 3 * 4 + 3,
+        "the first disk",
+        "the stops",
+    );
     Ok(())
 }
 
@@ -229,6 +203,7 @@ fn the_first_disk_fails(rt: HostRuntime) -> Result<(), Fail> {
 fn the_second_disk_fails(rt: HostRuntime) -> Result<(), Fail> {
     let stops = count_stops(&rt, rt.alloc(), false)?;
     // A look is 2 calls, a gate 2, a commit 4, opening 3, and the image and the record to read 2 each.
-    check_number(&rt, stops, 2 + 2 + 4 + 4 + 3 + 2 * 2 + 4, "the stops");
+    let wanted = 2 + 2 + 4 + 4 + 3 + 2 * 2 + 4;
+    check_number(&rt, stops, wanted, "the second disk", "the stops");
     Ok(())
 }

@@ -1,14 +1,14 @@
 //! Every cut and every changed byte of a file with three records, against a reading of the layout by hand.
 
-use super::{has_fault, opened};
-use crate::compare::check_true;
-use ash_journal::OpenFault;
+use super::{WITH_A_MODULE, found_in};
+use ash_journal::{OpenFault, Record};
 use std::alloc::{AllocError, Global};
 use std::process::Abort;
 use std::test::Fail;
 
-// What an open file that is beside an empty one holds: its generation, and where the image and each record's body end.
-type Shape = (u64, usize, Vec<usize>);
+// What an open file that is beside an empty one holds: its generation, where the image ends, and where the body of each
+// record ends. The file below has room for six records at the most.
+type Shape = (u64, usize, [usize; 8]);
 
 // Where the block from a place on ends, after its length, or nothing where it or the gate after it is cut.
 fn block_end(file: &[u8], at: usize) -> Option<usize> {
@@ -22,90 +22,107 @@ fn block_end(file: &[u8], at: usize) -> Option<usize> {
     Some(end)
 }
 
-// What a file holds, or the fault that it has, read by hand from the layout.
-fn read_by_hand(alloc: Global, file: &[u8]) -> Result<Result<Shape, OpenFault>, AllocError> {
-    if file.len() < 2 || file.first() != Some(&1) {
-        return Ok(Err(OpenFault::NoGeneration));
+// Where the bodies of the records end that begin at a place, or the fault of the first that is cut.
+fn ends_by_hand(file: &[u8], from: usize) -> Result<[usize; 8], OpenFault> {
+    let mut ends = [0_usize; 8];
+    let mut gate = from;
+    for place in &mut ends {
+        if file.get(gate) != Some(&1) {
+            return Ok(ends);
+        }
+        let Some(end) = block_end(file, gate.wrapping_add(1)) else {
+            return Err(OpenFault::Damaged(gate as u64));
+        };
+        *place = end;
+        gate = end;
     }
-    let Some(mark) = file.get(1..17) else {
-        return Ok(Err(OpenFault::Damaged(0)));
-    };
-    if mark.get(..8) != Some(b"ASHOST01".as_slice()) {
-        return Ok(Err(OpenFault::Damaged(0)));
-    }
+    Ok(ends)
+}
+
+// The number of a generation, the lowest byte first.
+fn generation_in(mark: &[u8]) -> u64 {
     let mut generation = 0_u64;
     for byte in mark.iter().skip(8).rev() {
         generation = generation.wrapping_mul(256).wrapping_add(u64::from(*byte));
     }
-    let Some(image) = block_end(file, 17) else {
-        return Ok(Err(OpenFault::Damaged(0)));
-    };
-    let mut ends = Vec::new(alloc);
-    let mut gate = image;
-    for _ in 0..file.len() {
-        if file.get(gate) != Some(&1) {
-            break;
-        }
-        let Some(end) = block_end(file, gate.wrapping_add(1)) else {
-            return Ok(Err(OpenFault::Damaged(gate as u64)));
-        };
-        ends.push(end)?;
-        gate = end;
+    generation
+}
+
+// What a file holds, or the fault that it has, read by hand from the layout.
+fn read_by_hand(file: &[u8]) -> Result<Shape, OpenFault> {
+    if file.len() < 2 || file.first() != Some(&1) {
+        return Err(OpenFault::NoGeneration);
     }
-    Ok(Ok((generation, image, ends)))
+    let Some(mark) = file.get(1..17) else {
+        return Err(OpenFault::Damaged(0));
+    };
+    if mark.get(..8) != Some(b"ASHOST01".as_slice()) {
+        return Err(OpenFault::Damaged(0));
+    }
+    let Some(image) = block_end(file, 17) else {
+        return Err(OpenFault::Damaged(0));
+    };
+    match ends_by_hand(file, image) {
+        Ok(ends) => Ok((generation_in(mark), image, ends)),
+        Err(fault) => Err(fault),
+    }
+}
+
+// Where the bodies of records end that were found.
+fn ends_of(records: &[Record]) -> [usize; 8] {
+    let mut ends = [0_usize; 8];
+    for (place, record) in ends.iter_mut().zip(records.iter()) {
+        *place = (record.gate as usize)
+            .wrapping_add(5)
+            .wrapping_add(record.body.len());
+    }
+    ends
 }
 
 // The same, as the journal finds it.
-fn found(alloc: Global, file: &[u8]) -> Result<Result<Shape, OpenFault>, AllocError> {
-    match opened(alloc, file, b"")? {
-        Err(OpenFault::NoMemory) => Err(AllocError),
-        Err(fault) => Ok(Err(fault)),
-        Ok(opened) => {
-            let image = opened.image.len().wrapping_add(21);
-            let mut ends = Vec::new(alloc);
-            for record in &opened.records {
-                let end = (record.gate as usize)
-                    .wrapping_add(5)
-                    .wrapping_add(record.body.len());
-                ends.push(end)?;
-            }
-            Ok(Ok((opened.journal.generation(), image, ends)))
+fn found(alloc: Global, file: &[u8]) -> Result<Shape, OpenFault> {
+    match found_in(alloc, file, b"") {
+        Ok(found) => {
+            let image = found.image.len().wrapping_add(21);
+            Ok((
+                found.journal.generation(),
+                image,
+                ends_of(found.records.as_slice()),
+            ))
         }
+        Err(fault) => Err(fault),
     }
 }
 
 const FILE: &[u8] =
     b"\x01ASHOST01\x07\0\0\0\0\0\0\0\x05\0\0\0image\x01\x03\0\0\0one\x01\0\0\0\0\x01\x05\0\0\0three\0junk";
 
-// Compares what the journal finds in a file with a reading by hand.
-fn check_file(
+// Compares what the journal finds in a file with what it is to find.
+fn check_found(
     rt: &impl Abort,
     alloc: Global,
     file: &[u8],
-    at: usize,
-    what: &str,
-) -> Result<(), Fail> {
-    let found = found(alloc, file)?;
-    let by_hand = read_by_hand(alloc, file)?;
-    assert_eq!(rt; found, by_hand, "{what} {at}: {file:?}");
-    Ok(())
-}
-
-// Whether this is what the whole file holds.
-fn is_whole(shape: &Shape) -> bool {
-    shape.0 == 7 && shape.1 == 26 && shape.2.as_slice() == [34, 39, 49].as_slice()
+    wanted: Result<Shape, OpenFault>,
+    what: (&str, usize),
+) {
+    let found = found(alloc, file);
+    assert_eq!(rt; found, wanted, "{} {}: {file:?}", what.0, what.1);
 }
 
 #[test]
-fn every_cut(rt: HostRuntime) -> Result<(), Fail> {
-    let alloc = rt.alloc();
+fn every_cut(rt: HostRuntime) {
     for len in 0..=FILE.len() {
         let file = FILE.get(..len).unwrap_or(FILE);
-        check_file(&rt, alloc, file, len, "cut to")?;
+        check_found(&rt, rt.alloc(), file, read_by_hand(file), ("cut to", len));
     }
-    let whole = found(alloc, FILE)??;
-    check_true(&rt, is_whole(&whole), "the whole file");
-    Ok(())
+    let whole = Ok((7, 26, [34, 39, 49, 0, 0, 0, 0, 0]));
+    check_found(
+        &rt,
+        rt.alloc(),
+        FILE,
+        whole,
+        ("the whole file of", FILE.len()),
+    );
 }
 
 // A file with another byte at a place.
@@ -121,7 +138,8 @@ fn changed(alloc: Global, file: &[u8], at: usize, byte: u8) -> Result<Vec<u8>, A
 fn check_place(rt: &impl Abort, alloc: Global, file: &[u8], at: usize) -> Result<(), Fail> {
     for byte in 0..=255 {
         let file = changed(alloc, file, at, byte)?;
-        check_file(rt, alloc, file.as_slice(), at, "changed at")?;
+        let by_hand = read_by_hand(file.as_slice());
+        check_found(rt, alloc, file.as_slice(), by_hand, ("changed at", at));
     }
     Ok(())
 }
@@ -134,24 +152,65 @@ fn every_changed_byte(rt: HostRuntime) -> Result<(), Fail> {
     Ok(())
 }
 
-// Whether two files hold a journal.
-fn is_open(alloc: Global, first: &[u8], second: &[u8]) -> Result<bool, AllocError> {
-    Ok(opened(alloc, first, second)?.is_ok())
+// What two files are called, the first and how many bytes of it are there, the second, and why they are not opened, if
+// they are not.
+type Two = (
+    &'static str,
+    &'static [u8],
+    usize,
+    &'static [u8],
+    Option<OpenFault>,
+);
+
+const OLDER: &[u8] = b"\x01ASHOST01\x06\0\0\0\0\0\0\0";
+
+const SAME: &[u8] = b"\x01ASHOST01\x07\0\0\0\0\0\0\0";
+
+static TWO_FILES: [Two; 5] = [
+    // Of the older file nothing is read but its gate, magic and number.
+    ("an older file", OLDER, 17, FILE, None),
+    (
+        "the same generation twice",
+        FILE,
+        54,
+        SAME,
+        Some(OpenFault::Damaged(0)),
+    ),
+    (
+        "another format",
+        FILE,
+        54,
+        b"\x01ASHOST02\x06",
+        Some(OpenFault::Damaged(0)),
+    ),
+    (
+        "no generation",
+        b"\x02",
+        1,
+        b"",
+        Some(OpenFault::NoGeneration),
+    ),
+    // Cut within the record, it is reported by the gate before it.
+    (
+        "a record that is cut",
+        WITH_A_MODULE,
+        80,
+        &[0],
+        Some(OpenFault::Damaged(50)),
+    ),
+];
+
+// Compares why two files are not opened.
+fn check_two_files(rt: &impl Abort, alloc: Global, row: &Two) {
+    let (what, first, length, second, wanted) = row;
+    let first = first.get(..*length).unwrap_or(first);
+    let found = found_in(alloc, first, second).err();
+    assert_eq!(rt; found, *wanted, "{what}");
 }
 
 #[test]
-fn two_files(rt: HostRuntime) -> Result<(), Fail> {
-    let alloc = rt.alloc();
-    let older = b"\x01ASHOST01\x06\0\0\0\0\0\0\0";
-    let same = b"\x01ASHOST01\x07\0\0\0\0\0\0\0";
-    // Of the older file nothing is read but its gate, magic and number.
-    check_true(&rt, is_open(alloc, older, FILE)?, "an older file");
-    let is_damaged = has_fault(alloc, FILE, same, OpenFault::Damaged(0))?;
-    check_true(&rt, is_damaged, "the same generation twice");
-    let other = b"\x01ASHOST02\x06";
-    let is_damaged = has_fault(alloc, FILE, other, OpenFault::Damaged(0))?;
-    check_true(&rt, is_damaged, "another format");
-    let is_none = has_fault(alloc, b"\x02", b"", OpenFault::NoGeneration)?;
-    check_true(&rt, is_none, "no generation");
-    Ok(())
+fn two_files(rt: HostRuntime) {
+    for row in &TWO_FILES {
+        check_two_files(&rt, rt.alloc(), row);
+    }
 }

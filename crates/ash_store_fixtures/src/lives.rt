@@ -1,0 +1,215 @@
+//! Lives of a store as data: what is asked of a host from the making or the opening of its store until it is closed, and the
+//! files by hand that it then leaves. What is answered is written out, so that a test compares a text.
+
+use crate::files::{Module, add_record, generation, image};
+use crate::hosts::{
+    EMPTY, SOURCE, State, call, call_in, closed, created, discard, disk, fuse, global, inner, load,
+    opened, reopened, seq, shown, snapshot, state,
+};
+use ash_disk::{Disk, MemoryDisk};
+use ash_durable::{Host, StoreFault};
+use ash_meaning::request::Argument;
+use ash_registry::Registry;
+use std::alloc::{AllocError, Global};
+use std::test::Fail;
+
+/// What is asked of a host.
+#[derive(Clone, Copy)]
+pub enum Step {
+    /// The module `m` is loaded.
+    Load,
+    /// The function `f` of `m` is called with a number.
+    Call(i128),
+    /// The function `f` of this module is called with nothing.
+    CallIn(&'static str),
+    /// The module `m` is taken away.
+    Discard,
+    /// The state is put into a new generation.
+    Snapshot,
+    /// A global of `m` is read.
+    Global(&'static str),
+    /// How many requests have been answered.
+    Seq,
+    /// That number, and what the global `n` of `m` holds.
+    State,
+}
+
+/// Takes a step, and writes out what is answered.
+fn answer<D: Disk>(alloc: Global, host: &mut Host<D>, step: Step) -> Result<String, AllocError> {
+    match step {
+        Step::Load => shown(alloc, &load(host, SOURCE)),
+        Step::Call(number) => shown(alloc, &call(host, &[Argument::Number(number)])),
+        Step::CallIn(module) => shown(alloc, &call_in(host, module, &[])),
+        Step::Discard => shown(alloc, &discard(host)),
+        Step::Snapshot => shown(alloc, &snapshot(host)),
+        Step::Global(name) => shown(alloc, &global(host, name)),
+        Step::Seq => shown(alloc, &seq(host)),
+        Step::State => shown(alloc, &state(host)),
+    }
+}
+
+/// What is answered to each step, with a line feed after each.
+pub fn answers<D: Disk>(
+    alloc: Global,
+    host: &mut Host<D>,
+    steps: &[Step],
+) -> Result<String, AllocError> {
+    let mut all = String::new(alloc);
+    for step in steps {
+        let answer = answer(alloc, host, *step)?;
+        all.push_str(answer.as_str())?;
+        all.push_str("\n")?;
+    }
+    Ok(all)
+}
+
+/// A file of a store by hand.
+#[derive(Clone, Copy)]
+pub enum File {
+    /// These bytes.
+    Bytes(&'static [u8]),
+    /// That of a host that has no module, nothing registered, and has answered no request.
+    Empty,
+    /// The generation of a number: the state in its image, the states in its records, and what is left after them of what
+    /// was longer.
+    Written(u64, State, &'static [State], &'static [u8]),
+    /// The generation of a number with a state in its image, over the first one, which had an empty image and these states
+    /// in its records, and was longer.
+    Over(u64, State, &'static [State]),
+}
+
+/// The image of a host in a state, whose module has the source that steps load.
+pub fn image_of(alloc: Global, state: State) -> Result<Vec<u8>, AllocError> {
+    let (seq, global) = state;
+    let module = Module {
+        name: "m",
+        source: SOURCE,
+        global,
+    };
+    match global {
+        Some(_) => image(alloc, seq, &[module]),
+        None => image(alloc, seq, &[]),
+    }
+}
+
+fn written(
+    alloc: Global,
+    number: u64,
+    first: State,
+    records: &[State],
+) -> Result<Vec<u8>, AllocError> {
+    let image = image_of(alloc, first)?;
+    let mut file = generation(alloc, number, image.as_slice())?;
+    for state in records {
+        let image = image_of(alloc, *state)?;
+        add_record(&mut file, image.as_slice())?;
+    }
+    Ok(file)
+}
+
+/// The bytes of a file.
+pub fn bytes_of(alloc: Global, file: File) -> Result<Vec<u8>, AllocError> {
+    match file {
+        File::Bytes(bytes) => Vec::from_slice(alloc, bytes),
+        File::Empty => Vec::from_slice(alloc, &EMPTY),
+        File::Written(number, first, records, rest) => {
+            let mut file = written(alloc, number, first, records)?;
+            file.extend_from_slice(rest)?;
+            Ok(file)
+        }
+        File::Over(number, state, records) => {
+            let old = written(alloc, 1, (0, None), records)?;
+            let mut file = written(alloc, number, state, &[])?;
+            let rest = old.as_slice().get(file.len()..).unwrap_or_default();
+            file.extend_from_slice(rest)?;
+            Ok(file)
+        }
+    }
+}
+
+/// The disks of two files.
+pub fn disks_of(
+    alloc: Global,
+    first: File,
+    second: File,
+) -> Result<(MemoryDisk, MemoryDisk), Fail> {
+    let first = bytes_of(alloc, first)?;
+    let second = bytes_of(alloc, second)?;
+    let first = disk(alloc, first.as_slice())?;
+    Ok((first, disk(alloc, second.as_slice())?))
+}
+
+/// How a run begins.
+#[derive(Clone, Copy)]
+pub enum Start {
+    /// A store is made.
+    Make,
+    /// The store is opened.
+    Open,
+}
+
+/// What is asked of a host until it is closed: what that is called, how it begins, the steps with what is answered, whether
+/// the host is opened again after them, the files that it leaves, and how many writes and syncs each disk has had by then.
+pub struct Run {
+    pub what: &'static str,
+    pub start: Start,
+    pub steps: &'static [Step],
+    pub answers: &'static str,
+    pub is_reopened: bool,
+    pub first: File,
+    pub second: File,
+    pub calls: (usize, usize),
+}
+
+/// The host with which a run begins.
+fn begun(
+    alloc: Global,
+    disks: (MemoryDisk, MemoryDisk),
+    start: Start,
+) -> Result<Host<MemoryDisk>, StoreFault> {
+    let (a, b) = disks;
+    match start {
+        Start::Make => created(alloc, a, b, Registry::new(alloc)),
+        Start::Open => opened(alloc, a, b, Registry::new(alloc)),
+    }
+}
+
+/// Carries out a run: what is answered, and the disks.
+pub fn lived(
+    alloc: Global,
+    disks: (MemoryDisk, MemoryDisk),
+    run: &Run,
+) -> Result<(String, (MemoryDisk, MemoryDisk)), Fail> {
+    let mut host = begun(alloc, disks, run.start)?;
+    let answers = answers(alloc, &mut host, run.steps)?;
+    if run.is_reopened {
+        host = reopened(host)?;
+    }
+    Ok((answers, closed(host)))
+}
+
+/// What a store that these disks hold answers to steps, or why it isn't opened.
+pub fn found_answers(
+    alloc: Global,
+    a: MemoryDisk,
+    b: MemoryDisk,
+    steps: &[Step],
+) -> Result<String, AllocError> {
+    match opened(alloc, a, b, Registry::new(alloc)) {
+        Ok(mut host) => answers(alloc, &mut host, steps),
+        Err(fault) => shown(alloc, &fault),
+    }
+}
+
+/// What a new store answers to steps whose disks fail after so many calls, and the disks.
+pub fn lived_on_fuses(
+    alloc: Global,
+    calls: (u64, u64),
+    steps: &[Step],
+) -> Result<(String, (MemoryDisk, MemoryDisk)), Fail> {
+    let (a, b) = (fuse(alloc, calls.0), fuse(alloc, calls.1));
+    let mut host = created(alloc, a, b, Registry::new(alloc))?;
+    let answers = answers(alloc, &mut host, steps)?;
+    let (a, b) = closed(host);
+    Ok((answers, (inner(a), inner(b))))
+}
