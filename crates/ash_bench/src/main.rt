@@ -1,13 +1,15 @@
-//! How fast the lexer, the parser, the checker and the journal are.
+//! How fast the lexer, the parser, the checker, the object table and the journal are.
 //!
-//! `ash_bench lex`, `ash_bench parse` and `ash_bench check` take sources, and `ash_bench journal FOLDER` writes records to
-//! files in that folder, which should be empty. Each does its work once and prints what it has counted. With a number of
-//! rounds behind these words the work is done so many times more, and its rates are printed too.
+//! `ash_bench lex`, `ash_bench parse` and `ash_bench check` take sources, `ash_bench objects` makes objects, and
+//! `ash_bench journal FOLDER` writes records to files in that folder, which should be empty. Each does its work once and
+//! prints what it has counted. With a number of rounds behind these words the work is done so many times more, and its
+//! rates or times are printed too.
 #![tactic(auto)]
 
 mod checking;
 mod journaling;
 mod lexing;
+mod objects;
 mod parsing;
 mod rates;
 mod sources;
@@ -19,7 +21,7 @@ use std::{env, io};
 use words::{Bench, Task};
 
 const USAGE: &str =
-    "usage: ash_bench lex|parse|check [ROUNDS] or ash_bench journal FOLDER [ROUNDS]";
+    "usage: ash_bench lex|parse|check|objects [ROUNDS] or ash_bench journal FOLDER [ROUNDS]";
 
 fn main(rt: HostRuntime) -> Result<ExitCode> {
     let words: Vec<String> = env::args(&rt)?.collect(rt.alloc())?;
@@ -31,6 +33,7 @@ fn main(rt: HostRuntime) -> Result<ExitCode> {
         Bench::Lex => lexing::run(&rt, rounds)?,
         Bench::Parse => parsing::run(&rt, rounds)?,
         Bench::Check => checking::run(&rt, rounds)?,
+        Bench::Objects => objects::run(&rt, rounds)?,
         Bench::Journal { folder } => journaling::run(&rt, folder, rounds)?,
     }
     Ok(ExitCode::SUCCESS)

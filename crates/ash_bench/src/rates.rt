@@ -38,6 +38,21 @@ impl Timing {
         Ok(())
     }
 
+    /// Counts the work as done once more, from a moment until now.
+    pub fn add(&mut self, rt: &HostRuntime, start: Instant) -> Result<()> {
+        let nanoseconds = start.elapsed(rt)?.as_nanos();
+        self.rounds = self.rounds.wrapping_add(1);
+        self.nanoseconds = self.nanoseconds.wrapping_add(nanoseconds);
+        Ok(())
+    }
+
+    /// How many tenths of a nanosecond one thing took, with so many in each round.
+    pub fn tenths_of_nanoseconds(&self, things: u64) -> u128 {
+        let all = u128::from(self.rounds).wrapping_mul(u128::from(things));
+        let tenths = self.nanoseconds.wrapping_mul(10).checked_div(all);
+        tenths.unwrap_or(0)
+    }
+
     /// How many microseconds the work took, done once.
     pub fn microseconds(&self) -> u128 {
         let nanoseconds = self.nanoseconds.checked_div(u128::from(self.rounds));

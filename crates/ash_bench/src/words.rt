@@ -6,6 +6,7 @@ pub enum Bench<'a> {
     Lex,
     Parse,
     Check,
+    Objects,
     Journal { folder: &'a str },
 }
 
@@ -23,6 +24,7 @@ impl<'a> Task<'a> {
             [_, name, rest @ ..] if name.as_str() == "lex" => (Bench::Lex, rest),
             [_, name, rest @ ..] if name.as_str() == "parse" => (Bench::Parse, rest),
             [_, name, rest @ ..] if name.as_str() == "check" => (Bench::Check, rest),
+            [_, name, rest @ ..] if name.as_str() == "objects" => (Bench::Objects, rest),
             [_, name, folder, rest @ ..] if name.as_str() == "journal" => {
                 let folder = folder.as_str();
                 (Bench::Journal { folder }, rest)
