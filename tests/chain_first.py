@@ -30,8 +30,6 @@ MEMORY_OF_A_JOB = 0.6
 MEMORY_GIVEN_OUT = 0.85
 # A chain is the longest by far where every other has less than this share of its lines.
 NEAR = 0.7
-# How many lines of code take as long to prove as a line of tests, as far as was seen.
-LINES_OF_A_TEST_LINE = 3
 # How nice a task is to those of a chain that is far longer, and an edit to all proofs.
 NICE, NICE_OF_EDITS = 10, 15
 
@@ -50,12 +48,12 @@ def fills(key):
 
 
 def behind(tasks):
-    """For each task the lines of the longest chain of tasks that begins with it, where a line of tests counts for several.
-    A task comes after those it waits for."""
+    """For each task the lines of the longest chain of tasks that begins with it. A line of tests takes about as long as one
+    of code. A task comes after those it waits for."""
     lines = dict.fromkeys(tasks, 0)
     for key in reversed([*tasks]):
         waits_for, own = tasks[key][:2]
-        lines[key] += own * (LINES_OF_A_TEST_LINE if key[1] == "tests" else 1)
+        lines[key] += own
         for it in waits_for:
             lines[it] = max(lines[it], lines[key])
     return lines
