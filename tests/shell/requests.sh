@@ -1,25 +1,29 @@
 # Requests over standard input: bytes that no transcript shows, where a run ends, and a conversation over a pipe.
 
+# replied NAME BUDGET REQUESTS REPLY..: a run over these requests, which printf writes, ends well and prints these replies
+replied() {
+    local name=$1 budget=$2
+    asks "$3"
+    shift 3
+    ends "$name" 0 "" try --budget "$budget" --counters 0
+    holds "the replies to $name" "$(printf '%s\n' "$@")"
+}
+bad='refused 601 BadRequest' missing='refused 401 NoModule' later='refused 199 NotYet'
+
 # What is no request: an empty line, a line with two spaces at its end, and a source that no line feed follows.
-asks 'seq\n\nget m n\ncall m f 5 true -7\nload m 3\nabc\nload m 2\nabcd\nobject 1\nseq  \nquit\nseq\n'
-ends "requests, and lines that are none" 0 "" try --budget 1000 --counters 0
-bad='refused 601 BadRequest' missing='refused 401 NoModule'
-holds "each line is answered" "$(printf '%s\n' 'ok 0' "$bad" "$missing" "$missing" 'refused 104 Unexpected 3' "$bad" "$bad" "$bad" ok)"
-asks 'load m 0\n\nsnapshot\nsnapshot x\nsnapshot \nsnapshot\nseq\n'
-ends "snapshots" 0 "" try --budget 0 --counters 0
-holds "a snapshot has no number" $'ok seq 1\nok\nrefused 601 BadRequest\nrefused 601 BadRequest\nok\nok 1'
-asks 'load m 8\nbool b; \nload m 11\nclass A { }\nseq\n'
-ends "loads of what can't be run so far" 0 "" try --budget 1000 --counters 0
-holds "what can't be run so far has no number" $'refused 199 NotYet\nrefused 199 NotYet\nok 0'
-asks 'load m 5\nint "\nload m 4\n/* x\nload m 4\nab\377\376\nload m 27\nint n=999999999999999999999\nseq\n'
-ends "loads of what has no tokens" 0 "" try --budget 1000 --counters 0
-holds "what has no tokens has no number" $'refused 101 BadCharacter 4\nrefused 102 UnclosedComment 0\nrefused 101 BadCharacter 2\nrefused 103 NumberTooLarge 6\nok 0'
-asks 'load m 0\n\nseq\n'
-ends "a load of nothing" 0 "" try --budget 0 --counters 0
-holds "nothing is a source" $'ok seq 1\nok 1'
-asks 'load m 3\n\357\273\277\nseq\n'
-ends "a load of a byte order mark" 0 "" try --budget 0 --counters 0
-holds "a byte order mark is a source" $'ok seq 1\nok 1'
+replied "requests, and lines that are none" 1000 \
+    'seq\n\nget m n\ncall m f 5 true -7\nload m 3\nabc\nload m 2\nabcd\nobject 1\nseq  \nquit\nseq\n' \
+    'ok 0' "$bad" "$missing" "$missing" 'refused 104 Unexpected 3' "$bad" "$bad" "$bad" ok
+replied "snapshots, which have no number" 0 'load m 0\n\nsnapshot\nsnapshot x\nsnapshot \nsnapshot\nseq\n' \
+    'ok seq 1' ok "$bad" "$bad" ok 'ok 1'
+replied "loads of what can't be run so far, which have no number" 1000 'load m 8\nbool b; \nload m 11\nclass A { }\nseq\n' \
+    "$later" "$later" 'ok 0'
+replied "loads of what has no tokens, which have no number" 1000 \
+    'load m 5\nint "\nload m 4\n/* x\nload m 4\nab\377\376\nload m 27\nint n=999999999999999999999\nseq\n' \
+    'refused 101 BadCharacter 4' 'refused 102 UnclosedComment 0' 'refused 101 BadCharacter 2' \
+    'refused 103 NumberTooLarge 6' 'ok 0'
+replied "a load of nothing" 0 'load m 0\n\nseq\n' 'ok seq 1' 'ok 1'
+replied "a load of a byte order mark" 0 'load m 3\n\357\273\277\nseq\n' 'ok seq 1' 'ok 1'
 
 # long_line LENGTH REPLY: a line of so many bytes is replied to with this line, and the request after it is read
 long_line() {
@@ -46,13 +50,9 @@ asks 'seq\nseq'
 ends "a request cut by the end" 1 "ashd: 603 Truncated" try --budget 1 --counters 0
 holds "the reply before the cut request" "ok 0"
 
-asks 'load m 10\nint n = 7;\ndiscard m\nget m n\ndiscard m\ndiscard\ndiscard m n\nseq\n'
-ends "a discard" 0 "" try --budget 1 --counters 0
-holds "what a discard leaves" $'ok seq 1\nok seq 2\nrefused 401 NoModule\nrefused 401 NoModule\nrefused 601 BadRequest\nrefused 601 BadRequest\nok 2'
-
-asks 'seq\nquit\nseq\n'
-ends "quit" 0 "" try --budget 1 --counters 0
-holds "nothing is answered after quit" $'ok 0\nok'
+replied "discards" 1 'load m 10\nint n = 7;\ndiscard m\nget m n\ndiscard m\ndiscard\ndiscard m n\nseq\n' \
+    'ok seq 1' 'ok seq 2' "$missing" "$missing" "$bad" "$bad" 'ok 2'
+replied "a quit, after which nothing is answered" 1 'seq\nquit\nseq\n' 'ok 0' ok
 
 "$ashd" try --budget 1 --counters 0 < "$scratch/input" > /dev/full 2> "$scratch/error"
 [ $? -eq 1 ] && [ "$(cat "$scratch/error")" = "ashd: 606 Write" ]
