@@ -3,7 +3,7 @@
 use Rattle.std.specs.Prelude.{◌≡◌, ℕ, List, [], ◌∷◌, Option, Some, None, Result, Ok, Err, map, slice_get, string_bytes, if◌then◌else◌}
 use Rattle.std.specs.List.{Any, Contains}
 use Rattle.std.specs.Option.{option_map_or}
-use Rattle.ash_registry.specs.Calls.{Call}
+use Rattle.ash_registrations.specs.Calls.{Call}
 use Rattle.ash_tree.specs.Tree.{Class, Item}
 use Rattle.ash_typing.specs.declared.fault.Fault.{Fault}
 use Rattle.ash_typing.specs.declared.fault.Rule.{Rule}

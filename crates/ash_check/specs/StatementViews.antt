@@ -2,7 +2,7 @@
 use Rattle.std.specs.Prelude.{List, Option, map, option_map}
 use Rattle.std.specs.declared.vec.Vec.{Vec}
 use Rattle.std.specs.declared.alloc.Global.{Global}
-use Rattle.ash_registry.specs.Registered.{registered}
+use Rattle.ash_registrations.specs.Registered.{registered}
 use Rattle.ash_typed.specs.declared.tree.statements.Stmt as stmt_code
 use Rattle.ash_typed.specs.declared.tree.statements.Case as case_code
 use Rattle.ash_typed.specs.declared.tree.statements.Initialization as initialization_code

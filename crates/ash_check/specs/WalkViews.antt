@@ -1,9 +1,9 @@
 -- What the structs of the walk over a module's items stand for.
 use Rattle.std.specs.Prelude.{List, [], Option, None, Some, map, option_map}
 use Rattle.std.specs.Borrow.{Bor}
-use Rattle.ash_registry.specs.declared.registry.Registry.{Registry}
-use Rattle.ash_registry.specs.Registered.{registered}
-use Rattle.ash_registry.specs.Calls as host
+use Rattle.ash_registrations.specs.declared.registrations.Registrations.{Registrations}
+use Rattle.ash_registrations.specs.Registered.{registered}
+use Rattle.ash_registrations.specs.Calls as host
 use Rattle.ash_tree.specs.Views.{parameter_of, stmt_of}
 use Rattle.ash_typed.specs.Tree.{Expr}
 use Rattle.ash_typed.specs.Views.{expr_of}
@@ -17,7 +17,7 @@ use Rattle.ash_expressions.specs.Places.{texts}
 use Rattle.ash_check.specs.declared.names.Names as names
 use Rattle.ash_check.specs.declared.items.Routine as routine
 
-abbrev pub registered_in : Option (Bor Registry) → List host.Call
+abbrev pub registered_in : Option (Bor Registrations) → List host.Call
 registered_in None = []
 registered_in (Some registry) = registered registry.now
 

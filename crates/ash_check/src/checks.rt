@@ -1,6 +1,7 @@
 //! The check of a script: its typed module with a rank for each class, or why it is refused.
 
 ghost use Rattle.std.specs.Prelude.{◌≡◌, ◌<◌, ℕ, List, length, map, string_bytes, All, IfOk, IfErr, OnOk, MatchResult};
+ghost use Rattle.ash_registrations.specs.Registered as table;
 ghost use Rattle.ash_registry.specs.Registered.{registered};
 ghost use Rattle.ash_tree.specs.Views.{module_of as written_module};
 ghost use Rattle.ash_typed.specs.Modules.{module_of};
@@ -12,6 +13,7 @@ ghost use Rattle.ash_check.specs.Checks.{checked, typed_checked, Tells, told_of,
 use crate::faults::{CheckFault, ClassNames};
 use crate::items::module_typed;
 use ash_classes::{Cycle, class_ranks, classes};
+use ash_registrations::Registrations;
 use ash_registry::Registry;
 use ash_tree::Class;
 use ash_typed::Module;
@@ -60,11 +62,11 @@ fn round_names(
 /// Checks a script that uses nothing that is not typed so far.
 fn check_typed(
     alloc: Global,
-    registry: &Registry,
+    registry: &Registrations,
     script: &ash_tree::Module,
 ) -> Result<Checked, CheckFault>
-    ensures answer { MatchResult result (λ done. typed_checked (registered registry.now) (written_module script.now) ≡ Ok (module_of done.module)) (λ fault. Tells (typed_checked (registered registry.now) (written_module script.now)) fault) }
-    ensures typed { IfOk result (λ done. IsTyped (registered registry.now) (written_module script.now) (module_of done.module)) }
+    ensures answer { MatchResult result (λ done. typed_checked (table.registered registry.now) (written_module script.now) ≡ Ok (module_of done.module)) (λ fault. Tells (typed_checked (table.registered registry.now) (written_module script.now)) fault) }
+    ensures typed { IfOk result (λ done. IsTyped (table.registered registry.now) (written_module script.now) (module_of done.module)) }
     ensures ranks { IfOk result (λ done. AreRanks (Refers (classes_of (written_module script.now))) (length (classes_of (written_module script.now))) done.ranks.items) }
     ensures acyclic { OnOk result ((class : ℕ) → Reaches (Refers (classes_of (written_module script.now))) class class → ⊥) }
     ensures round { IfErr result (λ fault. GoesRoundIfCyclic (classes_of (written_module script.now)) (told_of fault)) }
@@ -100,5 +102,5 @@ pub fn check(
     if uses_untyped(script) {
         return Err(CheckFault::NotYet);
     }
-    check_typed(alloc, registry, script)
+    check_typed(alloc, registry.registrations(), script)
 }

@@ -1,20 +1,20 @@
 //! What a module declares, as each of its items sees it.
 
 ghost use Rattle.std.specs.Prelude.{◌≡◌, ◌++◌, map, option_map, IfOk, OnOk};
-ghost use Rattle.ash_registry.specs.Registered.{registered};
+ghost use Rattle.ash_registrations.specs.Registered.{registered};
 ghost use Rattle.ash_tree.specs.Views.{type_of, vars_of, parameter_of, function_of as written_function, member_of, class_of as written_class, item_of, module_of};
 ghost use Rattle.ash_typing.specs.Heads as definition;
 ghost use Rattle.ash_expressions.specs.Views.{declared_of, function_of, class_of, heads_of};
 
 use ash_expressions::{Class, Declared, Function, Heads, ty_of};
-use ash_registry::{Call, Registry};
+use ash_registrations::{Call, Registrations};
 use ash_tree::{Item, Member, Module, Parameter, Type, TypeKind, Vars};
 use ash_typed::{ObjectType, Ty};
 use std::alloc::{AllocError, Global};
 
 /// A type of objects, by its name: a class of the module, else a registered type.
 #[tactic(auto, unfolding(ash_typing::specs::Heads::object_named))]
-fn object_named(registry: &Registry, named: &Heads, name: &str) -> Option<ObjectType>
+fn object_named(registry: &Registrations, named: &Heads, name: &str) -> Option<ObjectType>
     ensures { result ≡ definition.object_named (registered registry.now) (map class_of named.now.classes.items) name.now }
 {
     if let Some((place, _)) = named.class(name) {
@@ -28,7 +28,7 @@ fn object_named(registry: &Registry, named: &Heads, name: &str) -> Option<Object
 
 /// The type that is written; arrays have none so far.
 #[tactic(auto, unfolding(ash_typing::specs::Heads::ty_named))]
-pub(crate) fn ty_named(registry: &Registry, named: &Heads, of: &Type) -> Ty
+pub(crate) fn ty_named(registry: &Registrations, named: &Heads, of: &Type) -> Ty
     ensures { result ≡ definition.ty_named (registered registry.now) (map class_of named.now.classes.items) (type_of of.now) }
 {
     match &of.kind {
@@ -46,7 +46,7 @@ pub(crate) fn ty_named(registry: &Registry, named: &Heads, of: &Type) -> Ty
 }
 
 /// What a function gives.
-pub(crate) fn result_named(registry: &Registry, named: &Heads, of: &Option<Type>) -> Ty
+pub(crate) fn result_named(registry: &Registrations, named: &Heads, of: &Option<Type>) -> Ty
     ensures { result ≡ definition.result_named (registered registry.now) (map class_of named.now.classes.items) (option_map type_of of.now) }
 {
     match of {
@@ -57,7 +57,7 @@ pub(crate) fn result_named(registry: &Registry, named: &Heads, of: &Option<Type>
 
 fn parameter_types(
     alloc: Global,
-    registry: &Registry,
+    registry: &Registrations,
     named: &Heads,
     parameters: &[Parameter],
 ) -> Result<Vec<Ty>, AllocError>
@@ -72,7 +72,7 @@ fn parameter_types(
 
 fn function_head<'a>(
     alloc: Global,
-    registry: &Registry,
+    registry: &Registrations,
     named: &Heads,
     function: &'a ash_tree::Function,
 ) -> Result<Function<'a>, AllocError>
@@ -88,7 +88,7 @@ fn function_head<'a>(
 
 /// Adds what is declared to these variables.
 fn declare<'a>(
-    registry: &Registry,
+    registry: &Registrations,
     named: &Heads,
     vars: &'a Vars,
     variables: &mut Vec<Declared<'a>>,
@@ -107,7 +107,7 @@ fn declare<'a>(
 
 fn fields<'a>(
     alloc: Global,
-    registry: &Registry,
+    registry: &Registrations,
     named: &Heads,
     members: &'a [Member],
 ) -> Result<Vec<Declared<'a>>, AllocError>
@@ -124,7 +124,7 @@ fn fields<'a>(
 
 fn methods<'a>(
     alloc: Global,
-    registry: &Registry,
+    registry: &Registrations,
     named: &Heads,
     members: &'a [Member],
 ) -> Result<Vec<Function<'a>>, AllocError>
@@ -142,7 +142,7 @@ fn methods<'a>(
 /// What the first constructor takes.
 fn construction(
     alloc: Global,
-    registry: &Registry,
+    registry: &Registrations,
     named: &Heads,
     members: &[Member],
 ) -> Result<Vec<Ty>, AllocError>
@@ -158,7 +158,7 @@ fn construction(
 
 fn class_head<'a>(
     alloc: Global,
-    registry: &Registry,
+    registry: &Registrations,
     named: &Heads,
     class: &'a ash_tree::Class,
 ) -> Result<Class<'a>, AllocError>
@@ -195,7 +195,7 @@ fn named_classes(alloc: Global, items: &[Item]) -> Result<Vec<Class<'_>>, AllocE
 
 fn classes_of<'a>(
     alloc: Global,
-    registry: &Registry,
+    registry: &Registrations,
     named: &Heads,
     items: &'a [Item],
 ) -> Result<Vec<Class<'a>>, AllocError>
@@ -212,7 +212,7 @@ fn classes_of<'a>(
 
 fn functions_of<'a>(
     alloc: Global,
-    registry: &Registry,
+    registry: &Registrations,
     named: &Heads,
     items: &'a [Item],
 ) -> Result<Vec<Function<'a>>, AllocError>
@@ -229,7 +229,7 @@ fn functions_of<'a>(
 
 fn globals_of<'a>(
     alloc: Global,
-    registry: &Registry,
+    registry: &Registrations,
     named: &Heads,
     items: &'a [Item],
 ) -> Result<Vec<Declared<'a>>, AllocError>
@@ -256,7 +256,7 @@ fn named<'a>(alloc: Global, items: &'a [Item]) -> Result<Heads<'a>, AllocError>
 /// What a module declares, where these classes are what types name.
 fn heads_by<'a>(
     alloc: Global,
-    registry: &Registry,
+    registry: &Registrations,
     named: &Heads,
     items: &'a [Item],
 ) -> Result<Heads<'a>, AllocError>
@@ -273,7 +273,7 @@ fn heads_by<'a>(
 #[tactic(auto, unfolding(ash_typing::specs::Heads::heads))]
 pub(crate) fn heads<'a>(
     alloc: Global,
-    registry: &Registry,
+    registry: &Registrations,
     declared: &'a Module,
 ) -> Result<Heads<'a>, AllocError>
     ensures { IfOk result (λ h. heads_of h ≡ definition.heads (registered registry.now) (module_of declared.now)) }

@@ -1,7 +1,7 @@
 //! The walk over a module's items: its types and names, and its bodies in their turn.
 
 ghost use Rattle.std.specs.Prelude.{◌≡◌, [], map, option_map, IfOk};
-ghost use Rattle.ash_registry.specs.Registered.{registered};
+ghost use Rattle.ash_registrations.specs.Registered.{registered};
 ghost use Rattle.ash_tree.specs.Views.{type_of, vars_of, parameter_of, member_of, class_of as written_class, function_of as written_function, constructor_of, item_of, module_of as written_module};
 ghost use Rattle.ash_typing.specs.Items as definition;
 ghost use Rattle.ash_typed.specs.Modules.{function_of, class_of, module_of};
@@ -15,7 +15,7 @@ use crate::heads::heads;
 use crate::names::Names;
 use crate::scopes::any_declares;
 use ash_expressions::{Checking, Declared, Environment, Heads, broken, is_void};
-use ash_registry::Registry;
+use ash_registrations::Registrations;
 use ash_tree::{Constructor, Item, Member, Parameter, Place, Stmt, Type, Vars};
 use ash_typed::{Class, Function, Module, Ty, Variables};
 use ash_typing::Rule;
@@ -273,7 +273,7 @@ fn item_typed<'a>(
 /// The items of a module, each in its turn.
 fn items_typed<'a>(
     alloc: Global,
-    registry: &'a Registry,
+    registry: &'a Registrations,
     heads: &Heads<'a>,
     items: &'a [Item],
 ) -> Checking<Module>
@@ -305,7 +305,7 @@ fn items_typed<'a>(
 #[tactic(auto, unfolding(ash_typing::specs::Items::module_typed))]
 pub(crate) fn module_typed(
     alloc: Global,
-    registry: &Registry,
+    registry: &Registrations,
     declared: &ash_tree::Module,
 ) -> Checking<Module>
     ensures { Gives module_of result (definition.module_typed (registered registry.now) (written_module declared.now)) }

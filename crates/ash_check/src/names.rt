@@ -9,7 +9,7 @@ ghost use Rattle.ash_expressions.specs.Places.{texts};
 ghost use Rattle.ash_check.specs.WalkViews.{names_of};
 
 use ash_expressions::{Checking, broken};
-use ash_registry::Registry;
+use ash_registrations::Registrations;
 use ash_typing::Rule;
 use indexmap::IndexSet;
 use std::alloc::AllocError;
@@ -18,7 +18,7 @@ use std::alloc::AllocError;
 /// members of a class.
 #[derive(Drop)]
 pub(crate) struct Names<'a> {
-    pub(crate) registry: Option<&'a Registry>,
+    pub(crate) registry: Option<&'a Registrations>,
     pub(crate) taken: IndexSet<&'a str>,
     /// How many more variables of a module, or members of a class, there may be.
     pub(crate) room: usize,

@@ -11,7 +11,7 @@ ghost use Rattle.ash_expressions.specs.Views.{declared_of, environment_of};
 ghost use Rattle.ash_check.specs.StatementViews.{scope_of};
 
 use ash_expressions::{Checking, Declared, Environment, Heads, broken};
-use ash_registry::Registry;
+use ash_registrations::Registrations;
 use ash_tree::Decl;
 use ash_typed::Ty;
 use ash_typing::Rule;
@@ -20,7 +20,7 @@ use ash_typing::Rule;
 #[derive(Clone, Copy)]
 pub(crate) struct Scope<'a, 'n> {
     pub(crate) heads: &'a Heads<'n>,
-    pub(crate) registry: &'a Registry,
+    pub(crate) registry: &'a Registrations,
     /// The class whose object runs.
     pub(crate) this: Option<usize>,
     /// How many locals stand before those of the block.

@@ -4,7 +4,7 @@
 use crate::sources::{Question, check_rows, printed, tree_of};
 use ash_check::CheckFault;
 use ash_expressions::{Class, Declared, Environment, Function, Heads, Typed, expression};
-use ash_registry::Registry;
+use ash_registrations::Registrations;
 use ash_tree as written;
 use ash_tree::{Initializer, Item, Module};
 use ash_typed::{Expr, Kind, ObjectType, Operands, Operation, Ty};
@@ -114,7 +114,7 @@ fn typed(alloc: Global, value: &written::Expr) -> Result<Typed, String> {
         Ok(heads) => heads,
         Err(AllocError) => return Err(String::new(alloc)),
     };
-    let registry = Registry::new(alloc);
+    let registry = Registrations::new(alloc);
     let env = Environment {
         heads: &heads,
         registry: &registry,

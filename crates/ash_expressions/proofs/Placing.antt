@@ -11,8 +11,8 @@ use Rattle.std.proofs.Math.ListN.{length-map}
 use Rattle.std.proofs.lemmas.Map.Text.{hash_map_updates_str}
 use Rattle.std.proofs.lemmas.Slice.Eq.{bytes_eq-Decides}
 use Rattle.indexmap.specs.IndexMap.{IndexMap, UpdatesBy}
-use Rattle.ash_registry.specs.Names.{place_of}
-use Rattle.ash_registry.proofs.Places.{placed_is_any, place_stays, place_of_new}
+use Rattle.ash_registrations.specs.Names.{place_of}
+use Rattle.ash_registrations.proofs.Places.{placed_is_any, place_stays, place_of_new}
 use Rattle.ash_typing.specs.Environment.{first_from}
 use Rattle.ash_expressions.specs.Places.{place_in, ArePlaces, texts}
 

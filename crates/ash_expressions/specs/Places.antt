@@ -3,7 +3,7 @@ use Rattle.std.specs.Prelude.{◌≡◌, ℕ, List, Option, map}
 use Rattle.std.specs.Borrow.{Bor}
 use Rattle.std.specs.Str.{bytes_eq}
 use Rattle.indexmap.specs.IndexMap.{IndexMap, get_by}
-use Rattle.ash_registry.specs.Names.{place_of}
+use Rattle.ash_registrations.specs.Names.{place_of}
 
 -- the names in a row
 abbrev pub texts : List (Bor (List ℕ)) → List (List ℕ)

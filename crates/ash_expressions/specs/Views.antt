@@ -6,7 +6,7 @@ use Rattle.ash_expressions.specs.declared.environment.Function as function
 use Rattle.ash_expressions.specs.declared.environment.Class as class
 use Rattle.ash_expressions.specs.declared.tables.Heads as heads
 use Rattle.ash_expressions.specs.declared.environment.Environment as environment
-use Rattle.ash_registry.specs.Registered.{registered}
+use Rattle.ash_registrations.specs.Registered.{registered}
 use Rattle.std.specs.declared.vec.Vec.{Vec}
 use Rattle.std.specs.declared.alloc.Global.{Global}
 use Rattle.ash_typed.specs.Tree.{Exprs, exprs}

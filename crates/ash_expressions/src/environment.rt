@@ -2,14 +2,14 @@
 
 ghost use Rattle.std.specs.Prelude.{◌≡◌, None, map, option_map, IfOk};
 ghost use Rattle.std.specs.Option.{option_copied};
-ghost use Rattle.ash_registry.specs.Registered.{registered};
-ghost use Rattle.ash_registry.specs.Calls.{call_of};
+ghost use Rattle.ash_registrations.specs.Registered.{registered};
+ghost use Rattle.ash_registrations.specs.Calls.{call_of};
 ghost use Rattle.ash_typing.specs.Environment as environment;
 ghost use Rattle.ash_expressions.specs.Views.{declared_of, function_of, class_of, environment_of, placed_type, placed_function, placed_class, known_of, callee_of, parameters_of, invoked_of};
 
 use crate::tables::Heads;
 use crate::types::ty_of;
-use ash_registry::{Call, Registry};
+use ash_registrations::{Call, Registrations};
 use ash_tree::Primitive;
 use ash_typed::{Expr, Member, Method, ObjectType, Target, Ty, Variable, nodes};
 use ash_typing::Callable;
@@ -43,7 +43,7 @@ pub struct Class<'a> {
 #[derive(Clone, Copy)]
 pub struct Environment<'a, 'n> {
     pub heads: &'a Heads<'n>,
-    pub registry: &'a Registry,
+    pub registry: &'a Registrations,
     /// The class whose object runs.
     pub this: Option<usize>,
     pub locals: &'a [Declared<'n>],

@@ -4,8 +4,8 @@
 //! `ash_typing/specs/Expressions.antt` defines what an expression is in one, and which fault of it is the first: its parts
 //! in the order of the text, then the expression. `expression` gives what it says, unless memory runs out; `Gives` of
 //! `specs/Gives.antt` says so of each function that may stop, here and in the crates above.
-//! The crate stands on `ash_tree`, whose trees are typed, on `ash_registry`, on `ash_typed`, whose trees it makes, and on
-//! the rules of `ash_typing`.
+//! The crate stands on `ash_tree`, whose trees are typed, on `ash_registrations`, on `ash_typed`, whose trees it makes, and
+//! on the rules of `ash_typing`.
 //!
 //! In reading order: `expressions`, the walk over an expression; `operators` and `calls`, what comes of a phrase once its
 //! parts are typed; `environment`, what names stand for; `tables` and `places`, where a name is found without a search

@@ -1,5 +1,2 @@
-pub mod Parameters
-pub mod Mapped
 pub mod Meanings
 pub mod Verdicts
-pub mod Places

@@ -2,7 +2,7 @@
 use Rattle.std.proofs.Common.{◌≡◌, ℕ, inl, Bool, true, false, List, Option, Result, Err, refl, subst, sym}
 use Rattle.ash_tree.specs.Tree.{Declaration}
 use Rattle.ash_registry.specs.declared.fault.RegistryFault.{RegistryFault}
-use Rattle.ash_registry.specs.Calls.{Call}
+use Rattle.ash_registrations.specs.Calls.{Call}
 use Rattle.ash_registry.specs.Refusals.{cause, RegisteredIf}
 use Rattle.ash_registry.specs.Texts.{Spelling, IsSpelled, IsDeclared}
 use Rattle.ash_registry.proofs.Meanings.{one_spelling, one_declared}

@@ -1,7 +1,6 @@
 pub mod Texts
 pub mod Spelled
 pub mod Calls
-pub mod Names
 pub mod Text
 pub mod Refusals
 pub mod Registered

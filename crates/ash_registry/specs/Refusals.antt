@@ -1,6 +1,6 @@
 -- Which registrations are refused, with the first cause in the order in which they are tested, and what an
 -- accepted one adds.
-use Rattle.std.specs.Prelude.{◌≡◌, ◌⊎◌, ◌+◌, ℕ, Bool, true, false, not, ◌||◌, List, [], ◌∷◌, ◌++◌, Option, None, Some, Result, Err, OnOk, OnErr, IfErr, length, nat_le, nat_lt, count_by}
+use Rattle.std.specs.Prelude.{◌≡◌, ◌⊎◌, ℕ, Bool, true, false, not, ◌||◌, List, [], ◌∷◌, ◌++◌, Option, None, Some, Result, Err, OnOk, OnErr, IfErr, nat_le, count_by}
 use Rattle.std.specs.List.{list_any, filter_map}
 use Rattle.std.specs.Option.{is_none, option_and_then, option_to_list}
 use Rattle.std.specs.Str.{bytes_eq}
@@ -10,8 +10,15 @@ use Rattle.ash_registry.specs.declared.fault.RegistryFault.TheVariants.{UnknownT
 use Rattle.ash_tree.specs.Tree.{Element, PrimElement, HandleElement, Named, Prim, Object, Handle, Array, ArrayHandle, Signature, Property, Declaration, ASignature}
 use Rattle.ash_tree.specs.Tree as tree
 use Rattle.ash_registry.specs.Texts.{Spelling, AName, AReserved, ANoName}
-use Rattle.ash_registry.specs.Calls.{Operation, Call, AType, AFactory, AMethod, AProperty, AService, AFunction, is_type, names_type, takes_kind, takes_name, is_factory_of, is_member_of, takes_member, takes_method, takes_property, takes_function, is_service, is_function}
-use Rattle.ash_registry.specs.Text.{line_of, text_of}
+use Rattle.ash_registrations.specs.Calls.{Operation, Call, AType, AFactory, AMethod, AProperty, AService, AFunction, is_type, names_type, takes_kind, takes_name, is_factory_of, is_member_of, takes_member, takes_method, takes_property, takes_function, is_service, is_function}
+use Rattle.ash_registrations.specs.Added.{is_too_long}
+use Rattle.ash_registrations.specs.declared.adding.AddFault.{AddFault}
+use Rattle.ash_registrations.specs.declared.adding.AddFault.TheVariants as add_faults
+
+-- what a call is refused with that is not added
+abbrev pub fault_of : AddFault → RegistryFault
+fault_of add_faults.TooLong = TooMany
+fault_of add_faults.NoMemory = NoMemory
 
 -- a cause that is tested, and those that are tested after it
 abbrev pub cause : Bool → RegistryFault → Option RegistryFault → Option RegistryFault
@@ -47,10 +54,6 @@ is_object named = is_none (primitive_of named)
 -- the causes that lie in declared types
 abbrev pub cause_in : List Call → List Named → Option RegistryFault → Option RegistryFault
 cause_in calls types later = cause (list_any (is_unknown calls) types) UnknownType (cause (list_any is_object types) NotPrimitive later)
-
--- whether the text would pass 1,048,576 bytes with one more call
-abbrev pub is_too_long : List Call → Call → Bool
-is_too_long calls call = nat_lt 1048576 (length (text_of calls) + length (line_of call))
 
 -- too many of a kind, or too long a text
 abbrev pub cause_of_many : Bool → List Call → Call → Option RegistryFault

@@ -1,8 +1,9 @@
 -- What a registry shows.
-use Rattle.std.specs.Prelude.{List, map}
+use Rattle.std.specs.Prelude.{List}
 use Rattle.ash_registry.specs.declared.registry.Registry.{Registry}
-use Rattle.ash_registry.specs.Calls.{Call, call_of}
+use Rattle.ash_registrations.specs.Calls.{Call}
+use Rattle.ash_registrations.specs.Registered as table
 
 -- the accepted calls, in order
 abbrev pub registered : Registry → List Call
-registered r = map call_of r.calls.items
+registered r = table.registered r.table

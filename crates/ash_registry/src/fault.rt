@@ -1,7 +1,9 @@
 //! Why a registration is refused.
 ghost use Rattle.std.specs.Prelude.{◌≡◌};
 ghost use Rattle.ash_registry.specs.declared.fault.RegistryFault.TheVariants.{NoMemory};
+ghost use Rattle.ash_registry.specs.Refusals.{fault_of};
 
+use ash_registrations::AddFault;
 use std::alloc::{AllocError, AllocFailed};
 use thiserror::Error;
 
@@ -50,5 +52,16 @@ impl<T: Drop> From<AllocFailed<T>> for RegistryFault {
 
     fn from(_error: AllocFailed<T>) -> RegistryFault {
         RegistryFault::NoMemory
+    }
+}
+
+impl From<AddFault> for RegistryFault {
+    ghost from_gives = { λ added fault. fault ≡ fault_of added };
+
+    fn from(fault: AddFault) -> RegistryFault {
+        match fault {
+            AddFault::TooLong => RegistryFault::TooMany,
+            AddFault::NoMemory => RegistryFault::NoMemory,
+        }
     }
 }

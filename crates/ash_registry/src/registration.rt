@@ -1,10 +1,10 @@
 //! The calls that register.
-ghost use Rattle.std.specs.Prelude.{◌≡◌, ℕ, List, false, [], ◌∷◌, Option, Some, count_by, map, nat_le, not, string_bytes, IfOk};
+ghost use Rattle.std.specs.Prelude.{◌≡◌, ◌||◌, ℕ, List, false, [], ◌∷◌, Option, Some, count_by, map, nat_le, not, string_bytes, IfOk};
 ghost use Rattle.std.specs.List.{filter_map, list_any};
 ghost use Rattle.std.specs.Option.{option_map};
 ghost use Rattle.ash_tree.specs.Tree.{Declaration as DeclarationTree};
 ghost use Rattle.ash_tree.specs.Views.{declaration_of, signature_of, type_of};
-ghost use Rattle.ash_registry.specs.Calls.{call_of, AType, AFactory, AMethod, AProperty, AService, AFunction, is_member_of, is_service, is_function, takes_kind, takes_name};
+ghost use Rattle.ash_registrations.specs.Calls.{call_of, AType, AFactory, AMethod, AProperty, AService, AFunction, is_member_of, is_service, is_function, takes_function, takes_kind, takes_name};
 ghost use Rattle.std.specs.Str.{bytes_eq};
 ghost use Rattle.ash_registry.specs.declared.fault.RegistryFault.TheVariants.{BadDeclaration, NameTaken, NoService, UnknownType, NotPrimitive};
 ghost use Rattle.ash_registry.specs.Registered.{registered};
@@ -14,12 +14,8 @@ ghost use Rattle.ash_registry.specs.Texts.{Spelling, AName, IsSpelled, IsDeclare
 
 use crate::reading::{Spelled, read_declaration, read_name};
 use crate::signatures::{gives_handle, has_object, names_object, operation, primitives};
-use crate::text::line;
 use crate::{Call, Registry, RegistryFault};
 use ash_tree::{Declaration, Primitive, Property, Signature, Type, TypeKind};
-
-/// The most bytes of the text.
-const MAX_TEXT: usize = 1_048_576;
 
 /// The most types.
 const MAX_TYPES: usize = 256;
@@ -59,12 +55,12 @@ impl Registry {
         ensures { RegisteredIf (refusal_of_type (registered self.old) name.now AName kind)
             (AType name.now kind ∷ []) result (registered self.old) (registered self.new) }
     {
-        if self.takes_name(name) || self.takes_kind(kind) {
+        if self.table.takes_name(name) || self.table.takes_kind(kind) {
             return Err(RegistryFault::NameTaken);
         }
         let key = name.to_string(self.alloc)?;
         let name = name.to_string(self.alloc)?;
-        let many = self.types() >= MAX_TYPES;
+        let many = self.table.types() >= MAX_TYPES;
         self.accept_named(Call::Type { name, kind }, key, many)
     }
 
@@ -75,10 +71,10 @@ impl Registry {
             (AService kind ∷ []) result (registered self.old) (registered self.new) }
         ensures at_once { TellsAtOnce (list_any (takes_kind kind) (registered self.old)) NameTaken result }
     {
-        if self.takes_kind(kind) {
+        if self.table.takes_kind(kind) {
             return Err(RegistryFault::NameTaken);
         }
-        let index = self.services();
+        let index = self.table.services();
         self.accept(Call::Service { kind }, index >= MAX_SERVICES)?;
         Ok(index)
     }
@@ -90,7 +86,7 @@ impl Registry {
             (method_call of.now id declared) result (registered self.old) (registered self.new) }
         ensures at_once { TellsAtOnce (not (is_known (registered self.old) of.now)) UnknownType result }
     {
-        if !self.knows(of) {
+        if !self.table.knows(of) {
             return Err(RegistryFault::UnknownType);
         }
         let declared = read_declaration(self.alloc, decl)?;
@@ -131,7 +127,10 @@ impl Registry {
         if names_object(&signature) {
             return Err(RegistryFault::NotPrimitive);
         }
-        if self.takes_method_or_name(of, signature.name.as_str(), id) {
+        if self
+            .table
+            .takes_method_or_name(of, signature.name.as_str(), id)
+        {
             return Err(RegistryFault::NameTaken);
         }
         self.add_method(of, signature, id)
@@ -146,7 +145,7 @@ impl Registry {
     {
         let operation = operation(self.alloc, signature)?;
         let of = of.to_string(self.alloc)?;
-        let many = self.members_of(of.as_str()) >= MAX_MEMBERS;
+        let many = self.table.members_of(of.as_str()) >= MAX_MEMBERS;
         self.accept(Call::Method { of, id, operation }, many)
     }
 
@@ -157,7 +156,7 @@ impl Registry {
             (property_call of.now id declared) result (registered self.old) (registered self.new) }
         ensures at_once { TellsAtOnce (not (is_known (registered self.old) of.now)) UnknownType result }
     {
-        if !self.knows(of) {
+        if !self.table.knows(of) {
             return Err(RegistryFault::UnknownType);
         }
         let declared = read_declaration(self.alloc, decl)?;
@@ -226,11 +225,11 @@ impl Registry {
             (AProperty of.now id value (string_bytes name) ∷ [])
             result (registered self.old) (registered self.new) }
     {
-        if self.takes_member(of, name.as_str()) || self.takes_property(of, id) {
+        if self.table.takes_member(of, name.as_str()) || self.table.takes_property(of, id) {
             return Err(RegistryFault::NameTaken);
         }
         let of = of.to_string(self.alloc)?;
-        let many = self.members_of(of.as_str()) >= MAX_MEMBERS;
+        let many = self.table.members_of(of.as_str()) >= MAX_MEMBERS;
         self.accept(
             Call::Property {
                 of,
@@ -249,7 +248,7 @@ impl Registry {
             (factory_call of.now declared) result (registered self.old) (registered self.new) }
         ensures at_once { TellsAtOnce (not (is_known (registered self.old) of.now)) UnknownType result }
     {
-        if !self.knows(of) {
+        if !self.table.knows(of) {
             return Err(RegistryFault::UnknownType);
         }
         let declared = read_declaration(self.alloc, decl)?;
@@ -285,7 +284,7 @@ impl Registry {
         self.constructor(of, &signature.parameters)
     }
 
-    #[tactic(auto, using(crate::proofs::Mapped::any_mapped, crate::proofs::Mapped::filter_mapped))]
+    #[tactic(auto, using(ash_registrations::proofs::Mapped::any_mapped, ash_registrations::proofs::Mapped::filter_mapped))]
     fn constructor(&mut self, of: &str, parameters: &[Type]) -> Result<(), RegistryFault>
         ensures { RegisteredIf
             (refusal_of_constructor (registered self.old) of.now (map type_of parameters.now))
@@ -298,7 +297,7 @@ impl Registry {
         if has_object(parameters) {
             return Err(RegistryFault::NotPrimitive);
         }
-        if self.has_factory(of) {
+        if self.table.has_factory(of) {
             return Err(RegistryFault::FactoryTaken);
         }
         let parameters = primitives(self.alloc, parameters)?;
@@ -313,7 +312,7 @@ impl Registry {
             (function_call service id declared) result (registered self.old) (registered self.new) }
         ensures at_once { TellsAtOnce (nat_le (count_by is_service (registered self.old)) service) NoService result }
     {
-        if self.services() <= service as usize {
+        if self.table.services() <= service as usize {
             return Err(RegistryFault::NoService);
         }
         let declared = read_declaration(self.alloc, decl)?;
@@ -337,6 +336,14 @@ impl Registry {
         }
     }
 
+    // Whether a name is taken among types and functions, or a number among the functions of a service.
+    fn takes_function_or_name(&self, name: &str, service: u16, id: u16) -> bool
+        ensures { result ≡ (list_any (takes_name name.now) (registered self.now)
+            || list_any (takes_function service id) (registered self.now)) }
+    {
+        self.table.takes_name(name) || self.table.takes_function(service, id)
+    }
+
     fn signed_function(
         &mut self,
         service: u16,
@@ -354,7 +361,7 @@ impl Registry {
         if names_object(&signature) {
             return Err(RegistryFault::NotPrimitive);
         }
-        if self.takes_name(signature.name.as_str()) || self.takes_function(service, id) {
+        if self.takes_function_or_name(signature.name.as_str(), service, id) {
             return Err(RegistryFault::NameTaken);
         }
         self.add_function(service, signature, id)
@@ -375,7 +382,7 @@ impl Registry {
     {
         let key = signature.name.clone()?;
         let operation = operation(self.alloc, signature)?;
-        let many = self.functions() >= MAX_FUNCTIONS;
+        let many = self.table.functions() >= MAX_FUNCTIONS;
         let call = Call::Function {
             service,
             id,
@@ -391,15 +398,10 @@ impl Registry {
         ensures { RegisteredIf (cause_of_many many (registered self.old) (call_of call)) (call_of call ∷ [])
             result (registered self.old) (registered self.new) }
     {
-        let added = line(self.alloc, &call)?;
-        if many || self.text.len() + added.len() > MAX_TEXT {
+        if many {
             return Err(RegistryFault::TooMany);
         }
-        self.text.reserve(added.len())?;
-        self.calls.reserve(1)?;
-        self.names.insert(key, self.calls.len())?;
-        self.calls.push(call).unwrap();
-        self.text.push_str(added.as_str()).unwrap();
+        self.table.add_named(call, key)?;
         Ok(())
     }
 
@@ -409,13 +411,10 @@ impl Registry {
         ensures { RegisteredIf (cause_of_many many (registered self.old) (call_of call)) (call_of call ∷ [])
             result (registered self.old) (registered self.new) }
     {
-        let line = line(self.alloc, &call)?;
-        if many || self.text.len() + line.len() > MAX_TEXT {
+        if many {
             return Err(RegistryFault::TooMany);
         }
-        self.text.reserve(line.len())?;
-        self.calls.push(call)?;
-        self.text.push_str(line.as_str()).unwrap();
+        self.table.add(call)?;
         Ok(())
     }
 }

@@ -1,23 +1,87 @@
-//! What is kept of a registration.
-ghost use Rattle.std.specs.Prelude.{◌≡◌, ◌≤◌, ℕ, List, map, length, string_bytes};
-ghost use Rattle.indexmap.specs.IndexMap.{get_by_text};
-ghost use Rattle.ash_registry.specs.Calls.{call_of, takes_name};
-ghost use Rattle.ash_registry.specs.Names.{place_of};
-ghost use Rattle.ash_registry.specs.Text.{text_of};
+//! What an embedding program registers.
+ghost use Rattle.std.specs.Prelude.{◌≡◌, ◌≤◌, [], find, length, IfOk};
+ghost use Rattle.std.specs.List.{filter_map};
+ghost use Rattle.std.specs.Option.{option_copied, option_map};
+ghost use Rattle.ash_registrations.specs.Calls.{call_of};
+ghost use Rattle.ash_registrations.specs.Calls as spec;
+ghost use Rattle.ash_registrations.specs.Registered as table;
+ghost use Rattle.ash_registrations.specs.Text.{text_of};
+ghost use Rattle.ash_registry.specs.Registered.{registered};
 
 use crate::Call;
-use indexmap::IndexMap;
-use std::alloc::Global;
+use ash_registrations::Registrations;
+use std::alloc::{AllocError, Global};
 
-/// What is registered: the accepted calls in order, the place among them of each name of a type or function, and
-/// their text.
+/// What is registered, and room to read declarations in.
 #[derive(Drop)]
 pub struct Registry {
     pub(crate) alloc: Global,
-    pub(crate) calls: Vec<Call>,
-    pub(crate) names: IndexMap<String, usize>,
-    pub(crate) text: String,
-    ghost written: { string_bytes text ≡ text_of (map call_of calls.items) },
-    ghost short: { length (string_bytes text) ≤ 1048576 },
-    ghost placed: { (name : List ℕ) → get_by_text names name ≡ place_of (λ call. takes_name name (call_of call)) calls.items },
+    pub(crate) table: Registrations,
+}
+
+impl Registry {
+    /// Nothing is registered.
+    pub fn new(alloc: Global) -> Registry
+        ensures { registered result ≡ [] }
+    {
+        Registry {
+            alloc,
+            table: Registrations::new(alloc),
+        }
+    }
+
+    /// What is registered, for those who only look it up.
+    pub fn registrations(&self) -> &Registrations
+        ensures { table.registered result.now ≡ registered self.now }
+    {
+        &self.table
+    }
+
+    /// One line for each accepted call, in order: 1,048,576 bytes at most.
+    pub fn text(&self) -> &str
+        ensures lines { result.now ≡ text_of (registered self.now) }
+        ensures short { length result.now ≤ 1048576 }
+    {
+        self.table.text()
+    }
+
+    /// The type or function of a name, as it was registered.
+    pub fn named(&self, name: &str) -> Option<&Call>
+        ensures { option_map call_of (option_copied result)
+            ≡ find (spec.takes_name name.now) (registered self.now) }
+    {
+        self.table.named(name)
+    }
+
+    /// The method or property of a type by its name, as it was registered.
+    pub fn member(&self, of: &str, name: &str) -> Option<&Call>
+        ensures { option_map call_of (option_copied result)
+            ≡ find (spec.takes_member of.now name.now) (registered self.now) }
+    {
+        self.table.member(of, name)
+    }
+
+    /// The factory of a type, as it was registered.
+    pub fn factory_of(&self, of: &str) -> Option<&Call>
+        ensures { option_map call_of (option_copied result)
+            ≡ find (spec.is_factory_of of.now) (registered self.now) }
+    {
+        self.table.factory_of(of)
+    }
+
+    /// The type or service of a kind, as it was registered.
+    pub fn of_kind(&self, kind: u16) -> Option<&Call>
+        ensures { option_map call_of (option_copied result)
+            ≡ find (spec.takes_kind kind) (registered self.now) }
+    {
+        self.table.of_kind(kind)
+    }
+
+    /// The kinds of the services, in order of registration.
+    pub fn service_kinds(&self) -> Result<Vec<u16>, AllocError>
+        ensures { IfOk result (λ kinds. kinds.items
+            ≡ filter_map spec.service_kind (registered self.now)) }
+    {
+        self.table.service_kinds()
+    }
 }

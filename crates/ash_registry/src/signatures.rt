@@ -1,7 +1,7 @@
 //! Signatures as they are tested and kept.
 ghost use Rattle.std.specs.Prelude.{◌≡◌, IfOk, Some, map};
 ghost use Rattle.std.specs.List.{list_any, filter_map};
-ghost use Rattle.ash_registry.specs.Calls.{operation_of};
+ghost use Rattle.ash_registrations.specs.Calls.{operation_of};
 ghost use Rattle.ash_registry.specs.Refusals.{is_unknown, is_unknown_element, is_object, primitive_of, primitive_operation, types_of, gives_handle_of};
 ghost use Rattle.std.specs.Option.{option_map};
 ghost use Rattle.ash_registry.specs.Registered.{registered};
@@ -29,7 +29,7 @@ pub(crate) fn primitives(alloc: Global, types: &[Type]) -> Result<Vec<Primitive>
 }
 
 /// A signature whose types are primitive.
-#[tactic(auto, using(crate::proofs::Mapped::filter_mapped))]
+#[tactic(auto, using(ash_registrations::proofs::Mapped::filter_mapped))]
 pub(crate) fn operation(alloc: Global, signature: Signature) -> Result<Operation, AllocError>
     ensures { IfOk result (λ kept. operation_of kept ≡ primitive_operation (signature_of signature)) }
 {
@@ -58,7 +58,7 @@ impl Registry {
     {
         match &of.kind {
             ElementKind::Primitive(_) => false,
-            ElementKind::Handle(name) => !self.knows(name.as_str()),
+            ElementKind::Handle(name) => !self.table.knows(name.as_str()),
         }
     }
 
@@ -68,7 +68,7 @@ impl Registry {
     {
         match &of.kind {
             TypeKind::Primitive(_) => false,
-            TypeKind::Object(name) | TypeKind::Handle(name) => !self.knows(name.as_str()),
+            TypeKind::Object(name) | TypeKind::Handle(name) => !self.table.knows(name.as_str()),
             TypeKind::Array(element) | TypeKind::ArrayHandle(element) => {
                 self.misses_element(element)
             }
@@ -83,7 +83,7 @@ impl Registry {
     }
 
     // Whether a signature names an object type that isn't registered.
-    #[tactic(auto, using(crate::proofs::Mapped::any_mapped))]
+    #[tactic(auto, using(ash_registrations::proofs::Mapped::any_mapped))]
     pub(crate) fn names_unknown(&self, signature: &Signature) -> bool
         ensures { result ≡ list_any (is_unknown (registered self.now)) (types_of (signature_of signature.now)) }
     {
@@ -102,7 +102,7 @@ fn is_no_primitive(of: &Type) -> bool
 }
 
 /// Whether a signature names a type that is no primitive.
-#[tactic(auto, using(crate::proofs::Mapped::any_mapped))]
+#[tactic(auto, using(ash_registrations::proofs::Mapped::any_mapped))]
 pub(crate) fn names_object(signature: &Signature) -> bool
     ensures { result ≡ list_any is_object (types_of (signature_of signature.now)) }
 {

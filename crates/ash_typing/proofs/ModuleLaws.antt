@@ -1,7 +1,7 @@
 -- The walk of a module answers exactly what the rules say.
 use Rattle.std.proofs.Common.{◌≡◌, ◌↔◌, List, length, Ok, refl, sym, ◌∙◌, ap, subst, arith}
 use Rattle.std.specs.List.{IsDistinct}
-use Rattle.ash_registry.specs.Calls.{Call}
+use Rattle.ash_registrations.specs.Calls.{Call}
 use Rattle.ash_tree.specs.Tree.{Item}
 use Rattle.ash_typing.specs.Typing.{IsKnown}
 use Rattle.ash_typing.specs.Items.{nothing, module_walked, items_typed, module_typed}

@@ -5,7 +5,7 @@ use Rattle.std.proofs.Common.{◌≡◌, ℕ, List, Bool, true, false, cond, Opt
 use Rattle.ash_tree.specs.declared.tree.operators.BinaryOp.{BinaryOp}
 use Rattle.ash_tree.specs.declared.tree.operators.BinaryOp.TheVariants as binary
 use Rattle.ash_tree.specs.Tree as written
-use Rattle.ash_registry.specs.Calls as host
+use Rattle.ash_registrations.specs.Calls as host
 use Rattle.ash_typed.specs.declared.types.Kind.{Kind}
 use Rattle.ash_typed.specs.declared.types.Kind.TheVariants as kinds
 use Rattle.ash_typed.specs.declared.types.ObjectType.{ObjectType}

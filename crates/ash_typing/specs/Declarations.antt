@@ -1,7 +1,7 @@
 -- Variables, and what they begin with (AngelScript manual, "Variables"): an initialiser is walked, then the variable.
 use Rattle.std.specs.Prelude.{ℕ, false, List, [], ◌∷◌, Option, Some, None, Ok, option_map, find, slice_get}
 use Rattle.std.specs.Option.{option_and_then}
-use Rattle.ash_registry.specs.Calls as host
+use Rattle.ash_registrations.specs.Calls as host
 use Rattle.ash_tree.specs.Tree as written
 use Rattle.ash_typing.specs.declared.fault.Rule.TheVariants.{UnknownType, TypeMismatch, NotAssignable, NoFactory}
 use Rattle.ash_typed.specs.declared.types.ObjectType.{ObjectType}

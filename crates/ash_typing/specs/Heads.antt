@@ -2,7 +2,7 @@
 -- the first counts, and what is of an unknown type is told where it is declared.
 use Rattle.std.specs.Prelude.{ℕ, List, [], ◌∷◌, ◌++◌, Option, Some, None, map, find}
 use Rattle.std.specs.Option.{option_and_then, option_map, option_or}
-use Rattle.ash_registry.specs.Calls as host
+use Rattle.ash_registrations.specs.Calls as host
 use Rattle.ash_tree.specs.Tree as written
 use Rattle.ash_typed.specs.declared.types.ObjectType.{ObjectType}
 use Rattle.ash_typed.specs.declared.types.ObjectType.TheVariants.{Class as OfClass, Host as OfHost}

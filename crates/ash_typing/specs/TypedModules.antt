@@ -4,7 +4,7 @@ use Rattle.std.specs.Prelude.{◌≡◌, ◌≤◌, ◌⊎◌, ◌+◌, ℕ, Lis
 use Rattle.std.specs.Bool.{IsTrue}
 use Rattle.std.specs.List.{AllByRecursion, AllZip, IsDistinct}
 use Rattle.std.specs.Str.{bytes_eq}
-use Rattle.ash_registry.specs.Calls as host
+use Rattle.ash_registrations.specs.Calls as host
 use Rattle.ash_tree.specs.Tree as written
 use Rattle.ash_typed.specs.declared.types.Ty.{Ty}
 use Rattle.ash_typed.specs.declared.types.Ty.TheVariants as ty

@@ -3,8 +3,8 @@
 //! The rules stand in `specs/`, one case for each: of expressions and of variables in `Typing`, of statements in
 //! `TypedStatements`, of modules in `TypedModules`. The walk that finds the first fault stands in `Expressions`,
 //! `Declarations`, `Statements` and `Items`. `typing` and `modules` say that the two are one.
-//! The crate stands on `ash_tree`, whose trees are typed, on `ash_registry`, and on `ash_typed`, whose trees are the
-//! typed ones. It types nothing itself: `ash_expressions` and `ash_check` do, by these definitions.
+//! The crate stands on `ash_tree`, whose trees are typed, on `ash_registrations`, and on `ash_typed`, whose trees are
+//! the typed ones. It types nothing itself: `ash_expressions` and `ash_check` do, by these definitions.
 //!
 //! In reading order: `forms`, `fault`, `typing`, `modules`.
 #![tactic(auto)]

@@ -2,7 +2,7 @@
 //! exists.
 
 ghost use Rattle.std.specs.Prelude.{◌≡◌, ◌↔◌, List, Ok, IsOk};
-ghost use Rattle.ash_registry.specs.Calls.{Call};
+ghost use Rattle.ash_registrations.specs.Calls.{Call};
 ghost use Rattle.ash_tree.specs.Tree as written;
 ghost use Rattle.ash_typing.specs.Items.{module_typed};
 ghost use Rattle.ash_typed.specs.Modules as modules;

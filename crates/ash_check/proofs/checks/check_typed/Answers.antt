@@ -1,5 +1,5 @@
 use Rattle.std.proofs.Common.{◌≡◌, ◌∙◌, ℕ, IfErr, OnOk, Some, None, Ok, Err, ap, sym, subst}
-use Rattle.ash_registry.specs.Registered.{registered}
+use Rattle.ash_registrations.specs.Registered.{registered}
 use Rattle.ash_tree.specs.Views.{module_of as written_module}
 use Rattle.ash_typed.specs.Modules.{module_of}
 use Rattle.ash_classes.specs.declared.cycles.Cycle.{Cycle}

@@ -1,5 +1,5 @@
 use Rattle.std.proofs.Common.{◌≡◌, ◌++◌, map, drop}
-use Rattle.ash_registry.specs.Registered.{registered}
+use Rattle.ash_registrations.specs.Registered.{registered}
 use Rattle.ash_tree.specs.Views.{item_of}
 use Rattle.ash_typing.specs.Heads.{classes_in}
 use Rattle.ash_expressions.specs.Views.{class_of}

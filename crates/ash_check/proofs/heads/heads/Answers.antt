@@ -1,5 +1,5 @@
 use Rattle.std.proofs.Common.{◌≡◌, ◌∙◌, ap, subst, map, IfOk}
-use Rattle.ash_registry.specs.Registered.{registered}
+use Rattle.ash_registrations.specs.Registered.{registered}
 use Rattle.ash_tree.specs.Views.{item_of}
 use Rattle.ash_typing.specs.Heads as definition
 use Rattle.ash_expressions.specs.Views.{class_of, heads_of}

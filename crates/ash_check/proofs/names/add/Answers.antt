@@ -2,7 +2,7 @@ use Rattle.std.proofs.Common.{◌≡◌, ◌∙◌, ap, sym, false, [], ◌∷�
 use Rattle.std.specs.List.{list_any}
 use Rattle.std.specs.Str.{bytes_eq}
 use Rattle.std.proofs.lemmas.List.{map_push}
-use Rattle.ash_registry.proofs.Mapped.{any_mapped}
+use Rattle.ash_registrations.proofs.Mapped.{any_mapped}
 use Rattle.ash_expressions.specs.Places.{texts}
 use Rattle.ash_check.proofs.names.add.Goals as goal
 

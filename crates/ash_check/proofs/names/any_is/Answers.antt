@@ -1,6 +1,6 @@
 use Rattle.std.proofs.Common.{◌∙◌, sym}
 use Rattle.std.specs.Str.{bytes_eq}
-use Rattle.ash_registry.proofs.Mapped.{any_mapped}
+use Rattle.ash_registrations.proofs.Mapped.{any_mapped}
 use Rattle.ash_check.proofs.names.any_is.Goals as goal
 
 pub returns : goal.returns

@@ -1,0 +1,5 @@
+pub mod Calls
+pub mod Names
+pub mod Text
+pub mod Registered
+pub mod Added

@@ -1,0 +1,75 @@
+//! One more call.
+ghost use Rattle.std.specs.Prelude.{◌≡◌, ℕ, List, false, string_bytes};
+ghost use Rattle.std.specs.List.{list_any};
+ghost use Rattle.std.specs.Str.{bytes_eq};
+ghost use Rattle.ash_registrations.specs.Added.{IsAdded};
+ghost use Rattle.ash_registrations.specs.Calls.{call_of, takes_name};
+ghost use Rattle.ash_registrations.specs.Registered.{registered};
+ghost use Rattle.ash_registrations.specs.declared.adding.AddFault.TheVariants.{NoMemory};
+
+use crate::text::line;
+use crate::{Call, Registrations};
+use std::alloc::{AllocError, AllocFailed};
+
+/// The most bytes of the text.
+const MAX_TEXT: usize = 1_048_576;
+
+/// Why a call is not added.
+#[derive(Clone, Copy, Debug, PartialEq, Eq)]
+pub enum AddFault {
+    /// The text has no room for its line.
+    TooLong,
+    /// Memory ran out.
+    NoMemory,
+}
+
+impl From<AllocError> for AddFault {
+    ghost from_gives = { λ _ fault. fault ≡ NoMemory };
+
+    fn from(_error: AllocError) -> AddFault {
+        AddFault::NoMemory
+    }
+}
+
+impl<T: Drop> From<AllocFailed<T>> for AddFault {
+    ghost from_gives = { λ _ fault. fault ≡ NoMemory };
+
+    fn from(_error: AllocFailed<T>) -> AddFault {
+        AddFault::NoMemory
+    }
+}
+
+impl Registrations {
+    /// Adds a call that takes a name of a type or function, with that name.
+    pub fn add_named(&mut self, call: Call, key: String) -> Result<(), AddFault>
+        requires named { (name : List ℕ) → takes_name name (call_of call) ≡ bytes_eq name (string_bytes key) }
+        requires free { list_any (takes_name (string_bytes key)) (registered self.old) ≡ false }
+        ensures { IsAdded (call_of call) result (registered self.old) (registered self.new) }
+    {
+        let added = line(self.alloc, &call)?;
+        if self.text.len() + added.len() > MAX_TEXT {
+            return Err(AddFault::TooLong);
+        }
+        self.text.reserve(added.len())?;
+        self.calls.reserve(1)?;
+        self.names.insert(key, self.calls.len())?;
+        self.calls.push(call).unwrap();
+        self.text.push_str(added.as_str()).unwrap();
+        Ok(())
+    }
+
+    /// Adds a call that takes no name of a type or function.
+    pub fn add(&mut self, call: Call) -> Result<(), AddFault>
+        requires { (name : List ℕ) → takes_name name (call_of call) ≡ false }
+        ensures { IsAdded (call_of call) result (registered self.old) (registered self.new) }
+    {
+        let line = line(self.alloc, &call)?;
+        if self.text.len() + line.len() > MAX_TEXT {
+            return Err(AddFault::TooLong);
+        }
+        self.text.reserve(line.len())?;
+        self.calls.push(call)?;
+        self.text.push_str(line.as_str()).unwrap();
+        Ok(())
+    }
+}

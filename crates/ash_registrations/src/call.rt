@@ -1,0 +1,162 @@
+//! One accepted call, and what it takes.
+ghost use Rattle.std.specs.Prelude.{◌≡◌};
+ghost use Rattle.ash_registrations.specs.Calls.{call_of};
+ghost use Rattle.ash_registrations.specs.Calls as spec;
+
+use ash_tree::Primitive;
+
+/// A function of primitives: a method of a type or a function of a service. Without a result it is `void`.
+#[derive(Debug, PartialEq, Eq, Drop)]
+pub struct Operation {
+    pub name: String,
+    pub result: Option<Primitive>,
+    pub parameters: Vec<Primitive>,
+}
+
+/// An accepted registration.
+#[derive(Debug, PartialEq, Eq, Drop)]
+pub enum Call {
+    Type {
+        name: String,
+        kind: u16,
+    },
+    Factory {
+        of: String,
+        parameters: Vec<Primitive>,
+    },
+    Method {
+        of: String,
+        id: u16,
+        operation: Operation,
+    },
+    Property {
+        of: String,
+        id: u16,
+        value: Primitive,
+        name: String,
+    },
+    Service {
+        kind: u16,
+    },
+    Function {
+        service: u16,
+        id: u16,
+        operation: Operation,
+    },
+}
+
+impl Call {
+    pub(crate) fn is_type(&self) -> bool
+        ensures { result ≡ spec.is_type (call_of self.now) }
+    {
+        matches!(self, Call::Type { .. })
+    }
+
+    pub(crate) fn names_type(&self, of: &str) -> bool
+        ensures { result ≡ spec.names_type of.now (call_of self.now) }
+    {
+        match self {
+            Call::Type { name, .. } => of == name.as_str(),
+            _ => false,
+        }
+    }
+
+    pub(crate) fn takes_kind(&self, of: u16) -> bool
+        ensures { result ≡ spec.takes_kind of (call_of self.now) }
+    {
+        match self {
+            Call::Type { kind, .. } | Call::Service { kind } => of == *kind,
+            _ => false,
+        }
+    }
+
+    pub(crate) fn takes_name(&self, wanted: &str) -> bool
+        ensures { result ≡ spec.takes_name wanted.now (call_of self.now) }
+    {
+        match self {
+            Call::Type { name, .. } => wanted == name.as_str(),
+            Call::Function { operation, .. } => wanted == operation.name.as_str(),
+            _ => false,
+        }
+    }
+
+    pub(crate) fn is_factory_of(&self, wanted: &str) -> bool
+        ensures { result ≡ spec.is_factory_of wanted.now (call_of self.now) }
+    {
+        match self {
+            Call::Factory { of, .. } => wanted == of.as_str(),
+            _ => false,
+        }
+    }
+
+    pub(crate) fn is_member_of(&self, wanted: &str) -> bool
+        ensures { result ≡ spec.is_member_of wanted.now (call_of self.now) }
+    {
+        match self {
+            Call::Method { of, .. } | Call::Property { of, .. } => wanted == of.as_str(),
+            _ => false,
+        }
+    }
+
+    pub(crate) fn takes_member(&self, owner: &str, wanted: &str) -> bool
+        ensures { result ≡ spec.takes_member owner.now wanted.now (call_of self.now) }
+    {
+        match self {
+            Call::Method { of, operation, .. } => {
+                owner == of.as_str() && wanted == operation.name.as_str()
+            }
+            Call::Property { of, name, .. } => owner == of.as_str() && wanted == name.as_str(),
+            _ => false,
+        }
+    }
+
+    pub(crate) fn takes_method(&self, owner: &str, wanted: u16) -> bool
+        ensures { result ≡ spec.takes_method owner.now wanted (call_of self.now) }
+    {
+        match self {
+            Call::Method { of, id, .. } => owner == of.as_str() && wanted == *id,
+            _ => false,
+        }
+    }
+
+    pub(crate) fn takes_property(&self, owner: &str, wanted: u16) -> bool
+        ensures { result ≡ spec.takes_property owner.now wanted (call_of self.now) }
+    {
+        match self {
+            Call::Property { of, id, .. } => owner == of.as_str() && wanted == *id,
+            _ => false,
+        }
+    }
+
+    pub(crate) fn takes_function(&self, of: u16, wanted: u16) -> bool
+        ensures { result ≡ spec.takes_function of wanted (call_of self.now) }
+    {
+        match self {
+            Call::Function { service, id, .. } => of == *service && wanted == *id,
+            _ => false,
+        }
+    }
+
+    pub(crate) fn is_service(&self) -> bool
+        ensures { result ≡ spec.is_service (call_of self.now) }
+    {
+        matches!(self, Call::Service { .. })
+    }
+
+    pub(crate) fn is_function(&self) -> bool
+        ensures { result ≡ spec.is_function (call_of self.now) }
+    {
+        matches!(self, Call::Function { .. })
+    }
+
+    /// The kind of a service.
+    #[tactic(auto, unfolding(crate::specs::Calls::service_kind))]
+    pub(crate) fn service_kind(&self) -> Option<u16>
+        ensures { result ≡ spec.service_kind (call_of self.now) }
+    {
+        match self {
+            Call::Service { kind } => Some(*kind),
+            _ => None,
+        }
+    }
+}

@@ -1,0 +1,23 @@
+//! What is registered.
+ghost use Rattle.std.specs.Prelude.{◌≡◌, ◌≤◌, ℕ, List, map, length, string_bytes};
+ghost use Rattle.indexmap.specs.IndexMap.{get_by_text};
+ghost use Rattle.ash_registrations.specs.Calls.{call_of, takes_name};
+ghost use Rattle.ash_registrations.specs.Names.{place_of};
+ghost use Rattle.ash_registrations.specs.Text.{text_of};
+
+use crate::Call;
+use indexmap::IndexMap;
+use std::alloc::Global;
+
+/// What is registered: the accepted calls in order, the place among them of each name of a type or function, and
+/// their text.
+#[derive(Drop)]
+pub struct Registrations {
+    pub(crate) alloc: Global,
+    pub(crate) calls: Vec<Call>,
+    pub(crate) names: IndexMap<String, usize>,
+    pub(crate) text: String,
+    ghost written: { string_bytes text ≡ text_of (map call_of calls.items) },
+    ghost short: { length (string_bytes text) ≤ 1048576 },
+    ghost placed: { (name : List ℕ) → get_by_text names name ≡ place_of (λ call. takes_name name (call_of call)) calls.items },
+}

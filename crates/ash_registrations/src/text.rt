@@ -1,0 +1,170 @@
+//! The line of an accepted call.
+ghost use Rattle.std.specs.Prelude.{◌≡◌, [], ◌∷◌, ◌++◌, codes, string_bytes, IfOk, OnOk};
+ghost use Rattle.ash_registrations.specs.Calls.{call_of, operation_of, AType, AFactory, AMethod, AProperty, AService, AFunction};
+ghost use Rattle.std.specs.List.{concat};
+ghost use Rattle.ash_registrations.specs.Text.{primitive_text, result_text, more_parameters, parameters_text, operation_text, line_of};
+
+use crate::{Call, Operation};
+use ash_tree::Primitive;
+use std::alloc::{AllocError, Global};
+
+fn primitive_name(primitive: Primitive) -> &'static str
+    ensures { result.now ≡ primitive_text primitive }
+{
+    match primitive {
+        Primitive::Bool => "bool",
+        Primitive::Int => "int",
+        Primitive::Int64 => "int64",
+        Primitive::Uint => "uint",
+        Primitive::Uint64 => "uint64",
+    }
+}
+
+fn result_name(of: Option<Primitive>) -> &'static str
+    ensures { result.now ≡ result_text of }
+{
+    match of {
+        Some(primitive) => primitive_name(primitive),
+        None => "void",
+    }
+}
+
+// Appends the parameters after the first, each behind a comma.
+fn push_more(text: &mut String, rest: &[Primitive]) -> Result<(), AllocError>
+    ensures { OnOk result (string_bytes text.new ≡ string_bytes text.old ++ more_parameters rest.now) }
+{
+    for primitive in rest {
+        text.push_str(",")?;
+        text.push_str(primitive_name(*primitive))?;
+    }
+    Ok(())
+}
+
+// The parameters, parted by a comma without a blank.
+fn parameters(alloc: Global, types: &[Primitive]) -> Result<String, AllocError>
+    ensures { IfOk result (λ text. string_bytes text ≡ parameters_text types.now) }
+{
+    let mut text = String::new(alloc);
+    if let [first, rest @ ..] = types {
+        text.push_str(primitive_name(*first))?;
+        push_more(&mut text, rest)?;
+    }
+    Ok(text)
+}
+
+// As `int add(int)`, of its parts.
+fn of_parts(alloc: Global, of: &str, name: &str, parameters: &str) -> Result<String, AllocError>
+    ensures { IfOk result (λ text. string_bytes text ≡ concat (of.now ∷ codes " " ∷ name.now ∷ codes "(" ∷ parameters.now ∷ codes ")" ∷ [])) }
+{
+    [of, " ", name, "(", parameters, ")"].concat(alloc)
+}
+
+// As `int add(int)`.
+fn operation(alloc: Global, operation: &Operation) -> Result<String, AllocError>
+    ensures { IfOk result (λ text. string_bytes text ≡ operation_text (operation_of operation.now)) }
+{
+    let parameters = parameters(alloc, &operation.parameters)?;
+    let of = result_name(operation.result);
+    of_parts(alloc, of, operation.name.as_str(), parameters.as_str())
+}
+
+fn type_line(alloc: Global, name: &str, kind: u16) -> Result<String, AllocError>
+    ensures { IfOk result (λ text. string_bytes text ≡ line_of (AType name.now kind)) }
+{
+    let kind = kind.to_string(alloc)?;
+    ["type ", name, " ", kind.as_str(), "\n"].concat(alloc)
+}
+
+fn factory_line(alloc: Global, of: &str, taken: &[Primitive]) -> Result<String, AllocError>
+    ensures { IfOk result (λ text. string_bytes text ≡ line_of (AFactory of.now taken.now)) }
+{
+    let taken = parameters(alloc, taken)?;
+    ["factory ", of, " (", taken.as_str(), ")\n"].concat(alloc)
+}
+
+fn method_line(alloc: Global, of: &str, id: u16, method: &Operation) -> Result<String, AllocError>
+    ensures { IfOk result (λ text. string_bytes text ≡ line_of (AMethod of.now id (operation_of method.now))) }
+{
+    let id = id.to_string(alloc)?;
+    let method = operation(alloc, method)?;
+    ["method ", of, " ", id.as_str(), " ", method.as_str(), "\n"].concat(alloc)
+}
+
+// The line of a property, of its parts.
+fn property_of_parts(
+    alloc: Global,
+    of: &str,
+    id: &str,
+    value: &str,
+    name: &str,
+) -> Result<String, AllocError>
+    ensures { IfOk result (λ text. string_bytes text ≡ concat (codes "property " ∷ of.now ∷ codes " " ∷ id.now ∷ codes " " ∷ value.now ∷ codes " " ∷ name.now ∷ codes "\n" ∷ [])) }
+{
+    ["property ", of, " ", id, " ", value, " ", name, "\n"].concat(alloc)
+}
+
+fn property_line(
+    alloc: Global,
+    of: &str,
+    id: u16,
+    value: Primitive,
+    name: &str,
+) -> Result<String, AllocError>
+    ensures { IfOk result (λ text. string_bytes text ≡ line_of (AProperty of.now id value name.now)) }
+{
+    let id = id.to_string(alloc)?;
+    property_of_parts(alloc, of, id.as_str(), primitive_name(value), name)
+}
+
+fn service_line(alloc: Global, kind: u16) -> Result<String, AllocError>
+    ensures { IfOk result (λ text. string_bytes text ≡ line_of (AService kind)) }
+{
+    let kind = kind.to_string(alloc)?;
+    ["service ", kind.as_str(), "\n"].concat(alloc)
+}
+
+fn function_line(
+    alloc: Global,
+    service: u16,
+    id: u16,
+    function: &Operation,
+) -> Result<String, AllocError>
+    ensures { IfOk result (λ text. string_bytes text ≡ line_of (AFunction service id (operation_of function.now))) }
+{
+    let service = service.to_string(alloc)?;
+    let id = id.to_string(alloc)?;
+    let function = operation(alloc, function)?;
+    let parts = [
+        "function ",
+        service.as_str(),
+        " ",
+        id.as_str(),
+        " ",
+        function.as_str(),
+        "\n",
+    ];
+    parts.concat(alloc)
+}
+
+/// The line of a call, with its line feed.
+pub(crate) fn line(alloc: Global, call: &Call) -> Result<String, AllocError>
+    ensures { IfOk result (λ text. string_bytes text ≡ line_of (call_of call.now)) }
+{
+    match call {
+        Call::Type { name, kind } => type_line(alloc, name, *kind),
+        Call::Factory { of, parameters } => factory_line(alloc, of, parameters),
+        Call::Method { of, id, operation } => method_line(alloc, of, *id, operation),
+        Call::Property {
+            of,
+            id,
+            value,
+            name,
+        } => property_line(alloc, of, *id, *value, name),
+        Call::Service { kind } => service_line(alloc, *kind),
+        Call::Function {
+            service,
+            id,
+            operation,
+        } => function_line(alloc, *service, *id, operation),
+    }
+}

@@ -1,6 +1,0 @@
-use Rattle.ash_registry.specs.Calls.{call_of, takes_name}
-use Rattle.ash_registry.proofs.Places.{any_by}
-use Rattle.ash_registry.proofs.registry.Registry.takes_name.Goals as goal
-
-pub returns : goal.returns
-returns c = any_by (takes_name c.args.name.now) call_of c.args.self.now.calls.items _ c.contains_key.result (c.args.self.now.placed c.args.name.now) c.contains_key.ensures

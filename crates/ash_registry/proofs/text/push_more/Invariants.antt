@@ -1,6 +1,0 @@
-use Rattle.std.proofs.Common.{◌≡◌, ◌++◌, drop, string_bytes}
-use Rattle.ash_registry.specs.Text.{more_parameters}
-use Rattle.ash_registry.proofs.text.push_more.Given as goal
-
-abbrev pub invariant-loop-primitive : goal.invariant-loop-primitive
-invariant-loop-primitive l = string_bytes l.text ++ more_parameters (drop l.primitive-index l.rest) ≡ string_bytes l.initial.text ++ more_parameters l.rest
