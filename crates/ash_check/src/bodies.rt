@@ -14,7 +14,7 @@ use crate::scopes::Scope;
 use crate::statements::block;
 use ash_expressions::{Checking, Declared, Environment};
 use ash_tree::Stmt;
-use ash_typed::Ty;
+use ash_typing::Ty;
 use std::alloc::Global;
 
 /// The body of a function that gives this type, whose parameters are the locals.

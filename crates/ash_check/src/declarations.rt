@@ -12,11 +12,12 @@ ghost use Rattle.ash_check.specs.WalkViews.{maybe_expr};
 
 use crate::heads::ty_named;
 use ash_expressions::{
-    Callee, Checking, Environment, Parameters, Typed, all_typed, broken, called, expression, fitted,
+    Callee, Checking, Environment, Parameters, Typed, all_typed, broken, called, expression,
+    fitted, var_type,
 };
 use ash_tree::{Decl, Initializer, Place, Type};
-use ash_typed::{Expr, Initialization, ObjectType, Target, Ty};
-use ash_typing::{Callable, Rule};
+use ash_typed::{Expr, Initialization, ObjectType, Target};
+use ash_typing::{Callable, Rule, Ty};
 use std::alloc::Global;
 
 #[tactic(auto, using(ash_tree::proofs::Rows::type_place_is))]
@@ -199,7 +200,7 @@ pub(crate) fn decl_typed(
     let value = initialized(alloc, env, at, decl.place.at, of, &decl.initializer)?;
     Ok(Initialization {
         name: decl.name.clone()?,
-        of,
+        of: var_type(of),
         value,
     })
 }

@@ -9,7 +9,8 @@ ghost use Rattle.ash_expressions.specs.Views.{declared_of, function_of, class_of
 use ash_expressions::{Class, Declared, Function, Heads, ty_of};
 use ash_registrations::{Call, Registrations};
 use ash_tree::{Item, Member, Module, Parameter, Type, TypeKind, Vars};
-use ash_typed::{ObjectType, Ty};
+use ash_typed::ObjectType;
+use ash_typing::Ty;
 use std::alloc::{AllocError, Global};
 
 /// A type of objects, by its name: a class of the module, else a registered type.

@@ -14,11 +14,13 @@ use crate::declarations::{decl_typed, known, place_of, ty_in};
 use crate::heads::heads;
 use crate::names::Names;
 use crate::scopes::any_declares;
-use ash_expressions::{Checking, Declared, Environment, Heads, broken, is_void};
+use ash_expressions::{
+    Checking, Declared, Environment, Heads, broken, is_void, result_type, var_type,
+};
 use ash_registrations::Registrations;
 use ash_tree::{Constructor, Item, Member, Parameter, Place, Stmt, Type, Vars};
-use ash_typed::{Class, Function, Module, Ty, Variables};
-use ash_typing::Rule;
+use ash_typed::{Class, Function, Module, VarType, Variables};
+use ash_typing::{Rule, Ty};
 use indexmap::IndexSet;
 use std::alloc::{AllocError, Global};
 
@@ -95,12 +97,12 @@ fn parameters_typed<'a>(
     Ok(all)
 }
 
-fn types_of(alloc: Global, all: &[Declared]) -> Result<Vec<Ty>, AllocError>
+fn types_of(alloc: Global, all: &[Declared]) -> Result<Vec<VarType>, AllocError>
     ensures { IfOk result (λ types. types.items ≡ map definition.type_of (map declared_of all.now)) }
 {
     let mut types = Vec::new(alloc);
     for declared in all {
-        types.push(declared.of)?;
+        types.push(var_type(declared.of))?;
     }
     Ok(types)
 }
@@ -124,7 +126,7 @@ fn routine_typed<'a>(
     Ok(Function {
         name: String::from_str(alloc, routine.name)?,
         line: routine.place.line,
-        result: of,
+        result: result_type(of),
         parameters,
         body,
     })

@@ -12,8 +12,8 @@ ghost use Rattle.ash_check.specs.StatementViews.{scope_of};
 use crate::scopes::Scope;
 use ash_expressions::{Checking, Declared, Typed, broken, expression, fitted, is_void};
 use ash_tree::{Expr, Place};
-use ash_typed::{Expr as TypedExpr, Stmt as TypedStmt, StmtKind as TypedKind, Ty};
-use ash_typing::Rule;
+use ash_typed::{Expr as TypedExpr, Stmt as TypedStmt, StmtKind as TypedKind};
+use ash_typing::{Rule, Ty};
 use std::alloc::Global;
 
 /// `break`, which has to leave a loop or a `switch`.

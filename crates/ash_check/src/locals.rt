@@ -11,7 +11,8 @@ use crate::declarations::{decl_typed, known, place_of, ty_in};
 use crate::scopes::Scope;
 use ash_expressions::{Checking, Declared};
 use ash_tree::{Decl, Vars};
-use ash_typed::{Initialization, Ty};
+use ash_typed::Initialization;
+use ash_typing::Ty;
 use std::alloc::Global;
 
 /// Variables of the type at this offset, each seen from the end of its own on.

@@ -13,8 +13,7 @@ ghost use Rattle.ash_check.specs.StatementViews.{scope_of};
 use ash_expressions::{Checking, Declared, Environment, Heads, broken};
 use ash_registrations::Registrations;
 use ash_tree::Decl;
-use ash_typed::Ty;
-use ash_typing::Rule;
+use ash_typing::{Rule, Ty};
 
 /// What a statement sees beside the locals.
 #[derive(Clone, Copy)]

@@ -10,8 +10,8 @@ ghost use Rattle.ash_expressions.specs.Gives.{Gives};
 
 use ash_expressions::{Checking, broken, holds};
 use ash_tree::{Case, Label};
-use ash_typed::{Kind, Ty};
-use ash_typing::Rule;
+use ash_typed::Kind;
+use ash_typing::{Rule, Ty};
 
 /// The integer type of the value, where it has one.
 pub(crate) fn kind_in(of: Ty) -> Option<Kind>

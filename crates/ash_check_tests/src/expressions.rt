@@ -7,7 +7,8 @@ use ash_expressions::{Class, Declared, Environment, Function, Heads, Typed, expr
 use ash_registrations::Registrations;
 use ash_tree as written;
 use ash_tree::{Initializer, Item, Module};
-use ash_typed::{Expr, Kind, ObjectType, Operands, Operation, Ty};
+use ash_typed::{Expr, Kind, ObjectType, Operands, Operation};
+use ash_typing::Ty;
 use std::alloc::{AllocError, Global};
 use std::fmt::Debug;
 

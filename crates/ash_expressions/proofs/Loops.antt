@@ -2,7 +2,7 @@
 use Rattle.std.proofs.Common.{◌≡◌, ◌≤◌, false, List, [], ◌∷◌, ◌++◌, length, map, Option, Some, None, Ok, Err, refl, sym, ap, ◌∙◌, append_assoc, append-nil, arith}
 use Rattle.ash_tree.specs.Tree as written
 use Rattle.ash_typing.specs.declared.fault.Fault.{Fault}
-use Rattle.ash_typed.specs.declared.types.Ty.{Ty}
+use Rattle.ash_typing.specs.declared.types.Ty.{Ty}
 use Rattle.ash_typed.specs.declared.tree.expressions.Expr as code
 use Rattle.ash_typing.specs.Checking.{Checking, ◌>>=◌}
 use Rattle.ash_typed.specs.Tree.{Expr, Exprs, no_expr, expr, exprs}

@@ -16,7 +16,7 @@ use Rattle.ash_expressions.specs.declared.environment.Parameters as parameters
 use Rattle.ash_expressions.specs.declared.environment.Parameters.TheVariants as the_parameters
 use Rattle.ash_expressions.specs.declared.environment.Callee as callee
 use Rattle.ash_expressions.specs.declared.environment.Invoked as invoked
-use Rattle.ash_typed.specs.declared.types.Ty.{Ty}
+use Rattle.ash_typing.specs.declared.types.Ty.{Ty}
 use Rattle.ash_typed.specs.declared.tree.expressions.Expr as typed_expr
 use Rattle.ash_typing.specs.Types.{ty_of}
 use Rattle.ash_typing.specs.Environment.{Declared, Function, Class, Heads, Environment, Known, Callee, Invoked}
@@ -24,7 +24,7 @@ use Rattle.ash_typing.specs.Expressions.{Typed, Met}
 use Rattle.ash_expressions.specs.declared.operators.Met as met
 
 abbrev pub typed_of : typed.Typed → Typed
-typed_of t = record { at = t.at; ty = t.ty; alone = t.alone; tree = expr_of t.tree }
+typed_of t = record { at = t.at; ty = t.ty; form = t.form; tree = expr_of t.tree }
 
 abbrev pub declared_of : declared.Declared → Declared
 declared_of v = record { name = v.name.now; of = v.of }

@@ -3,16 +3,18 @@
 ghost use Rattle.std.specs.Prelude.{◌≡◌, length, map, option_map, IfOk};
 ghost use Rattle.ash_typed.specs.Views.{expr_of};
 ghost use Rattle.ash_typing.specs.Environment as environment;
+ghost use Rattle.ash_typing.specs.Types as definition;
 ghost use Rattle.ash_typing.specs.Expressions as typing;
 ghost use Rattle.ash_expressions.specs.Gives.{Gives};
 ghost use Rattle.ash_expressions.specs.Views.{typed_of, parameters_of, callee_of, invoked_of, environment_of, arguments_of, maybe_invoked, first_and_rest, split_of};
 
 use crate::environment::{Callee, Environment, Invoked, Parameters};
 use crate::stop::{Checking, broken};
-use crate::typed::{Typed, fitted, made};
-use crate::types::ty_of;
-use ash_typed::{Expr, Member, Method, ObjectType, Ty, nodes};
-use ash_typing::{Alone, Callable, Rule};
+use crate::typed::{Typed, fitted, made, read};
+use crate::types::{bracketed_form, ty_of, var_type};
+use ash_tree::Primitive;
+use ash_typed::{Expr, Member, Method, ObjectType, VarType, nodes};
+use ash_typing::{Callable, Rule, Ty};
 use std::alloc::{AllocError, Global};
 
 impl<'a> Parameters<'a> {
@@ -39,6 +41,36 @@ impl<'a> Parameters<'a> {
             }
         }
     }
+
+    /// The types, as a call says them.
+    fn types(&self, alloc: Global) -> Result<Vec<VarType>, AllocError>
+        ensures { IfOk result (λ types. types.items ≡ map definition.var_type (parameters_of self.now)) }
+    {
+        match self {
+            Parameters::Script(types) => script_types(alloc, types),
+            Parameters::Host(types) => host_types(alloc, types),
+        }
+    }
+}
+
+fn script_types(alloc: Global, all: &[Ty]) -> Result<Vec<VarType>, AllocError>
+    ensures { IfOk result (λ types. types.items ≡ map definition.var_type all.now) }
+{
+    let mut types = Vec::with_capacity(alloc, all.len())?;
+    for of in all {
+        types.push(var_type(*of))?;
+    }
+    Ok(types)
+}
+
+fn host_types(alloc: Global, primitives: &[Primitive]) -> Result<Vec<VarType>, AllocError>
+    ensures { IfOk result (λ types. types.items ≡ map definition.var_type (map definition.ty_of primitives.now)) }
+{
+    let mut types = Vec::with_capacity(alloc, primitives.len())?;
+    for primitive in primitives {
+        types.push(var_type(ty_of(*primitive)))?;
+    }
+    Ok(types)
 }
 
 /// Arguments, each as its parameter takes it.
@@ -74,8 +106,13 @@ fn arguments(
 }
 
 /// The call of what a name before brackets stands for: a method is called on the object that runs.
-fn call_of(alloc: Global, callable: Callable, arguments: Vec<Expr>) -> Result<Expr, AllocError>
-    ensures { IfOk result (λ e. expr_of e ≡ typing.call_of callable (arguments_of arguments)) }
+fn call_of(
+    alloc: Global,
+    callable: Callable,
+    parameters: Vec<VarType>,
+    arguments: Vec<Expr>,
+) -> Result<Expr, AllocError>
+    ensures { IfOk result (λ e. expr_of e ≡ typing.call_of callable parameters.items (arguments_of arguments)) }
 {
     match callable {
         Callable::OwnMethod {
@@ -88,9 +125,9 @@ fn call_of(alloc: Global, callable: Callable, arguments: Vec<Expr>) -> Result<Ex
                 method,
                 result,
             };
-            nodes::invoke(alloc, Expr::This(class), method, arguments)
+            nodes::invoke(alloc, Expr::This(class), method, parameters, arguments)
         }
-        Callable::Target(target) => Ok(nodes::call(target, arguments)),
+        Callable::Target(target) => Ok(nodes::call(target, parameters, arguments)),
     }
 }
 
@@ -103,7 +140,8 @@ pub fn called(alloc: Global, at: usize, callee: &Callee, typed: Vec<Typed>) -> C
         return Err(broken(Rule::NoFactory, at));
     };
     let arguments = arguments(alloc, at, &parameters, typed)?;
-    let tree = call_of(alloc, callee.target, arguments)?;
+    let types = parameters.types(alloc)?;
+    let tree = call_of(alloc, callee.target, types, arguments)?;
     Ok(made(at, callee.result, tree))
 }
 
@@ -114,7 +152,7 @@ pub(crate) fn known(env: &Environment, alloc: Global, at: usize, name: &str) -> 
 {
     match env.variable(alloc, name)? {
         None => Err(broken(Rule::UnknownName, at)),
-        Some((tree, of)) => Ok(made(at, of, tree)),
+        Some((tree, of)) => Ok(read(at, of, tree)),
     }
 }
 
@@ -153,7 +191,7 @@ fn member(
 {
     match env.member(of, name) {
         None => Err(broken(Rule::UnknownName, at)),
-        Some((member, of)) => Ok(made(base.at, of, nodes::member(alloc, base.tree, member)?)),
+        Some((member, of)) => Ok(read(base.at, of, nodes::member(alloc, base.tree, member)?)),
     }
 }
 
@@ -174,10 +212,10 @@ pub(crate) fn field(
             let unknown = Member::Field {
                 class: 0,
                 place: 0,
-                of: Ty::Unknown,
+                of: var_type(Ty::Unknown),
             };
             let tree = nodes::member(alloc, base.tree, unknown)?;
-            Ok(made(base.at, Ty::Unknown, tree))
+            Ok(read(base.at, Ty::Unknown, tree))
         }
         _ => Err(broken(Rule::TypeMismatch, base.at)),
     }
@@ -229,7 +267,8 @@ pub(crate) fn invoked(
         return Ok(made(base.at, Ty::Unknown, Expr::Null));
     };
     let arguments = arguments(alloc, at, &method.parameters, typed)?;
-    let tree = nodes::invoke(alloc, base.tree, method.method, arguments)?;
+    let types = method.parameters.types(alloc)?;
+    let tree = nodes::invoke(alloc, base.tree, method.method, types, arguments)?;
     Ok(made(base.at, method.result, tree))
 }
 
@@ -240,7 +279,7 @@ pub(crate) fn bracketed(at: usize, typed: Typed) -> Typed
     Typed {
         at,
         ty: typed.ty,
-        alone: Alone::Other,
+        form: bracketed_form(typed.form),
         tree: typed.tree,
     }
 }

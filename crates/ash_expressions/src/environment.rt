@@ -8,11 +8,11 @@ ghost use Rattle.ash_typing.specs.Environment as environment;
 ghost use Rattle.ash_expressions.specs.Views.{declared_of, function_of, class_of, environment_of, placed_type, placed_function, placed_class, known_of, callee_of, parameters_of, invoked_of};
 
 use crate::tables::Heads;
-use crate::types::ty_of;
+use crate::types::{result_type, ty_of, var_type};
 use ash_registrations::{Call, Registrations};
 use ash_tree::Primitive;
-use ash_typed::{Expr, Member, Method, ObjectType, Target, Ty, Variable, nodes};
-use ash_typing::Callable;
+use ash_typed::{Expr, Member, Method, ObjectType, Target, Variable, nodes};
+use ash_typing::{Callable, Ty};
 use std::alloc::{AllocError, Global};
 
 /// A variable, a parameter or a field.
@@ -130,7 +130,7 @@ fn field_of(class: usize, of: &Class, name: &str) -> Option<(Member, Ty)>
     let member = Member::Field {
         class,
         place,
-        of: ty,
+        of: var_type(ty),
     };
     Some((member, ty))
 }
@@ -140,7 +140,11 @@ fn local_of(locals: &[Declared], name: &str) -> Option<(Expr, Ty)>
     ensures { option_map known_of result ≡ environment.local_in (map declared_of locals.now) name.now }
 {
     let (slot, of) = last_declared(locals, name)?;
-    Some((Expr::Variable(Variable::Local { slot, of }), of))
+    let local = Variable::Local {
+        slot,
+        of: var_type(of),
+    };
+    Some((Expr::Variable(local), of))
 }
 
 /// A global, with its type.
@@ -148,7 +152,11 @@ fn global_of(heads: &Heads, name: &str) -> Option<(Expr, Ty)>
     ensures { option_map known_of result ≡ environment.global_in (map declared_of heads.now.globals.items) name.now }
 {
     let (place, of) = heads.global(name)?;
-    Some((Expr::Variable(Variable::Global { place, of }), of))
+    let global = Variable::Global {
+        place,
+        of: var_type(of),
+    };
+    Some((Expr::Variable(global), of))
 }
 
 /// A function of the module, as it is called.
@@ -160,7 +168,7 @@ fn function_called<'a>(heads: &'a Heads<'_>, name: &str) -> Option<Callee<'a>>
     Some(Callee {
         target: Callable::Target(Target::Function {
             function: place,
-            result,
+            result: result_type(result),
         }),
         result,
         parameters: Some(Parameters::Script(&function.parameters)),
@@ -189,7 +197,7 @@ fn method_of<'a>(class: usize, of: &'a Class<'_>, name: &str) -> Option<Invoked<
         method: Method::Script {
             class,
             method,
-            result,
+            result: result_type(result),
         },
         result,
         parameters: Parameters::Script(&function.parameters),
@@ -204,7 +212,10 @@ fn host_method(call: &Call) -> Option<Invoked<'_>>
         Call::Method { id, operation, .. } => {
             let result = gives(operation.result);
             Some(Invoked {
-                method: Method::Host { id: *id, result },
+                method: Method::Host {
+                    id: *id,
+                    result: result_type(result),
+                },
                 result,
                 parameters: Parameters::Host(&operation.parameters),
             })
@@ -228,7 +239,7 @@ fn service_function(call: &Call) -> Option<Callee<'_>>
                 target: Callable::Target(Target::Service {
                     service: *service,
                     id: *id,
-                    result,
+                    result: result_type(result),
                 }),
                 result,
                 parameters: Some(Parameters::Host(&operation.parameters)),
@@ -245,7 +256,11 @@ fn property(call: &Call) -> Option<(Member, Ty)>
     match call {
         Call::Property { id, value, .. } => {
             let of = ty_of(*value);
-            Some((Member::Property { id: *id, of }, of))
+            let property = Member::Property {
+                id: *id,
+                of: var_type(of),
+            };
+            Some((property, of))
         }
         _ => None,
     }
@@ -313,7 +328,7 @@ impl<'a, 'n> Environment<'a, 'n> {
             target: Callable::OwnMethod {
                 class,
                 method,
-                result,
+                result: result_type(result),
             },
             result,
             parameters: Some(Parameters::Script(&function.parameters)),

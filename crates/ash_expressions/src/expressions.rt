@@ -15,8 +15,8 @@ use crate::stop::{Checking, broken};
 use crate::typed::{Typed, made, numeral};
 use crate::types::is_assign;
 use ash_tree::{AssignOp, Expr, ExprKind, Link, Primitive, Suffix, UnaryOp};
-use ash_typed::{Expr as TypedExpr, Step, Ty};
-use ash_typing::Rule;
+use ash_typed::{Expr as TypedExpr, Step};
+use ash_typing::{Rule, Ty};
 use std::alloc::Global;
 
 /// An expression; `left` is whether it stands left of `=`. What has parts stands in a function of its own, so that the

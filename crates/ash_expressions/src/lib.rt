@@ -28,4 +28,4 @@ pub use expressions::{all_typed, expression};
 pub use stop::{Checking, Stop, broken};
 pub use tables::Heads;
 pub use typed::{Typed, fitted, integer, truth};
-pub use types::{holds, is_void, ty_of};
+pub use types::{holds, is_void, result_type, ty_of, var_type};

@@ -1,24 +1,24 @@
 //! Operators, conversions and assignments, once their operands are typed.
 
 ghost use Rattle.std.specs.Prelude.{◌≡◌, Ok, IfOk};
-ghost use Rattle.ash_typed.specs.Tree.{Alter, Operate, Lazily, place_in};
+ghost use Rattle.ash_typed.specs.Tree.{Alter, Operate, Lazily};
 ghost use Rattle.ash_typed.specs.Views.{expr_of, place_of};
 ghost use Rattle.ash_typing.specs.Expressions as typing;
 ghost use Rattle.ash_expressions.specs.Gives.{Gives};
 ghost use Rattle.ash_expressions.specs.Views.{typed_of, met_of};
 
 use crate::stop::{Checking, broken};
-use crate::typed::{Typed, adapt, brought, fitted, handle, integer, made, truth};
+use crate::typed::{Typed, adapt, assignable, brought, fitted, handle, integer, made, truth};
 use crate::types::{
-    assumed, binary_of, common, conversion, integers_in, is_stored, is_void, meets, operand_type,
-    operator_of, outcome, signed, sort_of, takes, ty_of, typed_operator,
+    assumed, binary_of, common, conversion, handle_form, integers_in, is_stored, is_void, meets,
+    operand_type, operator_of, outcome, signed, sort_of, takes, ty_of, typed_operator,
 };
 use ash_tree::{AssignOp, BinaryOp, Primitive, UnaryOp};
 use ash_typed::{
     Calculation, Calculator, Change, Expr, Kind, Lazy, Operand, Operands, Operation, Place, Step,
-    Ty, nodes,
+    nodes,
 };
-use ash_typing::{Alone, Operator, Rule, Sort};
+use ash_typing::{Operator, Rule, Sort, Ty};
 use std::alloc::{AllocError, Global};
 
 /// The operands of an operator, and what it takes them for.
@@ -69,9 +69,9 @@ fn met_operands(
     ensures { Gives met_of result (typing.met operator (typed_of left) (typed_of right)) }
 {
     let sort = sort_of(operator);
-    let (alone, of) = (right.alone, right.ty);
-    adapt(sort, left.alone, left.ty, &mut right);
-    adapt(sort, alone, of, &mut left);
+    let (form, of) = (right.form, right.ty);
+    adapt(sort, left.form, left.ty, &mut right);
+    adapt(sort, form, of, &mut left);
     met_by(alloc, sort, left, right)
 }
 
@@ -157,9 +157,9 @@ pub(crate) fn operate(
 /// `++` or `--` at a place.
 #[tactic(auto, unfolding(ash_typing::specs::Expressions::counted))]
 pub(crate) fn counted(alloc: Global, at: usize, step: Step, operand: Typed) -> Checking<Typed>
-    ensures { Gives typed_of result (typing.counted at step (typed_of operand) (place_in (expr_of operand.tree))) }
+    ensures { Gives typed_of result (typing.counted at step (typed_of operand) (typing.assignable operand.form (expr_of operand.tree))) }
 {
-    let Some(place) = nodes::place(alloc, operand.tree)? else {
+    let Some(place) = assignable(alloc, operand.form, operand.tree)? else {
         return Err(broken(Rule::NotAssignable, operand.at));
     };
     let kind = integer(operand.at, operand.ty)?;
@@ -173,25 +173,33 @@ fn altered(alloc: Global, at: usize, kind: Kind, change: Change, operand: Typed)
     Ok(made(at, Ty::Integer(kind), nodes::alter(alloc, change, value)?))
 }
 
+/// The value alone, which can't be assigned.
+fn integer_at(alloc: Global, at: usize, kind: Kind, operand: Typed) -> Checking<Typed>
+    ensures { Gives typed_of result (Ok (typing.integer_at at kind (typed_of operand))) }
+{
+    let value = brought(alloc, Ty::Integer(kind), operand)?;
+    Ok(made(at, Ty::Integer(kind), value))
+}
+
 fn changed(alloc: Global, at: usize, of: Ty, change: Change, operand: Typed) -> Checking<Typed>
     ensures { Gives typed_of result (Ok (typing.made at of (Alter change (expr_of operand.tree)))) }
 {
     Ok(made(at, of, nodes::alter(alloc, change, operand.tree)?))
 }
 
-fn handle_at(alloc: Global, left: bool, at: usize, operand: Typed) -> Checking<Typed>
+fn handle_at(left: bool, at: usize, operand: Typed) -> Checking<Typed>
     ensures { Gives typed_of result (typing.handle_at left at (typed_of operand)) }
 {
     if left {
         return Ok(Typed {
             at,
             ty: operand.ty,
-            alone: Alone::Handle,
+            form: handle_form(operand.form),
             tree: operand.tree,
         });
     }
     let of = handle(operand.at, operand.ty)?;
-    changed(alloc, at, of, Change::Keep, operand)
+    Ok(made(at, of, operand.tree))
 }
 
 /// An operator before its operand; `left` is whether it stands left of `=`.
@@ -208,7 +216,7 @@ pub(crate) fn unary(
     match operator {
         UnaryOp::Plus => {
             let kind = integer(operand.at, operand.ty)?;
-            altered(alloc, at, kind, Change::Keep, operand)
+            integer_at(alloc, at, kind, operand)
         }
         UnaryOp::Minus => {
             let kind = signed(integer(operand.at, operand.ty)?);
@@ -224,7 +232,7 @@ pub(crate) fn unary(
         }
         UnaryOp::Increment => counted(alloc, at, Step::Increment, operand),
         UnaryOp::Decrement => counted(alloc, at, Step::Decrement, operand),
-        UnaryOp::Handle => handle_at(alloc, left, at, operand),
+        UnaryOp::Handle => handle_at(left, at, operand),
     }
 }
 
@@ -236,11 +244,11 @@ pub(crate) fn converted(alloc: Global, at: usize, to: Primitive, value: Typed) -
     match ty_of(to) {
         Ty::Integer(kind) => {
             integer(value.at, value.ty)?;
-            altered(alloc, at, kind, Change::Keep, value)
+            integer_at(alloc, at, kind, value)
         }
         _ => {
             truth(value.at, value.ty)?;
-            changed(alloc, at, Ty::Bool, Change::Keep, value)
+            Ok(made(at, Ty::Bool, value.tree))
         }
     }
 }
@@ -322,11 +330,11 @@ pub(crate) fn assigned(
 ) -> Checking<Typed>
     ensures { Gives typed_of result (typing.assigned (typed_of target) operator (typed_of value)) }
 {
-    let (at, of, alone) = (target.at, target.ty, target.alone);
-    let Some(place) = nodes::place(alloc, target.tree)? else {
+    let (at, of, form) = (target.at, target.ty, target.form);
+    let Some(place) = assignable(alloc, form, target.tree)? else {
         return Err(broken(Rule::NotAssignable, at));
     };
-    if !is_stored(alone, of) {
+    if !is_stored(form, of) {
         return Err(broken(Rule::NotAssignable, at));
     }
     stored(alloc, at, of, place, operator_of(operator), value)

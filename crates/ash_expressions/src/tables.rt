@@ -5,7 +5,7 @@ ghost use Rattle.ash_expressions.specs.Places.{ArePlaces};
 
 use crate::environment::{Class, Declared, Function};
 use crate::places::{Places, at, class_names, function_names, places_of, variable_names};
-use ash_typed::Ty;
+use ash_typing::Ty;
 use std::alloc::{AllocError, Global};
 
 /// What a module declares, with the places of its names.

@@ -1,16 +1,16 @@
 //! Typed expressions, while they are put together.
 
-ghost use Rattle.std.specs.Prelude.{◌≡◌, IfOk};
+ghost use Rattle.std.specs.Prelude.{◌≡◌, option_map, IfOk};
 ghost use Rattle.ash_typed.specs.Tree.{converted};
-ghost use Rattle.ash_typed.specs.Views.{expr_of};
+ghost use Rattle.ash_typed.specs.Views.{expr_of, place_of};
 ghost use Rattle.ash_typing.specs.Expressions as typing;
 ghost use Rattle.ash_expressions.specs.Gives.{Gives};
 ghost use Rattle.ash_expressions.specs.Views.{typed_of};
 
 use crate::stop::{Checking, broken};
 use crate::types::{conversion, fits, holds, kind_of};
-use ash_typed::{Expr, Kind, Ty, nodes};
-use ash_typing::{Alone, Rule, Sort};
+use ash_typed::{Expr, Kind, Place, nodes};
+use ash_typing::{Form, Rule, Sort, Ty};
 use std::alloc::{AllocError, Global};
 
 /// A typed expression, with the offset of its first token and what it is by itself.
@@ -18,19 +18,41 @@ use std::alloc::{AllocError, Global};
 pub struct Typed {
     pub at: usize,
     pub ty: Ty,
-    pub alone: Alone,
+    pub form: Form,
     pub tree: Expr,
 }
 
-/// An expression that is neither a number nor `@e`.
+/// An expression that is neither a number nor a place.
 pub(crate) fn made(at: usize, ty: Ty, tree: Expr) -> Typed
     ensures { typed_of result ≡ typing.made at ty (expr_of tree) }
 {
     Typed {
         at,
         ty,
-        alone: Alone::Other,
+        form: Form::Value,
         tree,
+    }
+}
+
+/// What can be assigned: the tree reads the place.
+pub(crate) fn read(at: usize, ty: Ty, tree: Expr) -> Typed
+    ensures { typed_of result ≡ typing.read_at at ty (expr_of tree) }
+{
+    Typed {
+        at,
+        ty,
+        form: Form::Place,
+        tree,
+    }
+}
+
+/// The place that can be assigned, where an expression of this form is one.
+pub(crate) fn assignable(alloc: Global, form: Form, tree: Expr) -> Result<Option<Place>, AllocError>
+    ensures { IfOk result (λ found. option_map place_of found ≡ typing.assignable form (expr_of tree)) }
+{
+    match form {
+        Form::Place | Form::HandlePlace => nodes::place(alloc, tree),
+        Form::Number(_) | Form::Value => Ok(None),
     }
 }
 
@@ -42,7 +64,7 @@ pub(crate) fn numeral(at: usize, number: u64) -> Typed
     Typed {
         at,
         ty: Ty::Integer(kind),
-        alone: Alone::Number(number),
+        form: Form::Number(number),
         tree: Expr::Number {
             kind,
             value: number,
@@ -101,12 +123,12 @@ pub(crate) fn handle(at: usize, of: Ty) -> Checking<Ty>
 }
 
 /// A number takes the type of the other operand where that is an integer type that holds it.
-fn adapt_to(other: Alone, of: Ty, typed: &mut Typed)
-    ensures { typed_of typed.new ≡ typing.adapted_to other of typed.old.alone (typed_of typed.old) }
+fn adapt_to(other: Form, of: Ty, typed: &mut Typed)
+    ensures { typed_of typed.new ≡ typing.adapted_to other of typed.old.form (typed_of typed.old) }
 {
-    match (other, of, typed.alone) {
-        (Alone::Number(_), _, Alone::Number(_)) => {}
-        (_, Ty::Integer(kind), Alone::Number(number)) if holds(kind, number) => {
+    match (other, of, typed.form) {
+        (Form::Number(_), _, Form::Number(_)) => {}
+        (_, Ty::Integer(kind), Form::Number(number)) if holds(kind, number) => {
             typed.ty = Ty::Integer(kind);
             typed.tree = Expr::Number {
                 kind,
@@ -119,7 +141,7 @@ fn adapt_to(other: Alone, of: Ty, typed: &mut Typed)
 
 /// An operand beside another, whose type and form are given.
 #[tactic(auto, unfolding(ash_typing::specs::Expressions::adapted))]
-pub(crate) fn adapt(sort: Sort, other: Alone, of: Ty, typed: &mut Typed)
+pub(crate) fn adapt(sort: Sort, other: Form, of: Ty, typed: &mut Typed)
     ensures { typed_of typed.new ≡ typing.adapted sort other of (typed_of typed.old) }
 {
     match sort {

@@ -5,8 +5,8 @@ ghost use Rattle.ash_typing.specs.Types as types;
 ghost use Rattle.ash_typing.specs.Expressions as typing;
 
 use ash_tree::{AssignOp, BinaryOp, Primitive};
-use ash_typed::{Calculator, Comparator, Conversion, Kind, Lazy, ObjectType, Operands, Ty};
-use ash_typing::{Alone, Operator, Sort};
+use ash_typed::{Calculator, Comparator, Conversion, Kind, Lazy, ObjectType, Operands, VarType};
+use ash_typing::{Form, Operator, Sort, Ty};
 
 pub(crate) fn is_signed(kind: Kind) -> bool
     ensures { result ≡ types.is_signed kind }
@@ -106,6 +106,28 @@ pub fn ty_of(primitive: Primitive) -> Ty
         Primitive::Int64 => Ty::Integer(Kind::Int64),
         Primitive::Uint => Ty::Integer(Kind::Uint),
         Primitive::Uint64 => Ty::Integer(Kind::Uint64),
+    }
+}
+
+/// The type of a variable, as a typed tree says it.
+pub fn var_type(of: Ty) -> VarType
+    ensures { result ≡ types.var_type of }
+{
+    match of {
+        Ty::Bool | Ty::Null | Ty::Void | Ty::Unknown => VarType::Bool,
+        Ty::Integer(kind) => VarType::Integer(kind),
+        Ty::Object(object) => VarType::Object(object),
+        Ty::Handle(object) => VarType::Handle(object),
+    }
+}
+
+/// What a function gives, as a typed tree says it: `void` gives no value.
+pub fn result_type(of: Ty) -> Option<VarType>
+    ensures { result ≡ types.result_type of }
+{
+    match of {
+        Ty::Void => None,
+        _ => Some(var_type(of)),
     }
 }
 
@@ -353,14 +375,33 @@ pub(crate) fn conversion(to: Ty, of: Ty) -> Option<Conversion>
 }
 
 /// Whether a place takes what is assigned to it.
-pub(crate) fn is_stored(alone: Alone, of: Ty) -> bool
-    ensures { result ≡ typing.is_stored alone of }
+pub(crate) fn is_stored(form: Form, of: Ty) -> bool
+    ensures { result ≡ typing.is_stored form of }
 {
-    match (alone, of) {
-        (Alone::Handle, Ty::Handle(_) | Ty::Unknown) => true,
-        (Alone::Handle, _) => false,
-        (_, Ty::Bool | Ty::Integer(_) | Ty::Unknown) => true,
+    match (form, of) {
+        (Form::HandlePlace, Ty::Handle(_) | Ty::Unknown) => true,
+        (Form::Place, Ty::Bool | Ty::Integer(_) | Ty::Unknown) => true,
         _ => false,
+    }
+}
+
+/// What is written to left of `=`: a place with its sign `@`.
+pub(crate) fn handle_form(form: Form) -> Form
+    ensures { result ≡ typing.handle_form form }
+{
+    match form {
+        Form::Place => Form::HandlePlace,
+        _ => Form::Value,
+    }
+}
+
+/// What an expression in brackets is: a place still is one, and a number is a value.
+pub(crate) fn bracketed_form(form: Form) -> Form
+    ensures { result ≡ typing.bracketed form }
+{
+    match form {
+        Form::Place => Form::Place,
+        _ => Form::Value,
     }
 }
 

@@ -5,7 +5,7 @@ use Rattle.std.specs.Str.{bytes_eq}
 use Rattle.ash_registry.specs.Calls.{Call, takes_name}
 use Rattle.ash_tree.specs.Tree as written
 use Rattle.ash_typing.specs.declared.fault.Rule.{Rule}
-use Rattle.ash_typed.specs.declared.types.Ty.{Ty}
+use Rattle.ash_typing.specs.declared.types.Ty.{Ty}
 use Rattle.ash_typing.specs.Checking.{Checking, ◌>>=◌, broken}
 use Rattle.ash_typing.specs.Declarations.{Initialization, decl_typed}
 use Rattle.ash_typing.specs.Environment.{Environment}

@@ -8,6 +8,7 @@ use Rattle.ash_typed.specs.declared.tree.expressions.Expr.TheViews as views
 use Rattle.ash_typed.specs.declared.tree.expressions.Expr.{Row_of-Expr, end_of-Expr, more_of-Expr, items-the_row-Expr, Row_of-Link, end_of-Link, more_of-Link, items-the_row-Link, Row_of-Operand, end_of-Operand, more_of-Operand, items-the_row-Operand}
 use Rattle.ash_typed.specs.declared.tree.expressions.Link as link
 use Rattle.ash_typed.specs.declared.tree.expressions.Operand as operand
+use Rattle.ash_typed.specs.declared.types.VarType.{VarType}
 use Rattle.ash_typed.specs.declared.tree.operations.Lazy.{Lazy}
 use Rattle.ash_typed.specs.declared.tree.operations.Target.{Target}
 use Rattle.ash_typed.specs.declared.tree.operations.Method.{Method}
@@ -30,11 +31,11 @@ pub lazies_by-row : {n : _} (op : Lazy) (e : Expr) (row : Row_of-Expr n) → laz
 lazies_by-row op e end_of-Expr = refl
 lazies_by-row op e (more_of-Expr x rest) = lazies_by-row op (Lazily op e (expr_of x)) rest
 
-pub call_is : (target : Target) (es : Vec code.Expr Global) → expr_of (views.Call target es) ≡ Call target (exprs (map expr_of es.items))
-call_is target es = search (rules, views.the_lemmas, exprs_of-row)
+pub call_is : (target : Target) (ps : Vec VarType Global) (es : Vec code.Expr Global) → expr_of (views.Call target ps es) ≡ Call target ps.items (exprs (map expr_of es.items))
+call_is target ps es = search (rules, views.the_lemmas, exprs_of-row)
 
-pub invoke_is : (e : Expr) (method : Method) (es : Vec code.Expr Global) → linked e (views.Invoke method es) ≡ Invoke e method (exprs (map expr_of es.items))
-invoke_is e method es = search (rules, views.the_lemmas, exprs_of-row)
+pub invoke_is : (e : Expr) (method : Method) (ps : Vec VarType Global) (es : Vec code.Expr Global) → linked e (views.Invoke method ps es) ≡ Invoke e method ps.items (exprs (map expr_of es.items))
+invoke_is e method ps es = search (rules, views.the_lemmas, exprs_of-row)
 
 pub path_is : (base : Box code.Expr Global) (ls : Vec link.Link Global) → expr_of (views.Path base ls) ≡ all_linked (expr_of base.value) ls.items
 path_is base ls = search (rules, views.the_lemmas, linked_by-row)

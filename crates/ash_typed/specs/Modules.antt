@@ -4,7 +4,7 @@ use Rattle.ash_typed.specs.declared.tree.items.Variables as variables
 use Rattle.ash_typed.specs.declared.tree.items.Function as function
 use Rattle.ash_typed.specs.declared.tree.items.Class as class
 use Rattle.ash_typed.specs.declared.tree.items.Module as script
-use Rattle.ash_typed.specs.declared.types.Ty.{Ty}
+use Rattle.ash_typed.specs.declared.types.VarType.{VarType}
 use Rattle.ash_typed.specs.StatementTree.{Initialization, Body}
 use Rattle.ash_typed.specs.BodyViews.{body_of, value_of}
 
@@ -13,12 +13,12 @@ pub record Variables : Type 0 where
   pub line : ℕ
   pub values : List Initialization
 
--- a function, with the line of its name
+-- a function, with the line of its name and what it gives, where it gives a value
 pub record Function : Type 0 where
   pub name : List ℕ
   pub line : ℕ
-  pub result : Ty
-  pub parameters : List Ty
+  pub result : Option VarType
+  pub parameters : List VarType
   pub body : Body
 
 -- a class, with the line of its name

@@ -2,7 +2,7 @@
 use Rattle.std.specs.Prelude.{ℕ, List, [], ◌∷◌, Option}
 use Rattle.ash_tree.specs.declared.tree.statements.Label.{Label}
 use Rattle.ash_typed.specs.declared.types.Kind.{Kind}
-use Rattle.ash_typed.specs.declared.types.Ty.{Ty}
+use Rattle.ash_typed.specs.declared.types.VarType.{VarType}
 use Rattle.ash_typed.specs.declared.tree.statements.Test.{Test}
 use Rattle.ash_typed.specs.Tree.{Expr}
 
@@ -10,7 +10,7 @@ use Rattle.ash_typed.specs.Tree.{Expr}
 -- or null
 pub record Initialization : Type 0 where
   pub name : List ℕ
-  pub of : Ty
+  pub of : VarType
   pub value : Option Expr
 
 -- the head of a `for`: nothing, variables, or an expression

@@ -2,6 +2,7 @@
 -- applied to what stands before it.
 use Rattle.std.specs.Prelude.{ℕ, List, [], ◌∷◌, Bool, Option, Some, None}
 use Rattle.ash_typed.specs.declared.types.Kind.{Kind}
+use Rattle.ash_typed.specs.declared.types.VarType.{VarType}
 use Rattle.ash_typed.specs.declared.tree.operations.Variable.{Variable}
 use Rattle.ash_typed.specs.declared.tree.operations.Member.{Member}
 use Rattle.ash_typed.specs.declared.tree.operations.Method.{Method}
@@ -20,7 +21,8 @@ mutual
     Null : Expr
     This : ℕ → Expr
     Read : Place → Expr
-    Invoke : Expr → Method → Exprs → Expr
+    -- a method and a call say the types of their arguments, in order
+    Invoke : Expr → Method → List VarType → Exprs → Expr
     Convert : Conversion → Expr → Expr
     Alter : Change → Expr → Expr
     Operate : Operation → Expr → Expr → Expr
@@ -29,7 +31,7 @@ mutual
     Assign : Place → Expr → Expr
     Update : Place → Kind → Calculation → Expr → Expr
     Count : Place → Kind → Step → Expr
-    Call : Target → Exprs → Expr
+    Call : Target → List VarType → Exprs → Expr
 
   -- what can be written to
   pub data Place : Type 0 where

@@ -26,7 +26,7 @@ abbrev mutual
   expr_of (variants.Assign' p a value) = Assign (place_of p) (expr_of value)
   expr_of (variants.Update' p of calculation a value) = Update (place_of p) of calculation (expr_of value)
   expr_of (variants.Step p of step) = Count (place_of p) of step
-  expr_of (variants.Call' target shape row) = Call target (exprs_of row)
+  expr_of (variants.Call' target parameters shape row) = Call target parameters.items (exprs_of row)
 
   pub place_of : place.Place → Place
   place_of (places.Variable v) = Stored v
@@ -38,7 +38,7 @@ abbrev mutual
 
   pub linked : Expr → link.Link → Expr
   linked e (links.Member member) = Read (Held e member)
-  linked e (links.Invoke' method shape row) = Invoke e method (exprs_of row)
+  linked e (links.Invoke' method parameters shape row) = Invoke e method parameters.items (exprs_of row)
 
   pub chained_by : {n : _} → Expr → code.Row_of-Operand n → Expr
   chained_by e code.end_of-Operand = e

@@ -21,4 +21,4 @@ pub use tree::operations::{
     Operation, Step, Target, Variable,
 };
 pub use tree::statements::{Case, Head, Initialization, Loop, Stmt, StmtKind, Test};
-pub use types::{Kind, ObjectType, Ty};
+pub use types::{Kind, ObjectType, VarType};

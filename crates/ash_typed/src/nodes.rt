@@ -12,15 +12,19 @@ use crate::tree::operations::{
     Calculation, Change, Conversion, Lazy, Member, Method, Step, Target,
 };
 use crate::tree::statements::{Case, Head, Loop, Stmt, StmtKind, Test};
-use crate::types::Kind;
+use crate::types::{Kind, VarType};
 use ash_tree::Label;
 use std::alloc::{AllocError, Global};
 
 #[tactic(auto, using(crate::proofs::Rows::call_is))]
-pub fn call(target: Target, arguments: Vec<Expr>) -> Expr
-    ensures { expr_of result ≡ Call target (exprs (map expr_of arguments.items)) }
+pub fn call(target: Target, parameters: Vec<VarType>, arguments: Vec<Expr>) -> Expr
+    ensures { expr_of result ≡ Call target parameters.items (exprs (map expr_of arguments.items)) }
 {
-    Expr::Call { target, arguments }
+    Expr::Call {
+        target,
+        parameters,
+        arguments,
+    }
 }
 
 /// What a link makes of an expression. A path takes it as one link more, so that it nests no deeper.
@@ -59,13 +63,19 @@ pub fn invoke(
     alloc: Global,
     object: Expr,
     method: Method,
+    parameters: Vec<VarType>,
     arguments: Vec<Expr>,
 ) -> Result<Expr, AllocError>
-    ensures value { IfOk result (λ e. expr_of e ≡ Invoke (expr_of object) method (exprs (map expr_of arguments.items))) }
+    ensures value { IfOk result (λ e. expr_of e ≡ Invoke (expr_of object) method parameters.items (exprs (map expr_of arguments.items))) }
     ensures same_base { IfOk result (λ e. base_of e ≡ base_of object) }
-    ensures one_path { IfOk result (λ e. links_of e ≡ links_of object ++ Link.Invoke method arguments ∷ []) }
+    ensures one_path { IfOk result (λ e. links_of e ≡ links_of object ++ Link.Invoke method parameters arguments ∷ []) }
 {
-    link(alloc, object, Link::Invoke { method, arguments })
+    let next = Link::Invoke {
+        method,
+        parameters,
+        arguments,
+    };
+    link(alloc, object, next)
 }
 
 /// What an operator makes of an expression. A chain takes it as one operator more, so that it nests no deeper.

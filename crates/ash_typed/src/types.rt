@@ -1,4 +1,4 @@
-//! Types of variables and of expressions (AngelScript manual, "Data types").
+//! Types of variables (AngelScript manual, "Data types").
 
 /// An integer type.
 #[derive(Clone, Copy, Debug, PartialEq, Eq)]
@@ -22,19 +22,13 @@ pub enum ObjectType {
     Host(u16),
 }
 
-/// The type of a variable or of an expression.
+/// The type of a variable, a parameter or a field, and of what a function gives.
 #[derive(Clone, Copy, Debug, PartialEq, Eq)]
-pub enum Ty {
+pub enum VarType {
     Bool,
     Integer(Kind),
     /// An object that the variable stands for: `T x`.
     Object(ObjectType),
-    /// A handle of an object: `T@ x`, and each expression that gives an object and is no variable.
+    /// A handle of an object: `T@ x`.
     Handle(ObjectType),
-    /// `null`
-    Null,
-    /// What a function without a result gives.
-    Void,
-    /// A type that is declared and not known. A fault is told at its declaration, and none before it for its sake.
-    Unknown,
 }

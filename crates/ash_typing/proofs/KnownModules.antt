@@ -7,19 +7,20 @@ use Rattle.ash_registrations.specs.Calls as host
 use Rattle.ash_tree.specs.Tree as written
 use Rattle.ash_typed.specs.declared.types.ObjectType.{ObjectType}
 use Rattle.ash_typed.specs.declared.types.ObjectType.TheVariants.{Class as OfClass}
-use Rattle.ash_typed.specs.declared.types.Ty.{Ty}
-use Rattle.ash_typed.specs.declared.types.Ty.TheVariants as ty
+use Rattle.ash_typing.specs.declared.types.Ty.{Ty}
+use Rattle.ash_typing.specs.declared.types.Ty.TheVariants as ty
 use Rattle.ash_typing.specs.Environment.{Environment, Class, first_from, is_class}
 use Rattle.ash_typing.specs.Heads.{object_named, object_ty, handle_ty, ty_named, result_named, variables, parameter_ty, function_head, fields_in, methods_in, construction_in, named_classes, classes_in, functions_in, globals_in, heads}
 use Rattle.ash_typing.specs.Declarations.{Initialization, ty_in, at_type, known_ty}
-use Rattle.ash_typing.specs.Typing.{IsKnown, IsKnownType, IsKnownVariable, IsKnownFunction, IsKnownClass}
+use Rattle.ash_typing.specs.Typing.{IsKnown, IsKnownType, IsVariableType, IsResultType, IsKnownVariable, IsKnownFunction, IsKnownClass}
 use Rattle.ash_typed.specs.Modules as modules
 use Rattle.ash_typing.specs.Items.{Names, Row, vars_typed, result_typed, parameters_typed, Routine, routine_of, constructing, routine_typed, placed, untaken, Members, constructor_named, member_typed, members_typed, no_members, inside, class_typed, one_more_class, Walked, item_typed, items_typed}
 use Rattle.ash_typing.specs.TypedModules.{classes_of, functions_of, globals_of, fields_of, methods_of, constructors_of, IsPassedParameter, IsResult, AreVariables, AreFields, IsRoutine, IsFunction, HasConstructor, IsClass, AreClasses, environment}
 use Rattle.ash_typing.proofs.Bindings.{bind_ok}
 use Rattle.ash_typing.proofs.TakenNames.{all_append}
 use Rattle.ash_typing.proofs.StatementsSound.{decls_known}
-use Rattle.ash_typing.proofs.TypedVariables.{known_sound}
+use Rattle.ash_typing.proofs.TypingKnown.{variable_is_result}
+use Rattle.ash_typing.proofs.TypedVariables.{known_sound, named_variable}
 use Rattle.ash_typing.proofs.TypedRoutines.{passed_known, parameters_sound, result_sound}
 use Rattle.ash_typing.proofs.TypedClasses.{named_sound}
 
@@ -170,20 +171,20 @@ rules_known env is m cs fs vs = (rule_classes env 0 (classes_of is) m.classes cs
 
 -- what the items of a module see
 
-types_known : (calls : List host.Call) (cs : List Class) (ps : List written.Parameter) → AllByRecursion (KnownParameter (ty_named calls cs)) ps → AllByRecursion IsKnownType (map (parameter_ty calls cs) ps)
+types_known : (calls : List host.Call) (cs : List Class) (ps : List written.Parameter) → AllByRecursion (KnownParameter (ty_named calls cs)) ps → AllByRecursion IsVariableType (map (parameter_ty calls cs) ps)
 types_known calls cs [] h = tt
-types_known calls cs (p ∷ ps) h = (h.0, types_known calls cs ps h.1)
+types_known calls cs (p ∷ ps) h = (named_variable calls cs p.of h.0, types_known calls cs ps h.1)
 
-result_known : (calls : List host.Call) (cs : List Class) (of : Option written.Named) → KnownResult (ty_named calls cs) of → IsKnownType (result_named calls cs of)
+result_known : (calls : List host.Call) (cs : List Class) (of : Option written.Named) → KnownResult (ty_named calls cs) of → IsResultType (result_named calls cs of)
 result_known calls cs None h = refl
-result_known calls cs (Some of) h = h
+result_known calls cs (Some of) h = variable_is_result (ty_named calls cs of) (named_variable calls cs of h)
 
 head_known : (calls : List host.Call) (cs : List Class) (f : written.Function) → KnownFunction (ty_named calls cs) f → IsKnownFunction (function_head calls cs f)
 head_known calls cs f h = record { result = result_known calls cs f.result h.0; parameters = types_known calls cs f.parameters h.1 }
 
 fields_known : (calls : List host.Call) (cs : List Class) (ms : List written.Member) → AllByRecursion (KnownVars (ty_named calls cs)) (fields_of ms) → AllByRecursion IsKnownVariable (fields_in calls cs ms)
 fields_known calls cs [] h = tt
-fields_known calls cs (written.AField v ∷ ms) h = all_append IsKnownVariable (variables calls cs v) (fields_in calls cs ms) (decls_known (ty_named calls cs v.of) v.decls h.0) (fields_known calls cs ms h.1)
+fields_known calls cs (written.AField v ∷ ms) h = all_append IsKnownVariable (variables calls cs v) (fields_in calls cs ms) (decls_known (ty_named calls cs v.of) v.decls (named_variable calls cs v.of h.0)) (fields_known calls cs ms h.1)
 fields_known calls cs (written.AMethod f ∷ ms) h = fields_known calls cs ms h
 fields_known calls cs (written.AConstructor c ∷ ms) h = fields_known calls cs ms h
 
@@ -193,7 +194,7 @@ methods_known calls cs (written.AMethod f ∷ ms) h = (head_known calls cs f h.0
 methods_known calls cs (written.AField v ∷ ms) h = methods_known calls cs ms h
 methods_known calls cs (written.AConstructor c ∷ ms) h = methods_known calls cs ms h
 
-construction_known : (calls : List host.Call) (cs : List Class) (ms : List written.Member) → AllByRecursion (KnownConstructor (ty_named calls cs)) (constructors_of ms) → AllByRecursion IsKnownType (construction_in calls cs ms)
+construction_known : (calls : List host.Call) (cs : List Class) (ms : List written.Member) → AllByRecursion (KnownConstructor (ty_named calls cs)) (constructors_of ms) → AllByRecursion IsVariableType (construction_in calls cs ms)
 construction_known calls cs [] h = tt
 construction_known calls cs (written.AConstructor c ∷ ms) h = types_known calls cs c.parameters h.0
 construction_known calls cs (written.AMethod f ∷ ms) h = construction_known calls cs ms h
@@ -215,7 +216,7 @@ functions_known calls cs (written.AGlobal v ∷ is) h = functions_known calls cs
 
 globals_known : (calls : List host.Call) (cs : List Class) (is : List written.Item) → AllByRecursion (KnownVars (ty_named calls cs)) (globals_of is) → AllByRecursion IsKnownVariable (globals_in calls cs is)
 globals_known calls cs [] h = tt
-globals_known calls cs (written.AGlobal v ∷ is) h = all_append IsKnownVariable (variables calls cs v) (globals_in calls cs is) (decls_known (ty_named calls cs v.of) v.decls h.0) (globals_known calls cs is h.1)
+globals_known calls cs (written.AGlobal v ∷ is) h = all_append IsKnownVariable (variables calls cs v) (globals_in calls cs is) (decls_known (ty_named calls cs v.of) v.decls (named_variable calls cs v.of h.0)) (globals_known calls cs is h.1)
 globals_known calls cs (written.AClass c ∷ is) h = globals_known calls cs is h
 globals_known calls cs (written.AnInterface i ∷ is) h = globals_known calls cs is h
 globals_known calls cs (written.AFunction f ∷ is) h = globals_known calls cs is h

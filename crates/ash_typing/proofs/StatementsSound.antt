@@ -6,8 +6,8 @@ use Rattle.ash_tree.specs.declared.tree.statements.Label.TheVariants as labels
 use Rattle.ash_tree.specs.declared.tree.places.Place.{Place}
 use Rattle.ash_tree.specs.Tree as written
 use Rattle.ash_typed.specs.declared.types.Kind.{Kind}
-use Rattle.ash_typed.specs.declared.types.Ty.{Ty}
-use Rattle.ash_typed.specs.declared.types.Ty.TheVariants as ty
+use Rattle.ash_typing.specs.declared.types.Ty.{Ty}
+use Rattle.ash_typing.specs.declared.types.Ty.TheVariants as ty
 use Rattle.ash_typing.specs.Types.{fits}
 use Rattle.ash_typing.specs.Checking.{Checking}
 use Rattle.ash_typed.specs.declared.tree.statements.Test.TheVariants.{First, Last}
@@ -17,14 +17,14 @@ use Rattle.ash_typing.specs.Environment.{Environment, Declared}
 use Rattle.ash_typing.specs.Expressions.{Typed, typed, all_typed, integer_of, bool_of, is_void}
 use Rattle.ash_typing.specs.Heads.{declared}
 use Rattle.ash_typing.specs.Declarations.{ty_in, at_type, known_ty, decl_typed}
-use Rattle.ash_typing.specs.Typing.{converted_to, term_of, AllHaveType, IsKnown, IsKnownType, IsKnownVariable}
+use Rattle.ash_typing.specs.Typing.{converted_to, term_of, AllHaveType, IsKnown, IsKnownType, IsVariableType, IsKnownVariable}
 use Rattle.ash_typing.specs.Returning.{is_default}
 use Rattle.ash_typing.specs.Switches.{kind_in, is_within, holds_label, is_same_constant, constant_typed, label_typed}
 use Rattle.ash_typing.specs.Statements.{Scope, behind, block_of, loop_of, switch_of, with_variables, is_taken, fresh, decls_typed, vars_typed, condition_is, if_typed, if_else_typed, while_typed, do_while_typed, maybe_typed, maybe_condition_is, tree_of, head_typed, for_typed, break_typed, continue_typed, gives_nothing, returned, return_typed, is_last, stmt_typed, stmts_typed, cases_typed}
 use Rattle.ash_typing.specs.TypedStatements.{IsKnownScope, AreDeclared, none_declared, and_declared, IsCondition, condition, MayBeCondition, endless, until, IsHead, heads_nothing, heads_variables, heads_expression, IsLabel, constant, otherwise, IsStmt, empty, declare, evaluate, block, if_only, if_else, while_loop, do_loop, for_loop, switch, break_out, continue_on, return_nothing, return_value, AreStmts, no_more_stmts, more_stmts, AreCases, no_more_cases, more_cases}
 use Rattle.ash_typing.proofs.Bindings.{no_err, ok_is, bind_ok, if_ok}
 use Rattle.ash_typing.proofs.TakenNames.{all_append}
-use Rattle.ash_typing.proofs.TypedVariables.{known_sound}
+use Rattle.ash_typing.proofs.TypedVariables.{known_sound, named_variable}
 use Rattle.ash_typing.proofs.TypingKnown.{known_type}
 use Rattle.ash_typing.proofs.TypingComplete.{terms}
 use Rattle.ash_typing.proofs.TypingSound.{sound, all_sound, fitted_ok}
@@ -33,7 +33,7 @@ use Rattle.ash_typing.proofs.StatementsComplete.{trees_of}
 
 -- scopes whose types are known
 
-pub decls_known : (of : Ty) (ds : List written.Decl) → IsKnownType of → AllByRecursion IsKnownVariable (map (declared of) ds)
+pub decls_known : (of : Ty) (ds : List written.Decl) → IsVariableType of → AllByRecursion IsKnownVariable (map (declared of) ds)
 decls_known of [] h = tt
 decls_known of (d ∷ ds) h = (h, decls_known of ds h)
 
@@ -57,7 +57,7 @@ unfolding vars_typed
 behind_known scope (written.Declare p v) t k h =
     let v_is = bind_ok (vars_typed scope v) _ t h in
     let known = bind_ok (known_ty (at_type v.of) (ty_in scope.env v.of)) _ v_is.0 v_is.1 in
-    more_known scope (map (declared (ty_in scope.env v.of)) v.decls) k (decls_known (ty_in scope.env v.of) v.decls (known_sound (at_type v.of) (ty_in scope.env v.of) known.0 known.1).0)
+    more_known scope (map (declared (ty_in scope.env v.of)) v.decls) k (decls_known (ty_in scope.env v.of) v.decls (named_variable scope.env.registered scope.env.heads.classes v.of (known_sound (at_type v.of) (ty_in scope.env v.of) known.0 known.1).0))
 behind_known scope _ t k h = k
 
 head_known : (scope : Scope) (f : written.Stmt) (g : Head) → IsKnownScope scope → head_typed scope f ≡ Ok g → IsKnownScope (behind scope f)
@@ -65,7 +65,7 @@ unfolding head_typed vars_typed
 head_known scope (written.Declare p v) g k h =
     let v_is = bind_ok (vars_typed scope v) _ g h in
     let known = bind_ok (known_ty (at_type v.of) (ty_in scope.env v.of)) _ v_is.0 v_is.1 in
-    more_known scope (map (declared (ty_in scope.env v.of)) v.decls) k (decls_known (ty_in scope.env v.of) v.decls (known_sound (at_type v.of) (ty_in scope.env v.of) known.0 known.1).0)
+    more_known scope (map (declared (ty_in scope.env v.of)) v.decls) k (decls_known (ty_in scope.env v.of) v.decls (named_variable scope.env.registered scope.env.heads.classes v.of (known_sound (at_type v.of) (ty_in scope.env v.of) known.0 known.1).0))
 head_known scope _ g k h = k
 
 -- variables
@@ -74,7 +74,7 @@ fresh_sound : (scope : Scope) (of : Ty) (d : written.Decl) (v : Declared) → fr
 unfolding fresh
 fresh_sound scope of d v h = if_ok (is_taken scope d.name) _ _ (Ok v) h (λ b e. absurd (no_err _ v e)) (λ b e. (b, sym (ok_is _ v e)))
 
-decls_sound : (scope : Scope) → IsKnownScope scope → (at : ℕ) (of : Ty) → IsKnownType of → (ds : List written.Decl) (values : List Initialization) → decls_typed scope at of ds ≡ Ok values → AreDeclared scope of ds values
+decls_sound : (scope : Scope) → IsKnownScope scope → (at : ℕ) (of : Ty) → IsVariableType of → (ds : List written.Decl) (values : List Initialization) → decls_typed scope at of ds ≡ Ok values → AreDeclared scope of ds values
 decls_sound scope k at of known [] values h = subst (AreDeclared scope of []) (ok_is [] values h) none_declared
 decls_sound scope k at of known (d ∷ ds) values h =
     let f = bind_ok (fresh scope of d) _ values h in
@@ -90,7 +90,7 @@ unfolding vars_typed
 vars_declared scope k v values h =
     let o = bind_ok (known_ty (at_type v.of) (ty_in scope.env v.of)) _ values h in
     let s = known_sound (at_type v.of) (ty_in scope.env v.of) o.0 o.1 in
-    (s.0, decls_sound scope k (at_type v.of) (ty_in scope.env v.of) s.0 v.decls values (subst (λ (of : Ty). decls_typed scope (at_type v.of) of v.decls ≡ Ok values) s.1 o.2))
+    (s.0, decls_sound scope k (at_type v.of) (ty_in scope.env v.of) (named_variable scope.env.registered scope.env.heads.classes v.of s.0) v.decls values (subst (λ (of : Ty). decls_typed scope (at_type v.of) of v.decls ≡ Ok values) s.1 o.2))
 
 vars_sound : (scope : Scope) → IsKnownScope scope → (p : Place) (v : written.Vars) (values : List Initialization) → vars_typed scope v ≡ Ok values → IsStmt scope (written.Declare p v) (Declare p.line values)
 vars_sound scope k p v values h =

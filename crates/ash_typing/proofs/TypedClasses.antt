@@ -5,7 +5,7 @@ use Rattle.std.specs.List.{AllByRecursion, AllZip, IsDistinct}
 use Rattle.std.proofs.lemmas.List.{append_assoc, append-nil, length-append, length-map}
 use Rattle.std.proofs.lemmas.Slice.Eq.{bytes_eq-Decides}
 use Rattle.ash_tree.specs.Tree as written
-use Rattle.ash_typed.specs.declared.types.Ty.TheVariants as ty
+use Rattle.ash_typing.specs.declared.types.Ty.TheVariants as ty
 use Rattle.ash_typing.specs.Environment.{Environment}
 use Rattle.ash_typing.specs.Typing.{IsKnown}
 use Rattle.ash_typed.specs.StatementTree.{Initialization}

@@ -8,13 +8,13 @@ use Rattle.ash_tree.specs.declared.tree.types.Primitive.{Primitive}
 use Rattle.ash_tree.specs.declared.tree.types.Primitive.TheVariants as primitives
 use Rattle.ash_tree.specs.Tree as written
 use Rattle.ash_typed.specs.declared.types.ObjectType.{ObjectType}
-use Rattle.ash_typed.specs.declared.types.Ty.{Ty}
-use Rattle.ash_typed.specs.declared.types.Ty.TheVariants as ty
-use Rattle.ash_typing.specs.Types.{ty_of}
+use Rattle.ash_typing.specs.declared.types.Ty.{Ty}
+use Rattle.ash_typing.specs.declared.types.Ty.TheVariants as ty
+use Rattle.ash_typing.specs.Types.{ty_of, var_type}
 use Rattle.ash_typing.specs.Environment.{Environment, Declared, declares}
 use Rattle.ash_typing.specs.Expressions.{is_void}
 use Rattle.ash_typing.specs.Heads.{object_named, object_ty, handle_ty, ty_named}
-use Rattle.ash_typing.specs.Typing.{IsKnown, IsKnownType, IsKnownVariable}
+use Rattle.ash_typing.specs.Typing.{IsKnown, IsKnownType, IsVariableType, IsKnownVariable}
 use Rattle.ash_typing.specs.Bodies.{Body, body_scope, body_typed, returns_in, with_locals}
 use Rattle.ash_typing.specs.Declarations.{ty_in, at_type}
 use Rattle.ash_typed.specs.Modules.{Function}
@@ -35,6 +35,15 @@ passed_known (ty.Integer k) h = refl
 passed_known (ty.Object o) h = refl
 passed_known (ty.Handle o) h = refl
 passed_known ty.Null h = refl
+
+passed_variable : (of : Ty) → IsPassed of → IsVariableType of
+passed_variable ty.Unknown h = h
+passed_variable ty.Void h = h
+passed_variable ty.Bool h = refl
+passed_variable (ty.Integer k) h = refl
+passed_variable (ty.Object o) h = refl
+passed_variable (ty.Handle o) h = refl
+passed_variable ty.Null h = h
 
 pub passed_complete : (at : ℕ) (of : Ty) → IsPassed of → passed_ty at of ≡ Ok of
 unfolding passed_ty
@@ -116,11 +125,11 @@ parameters_complete env (p ∷ ps) before h d =
 
 types_of : (env : Environment) (ps : List written.Parameter) → map type_of (map (parameter_of env) ps) ≡ map (type_of_parameter env) ps
 types_of env [] = refl
-types_of env (p ∷ ps) = ap (λ ts. ty_in env p.of ∷ ts) (types_of env ps)
+types_of env (p ∷ ps) = ap (λ ts. var_type (ty_in env p.of) ∷ ts) (types_of env ps)
 
 locals_known : (env : Environment) (ps : List written.Parameter) → AllByRecursion (IsPassedParameter env) ps → AllByRecursion IsKnownVariable (map (parameter_of env) ps)
 locals_known env [] h = tt
-locals_known env (p ∷ ps) h = (passed_known (ty_in env p.of) h.0, locals_known env ps h.1)
+locals_known env (p ∷ ps) h = (passed_variable (ty_in env p.of) h.0, locals_known env ps h.1)
 
 inside_known : (env : Environment) (ps : List written.Parameter) → IsKnown env → AllByRecursion (IsPassedParameter env) ps → IsKnown (with_locals env (map (parameter_of env) ps))
 inside_known env ps k h = record { classes = k.classes; functions = k.functions; globals = k.globals; locals = locals_known env ps h }
@@ -180,9 +189,6 @@ routine_sound env known of known_of r typed h =
       body = subst (λ (t : Body). IsBody (with_locals env (map (parameter_of env) r.parameters)) of r.body t) (sym e.0 ∙ ap (λ (f : Function). f.body) is) body;
       returns = e.1;
     }
-
-abbrev made : List ℕ → ℕ → Ty → List Ty → Body → Function
-made name line of parameters body = record { name = name; line = line; result = of; parameters = parameters; body = body }
 
 pub routine_complete : (env : Environment) (of : Ty) (r : Routine) (typed : Function) → IsRoutine env of r typed → routine_typed env of r ≡ Ok typed
 unfolding routine_typed IsDistinct

@@ -1,18 +1,22 @@
 -- Variables of a module or of a class are typed exactly as the rules say, and take their names.
-use Rattle.std.proofs.Common.{◌≡◌, ℕ, suc, List, [], ◌∷◌, ◌++◌, map, length, Ok, refl, sym, ◌∙◌, ap, subst, arith}
+use Rattle.std.proofs.Common.{◌≡◌, ℕ, suc, List, [], ◌∷◌, ◌++◌, map, length, Option, Some, None, Ok, refl, sym, ◌∙◌, ap, subst, arith}
 use Rattle.std.specs.List.{AllZip}
 use Rattle.std.proofs.lemmas.List.{append_assoc, append-nil}
+use Rattle.ash_registry.specs.Calls as host
 use Rattle.ash_tree.specs.Tree as written
-use Rattle.ash_typed.specs.declared.types.Ty.{Ty}
-use Rattle.ash_typed.specs.declared.types.Ty.TheVariants as ty
-use Rattle.ash_typing.specs.Environment.{Environment}
-use Rattle.ash_typing.specs.Typing.{IsKnown, IsKnownType, IsDeclared}
+use Rattle.ash_typed.specs.declared.types.ObjectType.{ObjectType}
+use Rattle.ash_typing.specs.declared.types.Ty.{Ty}
+use Rattle.ash_typing.specs.declared.types.Ty.TheVariants as ty
+use Rattle.ash_typing.specs.Environment.{Environment, Class}
+use Rattle.ash_typing.specs.Heads.{object_named, object_ty, handle_ty, ty_named}
+use Rattle.ash_typing.specs.Typing.{IsKnown, IsKnownType, IsVariableType, IsDeclared}
 use Rattle.ash_typing.specs.Declarations.{Initialization, ty_in, at_type, known_ty, decl_typed}
 use Rattle.ash_typed.specs.Modules.{Variables}
 use Rattle.ash_typing.specs.Items.{Names, Row, placed, with_variable, decls_typed, no_variables, vars_typed}
 use Rattle.ash_typing.specs.TypedModules.{decl_name, names_of, AreVariables}
 use Rattle.ash_typing.proofs.Bindings.{no_err, ok_is, bind_ok, bind_is}
 use Rattle.ash_typing.proofs.TakenNames.{Distinct, grown, grown-none, grown-then, CanTake, takes_none, takes_then, takes_first, takes_rest, placed_sound, placed_complete}
+use Rattle.ash_typing.proofs.TypingKnown.{primitive_known}
 use Rattle.ash_typing.proofs.TypingVariables.{declared_sound, declared_complete}
 
 -- a known type
@@ -36,6 +40,24 @@ known_complete at (ty.Integer k) h = refl
 known_complete at (ty.Object o) h = refl
 known_complete at (ty.Handle o) h = refl
 known_complete at ty.Null h = refl
+
+-- a type that is written and known is one of variables
+
+object_variable : (o : Option ObjectType) → IsKnownType (object_ty o) → IsVariableType (object_ty o)
+object_variable None h = cc
+object_variable (Some o) h = refl
+
+handle_variable : (o : Option ObjectType) → IsKnownType (handle_ty o) → IsVariableType (handle_ty o)
+handle_variable None h = cc
+handle_variable (Some o) h = refl
+
+pub named_variable : (calls : List host.Call) (classes : List Class) (of : written.Named) → IsKnownType (ty_named calls classes of) → IsVariableType (ty_named calls classes of)
+unfolding ty_named
+named_variable calls classes (written.Prim p primitive) h = primitive_known primitive
+named_variable calls classes (written.Object p name) h = object_variable (object_named calls classes name) h
+named_variable calls classes (written.Handle p name) h = handle_variable (object_named calls classes name) h
+named_variable calls classes (written.Array p of) h = cc
+named_variable calls classes (written.ArrayHandle p of) h = cc
 
 -- more variables behind those so far
 

@@ -11,10 +11,10 @@ use Rattle.ash_tree.specs.declared.tree.operators.AssignOp.TheVariants as assign
 use Rattle.ash_tree.specs.Tree as written
 use Rattle.ash_typed.specs.declared.types.Kind.{Kind}
 use Rattle.ash_typed.specs.declared.types.ObjectType.{ObjectType}
-use Rattle.ash_typed.specs.declared.types.Ty.{Ty}
-use Rattle.ash_typed.specs.declared.types.Ty.TheVariants as ty
-use Rattle.ash_typing.specs.declared.forms.Alone.{Alone}
-use Rattle.ash_typing.specs.declared.forms.Alone.TheVariants as alone
+use Rattle.ash_typing.specs.declared.types.Ty.{Ty}
+use Rattle.ash_typing.specs.declared.types.Ty.TheVariants as ty
+use Rattle.ash_typing.specs.declared.forms.Form.{Form}
+use Rattle.ash_typing.specs.declared.forms.Form.TheVariants as form
 use Rattle.ash_typed.specs.declared.tree.operations.Change.TheVariants as changes
 use Rattle.ash_typed.specs.declared.tree.operations.Member.{Member}
 use Rattle.ash_typed.specs.declared.tree.operations.Calculator.{Calculator}
@@ -22,10 +22,10 @@ use Rattle.ash_typed.specs.declared.tree.operations.Operands.{Operands}
 use Rattle.ash_typed.specs.declared.tree.operations.Operands.TheVariants as operands
 use Rattle.ash_typed.specs.declared.tree.operations.Step.{Step}
 use Rattle.ash_typed.specs.declared.tree.operations.Step.TheVariants as steps
-use Rattle.ash_typing.specs.Types.{signed, fits, common, object_of, ty_of, sort_of, outcome, binary_of}
-use Rattle.ash_typed.specs.Tree.{Expr, Exprs, Null, Read, Invoke, Alter, Conditional, Assign, Update, Count, Call, Place, Held, no_expr, expr, place_in}
+use Rattle.ash_typing.specs.Types.{var_type, signed, fits, common, object_of, ty_of, sort_of, outcome, binary_of}
+use Rattle.ash_typed.specs.Tree.{Expr, Exprs, Null, Read, Invoke, Alter, Conditional, Assign, Update, Count, Call, Place, Held, no_expr, expr}
 use Rattle.ash_typing.specs.Environment.{Environment, Callee, Invoked, callee_in, member_in, method_in}
-use Rattle.ash_typing.specs.Expressions.{Typed, typed, all_typed, links_typed, suffixes_typed, suffix_typed, call_typed, invocation_typed, called, arguments_at, all_fitted, fitted, operate, counted, unary_at, convert_at, choice, operator_of, is_stored, assigned, stored, is_assign, field_of, method_of, invoked, made, applied, call_of}
+use Rattle.ash_typing.specs.Expressions.{Typed, typed, all_typed, links_typed, suffixes_typed, suffix_typed, call_typed, invocation_typed, called, arguments_at, all_fitted, fitted, operate, counted, unary_at, convert_at, choice, operator_of, is_stored, assigned, stored, is_assign, field_of, method_of, invoked, made, read_at, applied, call_of, assignable, handle_form}
 use Rattle.ash_typing.specs.Typing.{Term, term, placed, all_placed, term_of, first_at, HasType, AllHaveType, LinksHaveType, SuffixesHaveType, SuffixHasType, AreArguments, no_arguments, argument, number, truth, null, this, name, call, brackets, to_integer, to_bool, postfix, plus, minus, complement, not, increment, decrement, handle, handle_written, binary, conditional, assign, update, none_left, each, no_more, operated, no_suffixes, suffixed, field, method, increment_after, decrement_after, Meet, converted_to, left_of, right_of}
 use Rattle.ash_typing.proofs.TypingWords.{same_kind, met_is}
 
@@ -62,19 +62,19 @@ arguments_is at parameters us trees h = rw (eq-eqb (length parameters) (length u
 
 -- phrases
 
-call_is : (env : Environment) (at : ℕ) (text : List ℕ) (es : written.Exprs) (callee : Callee) (parameters : List Ty) (us : List Typed) (trees : Exprs) → callee_in env text ≡ Some callee → callee.parameters ≡ Some parameters → all_typed env es ≡ Ok us → AreArguments parameters (terms us) trees → call_typed env at text (all_typed env es) ≡ Ok (made at callee.result (call_of callee.target trees))
+call_is : (env : Environment) (at : ℕ) (text : List ℕ) (es : written.Exprs) (callee : Callee) (parameters : List Ty) (us : List Typed) (trees : Exprs) → callee_in env text ≡ Some callee → callee.parameters ≡ Some parameters → all_typed env es ≡ Ok us → AreArguments parameters (terms us) trees → call_typed env at text (all_typed env es) ≡ Ok (made at callee.result (call_of callee.target (map var_type parameters) trees))
 unfolding called
 call_is env at text es callee parameters us trees c p e a = rw (c, e, p, arguments_is at parameters us trees a) refl
 
-integer_is : (env : Environment) (e : written.Expr) (at : ℕ) (to : Primitive) (t : Term) (j k : Kind) → ty_of to ≡ ty.Integer k → t.ty ≡ ty.Integer j → convert_at at to (placed (first_at e) t) ≡ Ok (placed at (term (ty.Integer k) (Alter changes.Keep (converted_to (ty.Integer k) t))))
+integer_is : (env : Environment) (e : written.Expr) (at : ℕ) (to : Primitive) (t : Term) (j k : Kind) → ty_of to ≡ ty.Integer k → t.ty ≡ ty.Integer j → convert_at at to (placed (first_at e) t) ≡ Ok (placed at (term (ty.Integer k) (converted_to (ty.Integer k) t)))
 unfolding convert_at
 integer_is env e at to t j k h i = rw (h, i) refl
 
-bool_is : (at b : ℕ) (to : Primitive) (t : Term) → ty_of to ≡ ty.Bool → t.ty ≡ ty.Bool → convert_at at to (placed b t) ≡ Ok (placed at (term ty.Bool (Alter changes.Keep t.tree)))
+bool_is : (at b : ℕ) (to : Primitive) (t : Term) → ty_of to ≡ ty.Bool → t.ty ≡ ty.Bool → convert_at at to (placed b t) ≡ Ok (placed at (term ty.Bool t.tree))
 unfolding convert_at
 bool_is at b to t h i = rw (h, i) refl
 
-plus_is : (left : Bool) (at b : ℕ) (t : Term) (k : Kind) → t.ty ≡ ty.Integer k → unary_at left at unary.Plus (placed b t) ≡ Ok (placed at (term (ty.Integer k) (Alter changes.Keep t.tree)))
+plus_is : (left : Bool) (at b : ℕ) (t : Term) (k : Kind) → t.ty ≡ ty.Integer k → unary_at left at unary.Plus (placed b t) ≡ Ok (placed at (term (ty.Integer k) t.tree))
 unfolding unary_at
 plus_is left at b t k h = rw (h, same_kind k) refl
 
@@ -90,25 +90,25 @@ not_is : (left : Bool) (at b : ℕ) (t : Term) → t.ty ≡ ty.Bool → unary_at
 unfolding unary_at
 not_is left at b t h = rw h refl
 
-counted_is : (at b : ℕ) (step : Step) (t : Term) (stands : Place) (k : Kind) → place_in t.tree ≡ Some stands → t.ty ≡ ty.Integer k → counted at step (placed b t) (place_in t.tree) ≡ Ok (placed at (term (ty.Integer k) (Count stands k step)))
+counted_is : (at b : ℕ) (step : Step) (t : Term) (stands : Place) (k : Kind) → assignable t.form t.tree ≡ Some stands → t.ty ≡ ty.Integer k → counted at step (placed b t) (assignable t.form t.tree) ≡ Ok (placed at (term (ty.Integer k) (Count stands k step)))
 unfolding counted
 counted_is at b step t stands k h i = rw (h, i) refl
 
-increment_is : (left : Bool) (at b : ℕ) (t : Term) (stands : Place) (k : Kind) → place_in t.tree ≡ Some stands → t.ty ≡ ty.Integer k → unary_at left at unary.Increment (placed b t) ≡ Ok (placed at (term (ty.Integer k) (Count stands k steps.Increment)))
+increment_is : (left : Bool) (at b : ℕ) (t : Term) (stands : Place) (k : Kind) → assignable t.form t.tree ≡ Some stands → t.ty ≡ ty.Integer k → unary_at left at unary.Increment (placed b t) ≡ Ok (placed at (term (ty.Integer k) (Count stands k steps.Increment)))
 unfolding unary_at
 increment_is left at b t stands k h i = counted_is at b steps.Increment t stands k h i
 
-decrement_is : (left : Bool) (at b : ℕ) (t : Term) (stands : Place) (k : Kind) → place_in t.tree ≡ Some stands → t.ty ≡ ty.Integer k → unary_at left at unary.Decrement (placed b t) ≡ Ok (placed at (term (ty.Integer k) (Count stands k steps.Decrement)))
+decrement_is : (left : Bool) (at b : ℕ) (t : Term) (stands : Place) (k : Kind) → assignable t.form t.tree ≡ Some stands → t.ty ≡ ty.Integer k → unary_at left at unary.Decrement (placed b t) ≡ Ok (placed at (term (ty.Integer k) (Count stands k steps.Decrement)))
 unfolding unary_at
 decrement_is left at b t stands k h i = counted_is at b steps.Decrement t stands k h i
 
-handle_is : (at b : ℕ) (of : Ty) (a : Alone) (tree : Expr) (o : ObjectType) → object_of of ≡ Some o → unary_at false at unary.Handle (record { at = b; ty = of; alone = a; tree = tree }) ≡ Ok (placed at (term (ty.Handle o) (Alter changes.Keep tree)))
+handle_is : (at b : ℕ) (of : Ty) (a : Form) (tree : Expr) (o : ObjectType) → object_of of ≡ Some o → unary_at false at unary.Handle (record { at = b; ty = of; form = a; tree = tree }) ≡ Ok (placed at (term (ty.Handle o) tree))
 unfolding unary_at
 handle_is at b (ty.Object p) a tree o h = rw (same_Some p o h) refl
 handle_is at b (ty.Handle p) a tree o h = rw (same_Some p o h) refl
 handle_is at b _ a tree o h = absurd (none-some o h)
 
-handle_written_is : (at b : ℕ) (t : Term) → unary_at true at unary.Handle (placed b t) ≡ Ok (placed at (record { ty = t.ty; alone = alone.Handle; tree = t.tree }))
+handle_written_is : (at b : ℕ) (t : Term) → unary_at true at unary.Handle (placed b t) ≡ Ok (placed at (record { ty = t.ty; form = handle_form t.form; tree = t.tree }))
 unfolding unary_at
 handle_written_is at b t = refl
 
@@ -120,11 +120,11 @@ choice_is : (t x y : Term) (a b c : ℕ) (of : Ty) → t.ty ≡ ty.Bool → comm
 unfolding choice
 choice_is t x y a b c of h i = rw (h, i) refl
 
-assign_is : (t u : Term) (a b : ℕ) (stands : Place) → place_in t.tree ≡ Some stands → is_stored t.alone t.ty ≡ true → fits t.ty u.ty ≡ true → assigned (placed a t) assigns.Assign (placed b u) ≡ Ok (placed a (term t.ty (Assign stands (converted_to t.ty u))))
+assign_is : (t u : Term) (a b : ℕ) (stands : Place) → assignable t.form t.tree ≡ Some stands → is_stored t.form t.ty ≡ true → fits t.ty u.ty ≡ true → assigned (placed a t) assigns.Assign (placed b u) ≡ Ok (placed a (term t.ty (Assign stands (converted_to t.ty u))))
 unfolding assigned stored
 assign_is t u a b stands p s h = rw (p, s, fitted_is t.ty b u h) refl
 
-update_is : (op : AssignOp) (c : Calculator) (t u : Term) (a b : ℕ) (stands : Place) (j k : Kind) → operator_of op ≡ Some c → place_in t.tree ≡ Some stands → is_stored t.alone t.ty ≡ true → t.ty ≡ ty.Integer k → Meet (binary_of c) (term t.ty Null) u (operands.Integers j) → assigned (placed a t) op (placed b u) ≡ Ok (placed a (term t.ty (Update stands k (record { operator = c; of = j }) (right_of (binary_of c) (operands.Integers j) (term t.ty Null) u))))
+update_is : (op : AssignOp) (c : Calculator) (t u : Term) (a b : ℕ) (stands : Place) (j k : Kind) → operator_of op ≡ Some c → assignable t.form t.tree ≡ Some stands → is_stored t.form t.ty ≡ true → t.ty ≡ ty.Integer k → Meet (binary_of c) (term t.ty Null) u (operands.Integers j) → assigned (placed a t) op (placed b u) ≡ Ok (placed a (term t.ty (Update stands k (record { operator = c; of = j }) (right_of (binary_of c) (operands.Integers j) (term t.ty Null) u))))
 unfolding assigned stored
 update_is op c t u a b stands j k e p s i m = rw (p, s, e, met_is (binary_of c) (term t.ty Null) u (operands.Integers j) a b m, i) refl
 
@@ -132,7 +132,7 @@ updates : (op : AssignOp) (operator : Calculator) → operator_of op ≡ Some op
 updates assigns.Assign operator h = absurd (none-some operator h)
 updates _ operator h = refl
 
-object_field : (env : Environment) (at : ℕ) (t : Typed) (of : Ty) (text : List ℕ) (o : ObjectType) (found : Member × Ty) → object_of of ≡ Some o → member_in env o text ≡ Some found → field_of env t of at text ≡ Ok (made t.at found.1 (Read (Held t.tree found.0)))
+object_field : (env : Environment) (at : ℕ) (t : Typed) (of : Ty) (text : List ℕ) (o : ObjectType) (found : Member × Ty) → object_of of ≡ Some o → member_in env o text ≡ Some found → field_of env t of at text ≡ Ok (read_at t.at found.1 (Read (Held t.tree found.0)))
 unfolding field_of
 object_field env at t (ty.Object p) text o found h m = rw (same_Some p o h, m) refl
 object_field env at t (ty.Handle p) text o found h m = rw (same_Some p o h, m) refl
@@ -144,35 +144,13 @@ object_method env at t (ty.Object p) text o m h i = rw (same_Some p o h, i) refl
 object_method env at t (ty.Handle p) text o m h i = rw (same_Some p o h, i) refl
 object_method env at t _ text o m h i = absurd (none-some o h)
 
-method_is : (env : Environment) (at b : ℕ) (t : Term) (text : List ℕ) (es : written.Exprs) (o : ObjectType) (m : Invoked) (us : List Typed) (trees : Exprs) → object_of t.ty ≡ Some o → method_in env o text ≡ Some m → all_typed env es ≡ Ok us → AreArguments m.parameters (terms us) trees → invocation_typed env (placed b t) at text (all_typed env es) ≡ Ok (placed b (term m.result (Invoke t.tree m.method trees)))
+method_is : (env : Environment) (at b : ℕ) (t : Term) (text : List ℕ) (es : written.Exprs) (o : ObjectType) (m : Invoked) (us : List Typed) (trees : Exprs) → object_of t.ty ≡ Some o → method_in env o text ≡ Some m → all_typed env es ≡ Ok us → AreArguments m.parameters (terms us) trees → invocation_typed env (placed b t) at text (all_typed env es) ≡ Ok (placed b (term m.result (Invoke t.tree m.method (map var_type m.parameters) trees)))
 unfolding invoked
 method_is env at b t text es o m us trees h i e a = rw (object_method env at (placed b t) t.ty text o m h i, e, arguments_is at m.parameters us trees a) refl
 
 pub all_terms : {env : Environment} {es : written.Exprs} {ts : List Term} → AllHaveType env es ts → terms (all_placed es ts) ≡ ts
 all_terms none_left = refl
 all_terms (each {t = t} h rest) = ap (t ∷◌) (all_terms rest)
-
--- Only left of `=` is `@e` what is written to.
-
-suffix_stored : {env : Environment} {t : Term} {s : written.Suffix} {u : Term} → SuffixHasType env t s u → (k : Kind) → is_stored u.alone (ty.Integer k) ≡ true
-suffix_stored (field h i) k = refl
-suffix_stored (method h i all args) k = refl
-suffix_stored (increment_after h i) k = refl
-suffix_stored (decrement_after h i) k = refl
-
-suffixes_stored : {env : Environment} {t : Term} {ss : written.Suffixes} {u : Term} → SuffixesHaveType env t ss u → (k : Kind) → is_stored t.alone (ty.Integer k) ≡ true → is_stored u.alone (ty.Integer k) ≡ true
-suffixes_stored no_suffixes k h = h
-suffixes_stored (suffixed s rest) k h = suffixes_stored rest k (suffix_stored s k)
-
-links_stored : {env : Environment} {t : Term} {ls : written.Links} {u : Term} → LinksHaveType env t ls u → (k : Kind) → is_stored t.alone (ty.Integer k) ≡ true → is_stored u.alone (ty.Integer k) ≡ true
-links_stored no_more k h = h
-links_stored (operated e m rest) k h = links_stored rest k refl
-
-no_handle : {env : Environment} {e : written.Expr} {t : Term} → HasType env false e t → (k : Kind) → is_stored t.alone (ty.Integer k) ≡ true
-no_handle number k = refl
-no_handle (postfix h ss) k = suffixes_stored ss k (no_handle h k)
-no_handle (binary h ls) k = links_stored ls k (no_handle h k)
-no_handle _ k = refl
 
 mutual
   pub complete : {env : Environment} {left : Bool} {e : written.Expr} {t : Term} → HasType env left e t → typed env left e ≡ Ok (placed (first_at e) t)
@@ -192,12 +170,12 @@ mutual
   complete {left = left} (not {p = p} {e = e} {t = t} h i) = rw (complete h) (not_is left p.at (first_at e) t i)
   complete {left = left} (increment {p = p} {e = e} {t = t} {at = at} {k = k} h i l) = rw (complete h) (increment_is left p.at (first_at e) t at k i l)
   complete {left = left} (decrement {p = p} {e = e} {t = t} {at = at} {k = k} h i l) = rw (complete h) (decrement_is left p.at (first_at e) t at k i l)
-  complete (handle {p = p} {e = e} {t = t} {o = o} h i) = rw (complete h) (handle_is p.at (first_at e) t.ty t.alone t.tree o i)
+  complete (handle {p = p} {e = e} {t = t} {o = o} h i) = rw (complete h) (handle_is p.at (first_at e) t.ty t.form t.tree o i)
   complete (handle_written {p = p} {e = e} {t = t} h) = rw (complete h) (handle_written_is p.at (first_at e) t)
   complete (binary {e = e} h ls) = rw (complete h) (links_complete ls (first_at e))
   complete (conditional {c = c} {a = a} {b = b} {t = t} {x = x} {y = y} {of = of} h i k l m) = rw (complete h, complete k, complete l) (choice_is t x y (first_at c) (first_at a) (first_at b) of i m)
   complete (assign {e = e} {v = v} {t = t} {u = u} {at = at} h i s k l) = rw (complete h, complete k) (assign_is t u (first_at e) (first_at v) at i s l)
-  complete (update {op = op} {c = c} {e = e} {v = v} {t = t} {u = u} {at = at} {j = j} {k = k} f h i l m n) = rw (updates op c f, complete h, complete m) (update_is op c t u (first_at e) (first_at v) at j k f i (rw l (no_handle h k)) l n)
+  complete (update {op = op} {c = c} {e = e} {v = v} {t = t} {u = u} {at = at} {j = j} {k = k} f h i s l m n) = rw (updates op c f, complete h, complete m) (update_is op c t u (first_at e) (first_at v) at j k f i s l n)
 
   pub all_complete : {env : Environment} {es : written.Exprs} {ts : List Term} → AllHaveType env es ts → all_typed env es ≡ Ok (all_placed es ts)
   all_complete none_left = refl

@@ -9,16 +9,16 @@ use Rattle.ash_tree.specs.Tree as written
 use Rattle.ash_registrations.specs.Calls as host
 use Rattle.ash_typed.specs.declared.types.ObjectType.{ObjectType}
 use Rattle.ash_typed.specs.declared.types.ObjectType.TheVariants.{Class as OfClass, Host as OfHost}
-use Rattle.ash_typed.specs.declared.types.Ty.{Ty}
-use Rattle.ash_typed.specs.declared.types.Ty.TheVariants as ty
+use Rattle.ash_typing.specs.declared.types.Ty.{Ty}
+use Rattle.ash_typing.specs.declared.types.Ty.TheVariants as ty
 use Rattle.ash_typing.specs.declared.forms.Sort.{Sort}
 use Rattle.ash_typing.specs.declared.forms.Sort.TheVariants as sort
-use Rattle.ash_typing.specs.declared.forms.Alone.{Alone}
-use Rattle.ash_typing.specs.declared.forms.Alone.TheVariants as alone
+use Rattle.ash_typing.specs.declared.forms.Form.{Form}
+use Rattle.ash_typing.specs.declared.forms.Form.TheVariants as form
 use Rattle.ash_typed.specs.declared.tree.operations.Member.{Member}
 use Rattle.ash_typed.specs.declared.tree.operations.Operands.{Operands}
 use Rattle.ash_typed.specs.declared.tree.operations.Operands.TheVariants as operands
-use Rattle.ash_typing.specs.Types.{ty_of, common, fits_object, meeting, holds, sort_of, outcome}
+use Rattle.ash_typing.specs.Types.{is_variable, is_result, var_type, result_type, ty_of, common, fits_object, meeting, holds, sort_of, outcome}
 use Rattle.ash_typed.specs.declared.tree.operations.Variable.TheVariants as variables
 use Rattle.ash_typed.specs.declared.tree.operations.Member.TheVariants.{Field}
 use Rattle.ash_typed.specs.declared.tree.operations.Method.TheVariants as methods
@@ -28,7 +28,7 @@ use Rattle.ash_typed.specs.declared.types.Kind.{Kind}
 use Rattle.std.specs.Str.{bytes_eq}
 use Rattle.ash_typed.specs.Tree.{Number, Read, Stored, Held, This}
 use Rattle.ash_typing.specs.Environment.{Environment, Declared, Function, Class, Known, Callee, Invoked, first_from, last_named, declares, is_called, is_class, this_class, variable_in, callee_in, member_in, method_in, method_of_class, method_of_kind, host_member_in, result_of, service_function, host_type, host_method, property, named_in, own_method_in, class_in, function_in, field_in, local_in, own_field_in, global_in, callee_beside, class_method}
-use Rattle.ash_typing.specs.Typing.{IsKnown, IsKnownType, IsKnownVariable, IsKnownFunction, IsKnownClass, is_known, Term, taking, beside, HasType, LinksHaveType, SuffixesHaveType, SuffixHasType, number, truth, null, this, name, call, brackets, to_integer, to_bool, postfix, plus, minus, complement, not, increment, decrement, handle, handle_written, binary, conditional, assign, update, no_more, operated, no_suffixes, suffixed, field, method, increment_after, decrement_after}
+use Rattle.ash_typing.specs.Typing.{IsKnown, IsKnownType, IsVariableType, IsResultType, IsKnownVariable, IsKnownFunction, IsKnownClass, is_known, Term, taking, beside, HasType, LinksHaveType, SuffixesHaveType, SuffixHasType, number, truth, null, this, name, call, brackets, to_integer, to_bool, postfix, plus, minus, complement, not, increment, decrement, handle, handle_written, binary, conditional, assign, update, no_more, operated, no_suffixes, suffixed, field, method, increment_after, decrement_after}
 
 -- what is looked up
 
@@ -51,7 +51,7 @@ pub if_any : {A B : Type 0} (Q : B → Type 0) (f : A → Option B) (o : Option 
 if_any Q f None g = tt
 if_any Q f (Some x) g = g x
 
-if_weaker : {A : Type 0} {P Q : A → Type 0} (o : Option A) → ((x : A) → P x → Q x) → IfSome o P → IfSome o Q
+pub if_weaker : {A : Type 0} {P Q : A → Type 0} (o : Option A) → ((x : A) → P x → Q x) → IfSome o P → IfSome o Q
 if_weaker None f h = h
 if_weaker (Some x) f h = f x h
 
@@ -72,23 +72,41 @@ if_get P [] i h = h
 if_get P (x ∷ xs) zero h = h.0
 if_get P (x ∷ xs) (suc i) h = if_get P xs i h.1
 
-if_last : (text : List ℕ) (i : ℕ) (found : Option (ℕ × Ty)) (vs : List Declared) → AllByRecursion IsKnownVariable vs → IfSome found (λ f. IsKnownType f.1) → IfSome (last_named text i found vs) (λ f. IsKnownType f.1)
+if_last : (text : List ℕ) (i : ℕ) (found : Option (ℕ × Ty)) (vs : List Declared) → AllByRecursion IsKnownVariable vs → IfSome found (λ f. IsVariableType f.1) → IfSome (last_named text i found vs) (λ f. IsVariableType f.1)
 if_last text i found [] h k = k
 if_last text i found (v ∷ vs) h k = if_last text (i + 1) (cond (bytes_eq text v.name) (Some (i, v.of)) found) vs h.1 (go (bytes_eq text v.name))
   where
-    go : (b : Bool) → IfSome (cond b (Some (i, v.of)) found) (λ (f : ℕ × Ty). IsKnownType f.1)
+    go : (b : Bool) → IfSome (cond b (Some (i, v.of)) found) (λ (f : ℕ × Ty). IsVariableType f.1)
     go true = h.0
     go false = k
 
 -- types
 
-primitive_known : (of : Primitive) → is_known (ty_of of) ≡ true
+pub variable_is_known : (of : Ty) → IsVariableType of → IsKnownType of
+variable_is_known ty.Unknown h = cc
+variable_is_known ty.Void h = refl
+variable_is_known ty.Null h = refl
+variable_is_known _ h = refl
+
+pub result_is_known : (of : Ty) → IsResultType of → IsKnownType of
+result_is_known ty.Unknown h = cc
+result_is_known ty.Void h = refl
+result_is_known ty.Null h = refl
+result_is_known _ h = refl
+
+pub variable_is_result : (of : Ty) → IsVariableType of → IsResultType of
+variable_is_result ty.Void h = refl
+variable_is_result ty.Null h = cc
+variable_is_result ty.Unknown h = cc
+variable_is_result _ h = refl
+
+pub primitive_known : (of : Primitive) → is_variable (ty_of of) ≡ true
 primitive_known primitives.Bool = refl
 primitive_known _ = refl
 
-result_known : (of : Option Primitive) → is_known (result_of of) ≡ true
+result_known : (of : Option Primitive) → is_result (result_of of) ≡ true
 result_known None = refl
-result_known (Some of) = primitive_known of
+result_known (Some of) = variable_is_result (ty_of of) (primitive_known of)
 
 pub outcome_known : (s : Sort) (o : Operands) → is_known (outcome s o) ≡ true
 outcome_known sort.Arithmetic (operands.Integers k) = refl
@@ -113,75 +131,75 @@ common_known ty.Null (ty.Object o) of h k c = told (ty.Handle o) of refl c
 common_known ty.Null (ty.Handle o) of h k c = told (ty.Handle o) of refl c
 common_known a b of h k c = absurd (none-some of c)
 
-taken_known : (b : Bool) (k : Kind) (n : ℕ) (t : Term) → is_known t.ty ≡ true → is_known (cond b (record { ty = ty.Integer k; alone = alone.Number n; tree = Number k n }) t).ty ≡ true
+taken_known : (b : Bool) (k : Kind) (n : ℕ) (t : Term) → is_known t.ty ≡ true → is_known (cond b (record { ty = ty.Integer k; form = form.Number n; tree = Number k n }) t).ty ≡ true
 taken_known true k n t h = refl
 taken_known false k n t h = h
 
-taking_known : (a : Alone) (of : Ty) (b : Alone) (t : Term) → is_known t.ty ≡ true → is_known (taking a of b t).ty ≡ true
-taking_known (alone.Number m) of (alone.Number n) t h = h
-taking_known a (ty.Integer k) (alone.Number n) t h = taken_known (holds k n) k n t h
+taking_known : (a : Form) (of : Ty) (b : Form) (t : Term) → is_known t.ty ≡ true → is_known (taking a of b t).ty ≡ true
+taking_known (form.Number m) of (form.Number n) t h = h
+taking_known a (ty.Integer k) (form.Number n) t h = taken_known (holds k n) k n t h
 taking_known a of b t h = h
 
 pub beside_known : (s : Sort) (other t : Term) → is_known t.ty ≡ true → is_known (beside s other t).ty ≡ true
 beside_known sort.Shift other t h = h
-beside_known _ other t h = taking_known other.alone other.ty t.alone t h
+beside_known _ other t h = taking_known other.form other.ty t.form t h
 
 -- members
 
 class_known : (env : Environment) → IsKnown env → IfSome (this_class env) (λ c. IsKnownClass c.1)
 class_known env known = if_any (λ (c : ℕ × Class). IsKnownClass c.1) (λ (i : ℕ). option_map (λ (c : Class). (i, c)) (slice_get env.heads.classes i)) env.this (λ i. if_map (λ (c : ℕ × Class). IsKnownClass c.1) (λ (c : Class). (i, c)) (slice_get env.heads.classes i) (if_get IsKnownClass env.heads.classes i known.classes))
 
-field_known : (class : ℕ) (c : Class) (text : List ℕ) → IsKnownClass c → IfSome (field_in class c text) (λ found. IsKnownType found.1)
-field_known class c text known = if_map (λ (found : Member × Ty). IsKnownType found.1) (λ (found : ℕ × Declared). (Field class found.0 found.1.of, found.1.of)) (first_from (declares text) 0 c.fields) (if_first IsKnownVariable (declares text) 0 c.fields known.fields)
+field_known : (class : ℕ) (c : Class) (text : List ℕ) → IsKnownClass c → IfSome (field_in class c text) (λ found. IsVariableType found.1)
+field_known class c text known = if_map (λ (found : Member × Ty). IsVariableType found.1) (λ (found : ℕ × Declared). (Field class found.0 (var_type found.1.of), found.1.of)) (first_from (declares text) 0 c.fields) (if_first IsKnownVariable (declares text) 0 c.fields known.fields)
 
-variable_known : (env : Environment) (text : List ℕ) → IsKnown env → IfSome (variable_in env text) (λ found. IsKnownType found.1)
+pub variable_known : (env : Environment) (text : List ℕ) → IsKnown env → IfSome (variable_in env text) (λ found. IsVariableType found.1)
 unfolding variable_in
 variable_known env text known =
-    let Q : Known → Type 0 = λ found. IsKnownType found.1 in
-    let local = if_map Q (λ (found : ℕ × Ty). (Read (Stored (variables.Local found.0 found.1)), found.1)) (last_named text 0 None env.locals) (if_last text 0 None env.locals known.locals tt) in
+    let Q : Known → Type 0 = λ found. IsVariableType found.1 in
+    let local = if_map Q (λ (found : ℕ × Ty). (Read (Stored (variables.Local found.0 (var_type found.1))), found.1)) (last_named text 0 None env.locals) (if_last text 0 None env.locals known.locals tt) in
     let own = if_then (λ (c : ℕ × Class). IsKnownClass c.1) Q (λ (c : ℕ × Class). option_map (λ (found : Member × Ty). (Read (Held (This c.0) found.0), found.1)) (field_in c.0 c.1 text)) (this_class env) (λ c h. if_map Q (λ (found : Member × Ty). (Read (Held (This c.0) found.0), found.1)) (field_in c.0 c.1 text) (field_known c.0 c.1 text h)) (class_known env known) in
-    let global = if_map Q (λ (found : ℕ × Declared). (Read (Stored (variables.Global found.0 found.1.of)), found.1.of)) (first_from (declares text) 0 env.heads.globals) (if_first IsKnownVariable (declares text) 0 env.heads.globals known.globals) in
+    let global = if_map Q (λ (found : ℕ × Declared). (Read (Stored (variables.Global found.0 (var_type found.1.of))), found.1.of)) (first_from (declares text) 0 env.heads.globals) (if_first IsKnownVariable (declares text) 0 env.heads.globals known.globals) in
     if_or Q (local_in env.locals text) (option_or (own_field_in env text) (global_in env.heads.globals text)) local (if_or Q (own_field_in env text) (global_in env.heads.globals text) own global)
 
-function_known : (text : List ℕ) (fs : List Function) → AllByRecursion IsKnownFunction fs → IfSome (first_from (is_called text) 0 fs) (λ found. IsKnownType found.1.result)
+function_known : (text : List ℕ) (fs : List Function) → AllByRecursion IsKnownFunction fs → IfSome (first_from (is_called text) 0 fs) (λ found. IsResultType found.1.result)
 function_known text fs known = if_weaker (first_from (is_called text) 0 fs) (λ found h. h.result) (if_first IsKnownFunction (is_called text) 0 fs known)
 
-service_known : (call : host.Call) → IfSome (service_function call) (λ callee. IsKnownType callee.result)
+service_known : (call : host.Call) → IfSome (service_function call) (λ callee. IsResultType callee.result)
 service_known (host.AFunction service id operation) = result_known operation.result
 service_known _ = tt
 
-host_known : (calls : List host.Call) (call : host.Call) → IfSome (host_type calls call) (λ callee. IsKnownType callee.result)
+host_known : (calls : List host.Call) (call : host.Call) → IfSome (host_type calls call) (λ callee. IsResultType callee.result)
 host_known calls (host.AType text kind) = refl
 host_known calls _ = tt
 
-property_known : (call : host.Call) → IfSome (property call) (λ found. IsKnownType found.1)
+property_known : (call : host.Call) → IfSome (property call) (λ found. IsVariableType found.1)
 property_known (host.AProperty of id value text) = primitive_known value
 property_known _ = tt
 
-host_method_known : (call : host.Call) → IfSome (host_method call) (λ m. IsKnownType m.result)
+host_method_known : (call : host.Call) → IfSome (host_method call) (λ m. IsResultType m.result)
 host_method_known (host.AMethod of id operation) = result_known operation.result
 host_method_known _ = tt
 
-callee_known : (env : Environment) (text : List ℕ) → IsKnown env → IfSome (callee_in env text) (λ callee. IsKnownType callee.result)
+pub callee_known : (env : Environment) (text : List ℕ) → IsKnown env → IfSome (callee_in env text) (λ callee. IsResultType callee.result)
 unfolding callee_in
 callee_known env text known =
-    let Q : Callee → Type 0 = λ callee. IsKnownType callee.result in
-    let own = if_then (λ (c : ℕ × Class). IsKnownClass c.1) Q (λ (c : ℕ × Class). option_map (λ (found : ℕ × Function). record { target = callables.OwnMethod c.0 found.0 found.1.result; result = found.1.result; parameters = Some found.1.parameters }) (first_from (is_called text) 0 c.1.methods)) (this_class env) (λ c h. if_map Q (λ (found : ℕ × Function). record { target = callables.OwnMethod c.0 found.0 found.1.result; result = found.1.result; parameters = Some found.1.parameters }) (first_from (is_called text) 0 c.1.methods) (function_known text c.1.methods h.methods)) (class_known env known) in
-    let function = if_map Q (λ (found : ℕ × Function). record { target = callables.Target (targets.Function found.0 found.1.result); result = found.1.result; parameters = Some found.1.parameters }) (first_from (is_called text) 0 env.heads.functions) (function_known text env.heads.functions known.functions) in
+    let Q : Callee → Type 0 = λ callee. IsResultType callee.result in
+    let own = if_then (λ (c : ℕ × Class). IsKnownClass c.1) Q (λ (c : ℕ × Class). option_map (λ (found : ℕ × Function). record { target = callables.OwnMethod c.0 found.0 (result_type found.1.result); result = found.1.result; parameters = Some found.1.parameters }) (first_from (is_called text) 0 c.1.methods)) (this_class env) (λ c h. if_map Q (λ (found : ℕ × Function). record { target = callables.OwnMethod c.0 found.0 (result_type found.1.result); result = found.1.result; parameters = Some found.1.parameters }) (first_from (is_called text) 0 c.1.methods) (function_known text c.1.methods h.methods)) (class_known env known) in
+    let function = if_map Q (λ (found : ℕ × Function). record { target = callables.Target (targets.Function found.0 (result_type found.1.result)); result = found.1.result; parameters = Some found.1.parameters }) (first_from (is_called text) 0 env.heads.functions) (function_known text env.heads.functions known.functions) in
     let service = if_any Q service_function (named_in env.registered text) service_known in
     let class = if_map Q (λ (found : ℕ × Class). record { target = callables.Target (targets.Class found.0); result = ty.Handle (OfClass found.0); parameters = Some found.1.parameters }) (first_from (is_class text) 0 env.heads.classes) (if_all (first_from (is_class text) 0 env.heads.classes) (λ found. refl)) in
     let kind = if_any Q (host_type env.registered) (named_in env.registered text) (host_known env.registered) in
     if_or Q (own_method_in env text) (option_or (function_in env.heads.functions text) (callee_beside env text)) own (if_or Q (function_in env.heads.functions text) (callee_beside env text) function (if_or Q (option_and_then service_function (named_in env.registered text)) (option_or (class_in env.heads.classes text) (option_and_then (host_type env.registered) (named_in env.registered text))) service (if_or Q (class_in env.heads.classes text) (option_and_then (host_type env.registered) (named_in env.registered text)) class kind)))
 
-member_known : (env : Environment) (o : ObjectType) (text : List ℕ) → IsKnown env → IfSome (member_in env o text) (λ found. IsKnownType found.1)
+pub member_known : (env : Environment) (o : ObjectType) (text : List ℕ) → IsKnown env → IfSome (member_in env o text) (λ found. IsVariableType found.1)
 unfolding member_in
-member_known env (OfClass i) text known = if_then IsKnownClass (λ (found : Member × Ty). IsKnownType found.1) (λ (c : Class). field_in i c text) (slice_get env.heads.classes i) (λ c h. field_known i c text h) (if_get IsKnownClass env.heads.classes i known.classes)
-member_known env (OfHost i) text known = if_any (λ (found : Member × Ty). IsKnownType found.1) property (host_member_in env.registered i text) property_known
+member_known env (OfClass i) text known = if_then IsKnownClass (λ (found : Member × Ty). IsVariableType found.1) (λ (c : Class). field_in i c text) (slice_get env.heads.classes i) (λ c h. field_known i c text h) (if_get IsKnownClass env.heads.classes i known.classes)
+member_known env (OfHost i) text known = if_any (λ (found : Member × Ty). IsVariableType found.1) property (host_member_in env.registered i text) property_known
 
-method_known : (env : Environment) (o : ObjectType) (text : List ℕ) → IsKnown env → IfSome (method_in env o text) (λ m. IsKnownType m.result)
+pub method_known : (env : Environment) (o : ObjectType) (text : List ℕ) → IsKnown env → IfSome (method_in env o text) (λ m. IsResultType m.result)
 unfolding method_in method_of_class method_of_kind
-method_known env (OfClass i) text known = if_then IsKnownClass (λ (m : Invoked). IsKnownType m.result) (class_method i text) (slice_get env.heads.classes i) (λ c h. if_map (λ (m : Invoked). IsKnownType m.result) (λ (found : ℕ × Function). record { method = methods.Script i found.0 found.1.result; result = found.1.result; parameters = found.1.parameters }) (first_from (is_called text) 0 c.methods) (function_known text c.methods h.methods)) (if_get IsKnownClass env.heads.classes i known.classes)
-method_known env (OfHost i) text known = if_any (λ (m : Invoked). IsKnownType m.result) host_method (host_member_in env.registered i text) host_method_known
+method_known env (OfClass i) text known = if_then IsKnownClass (λ (m : Invoked). IsResultType m.result) (class_method i text) (slice_get env.heads.classes i) (λ c h. if_map (λ (m : Invoked). IsResultType m.result) (λ (found : ℕ × Function). record { method = methods.Script i found.0 (result_type found.1.result); result = found.1.result; parameters = found.1.parameters }) (first_from (is_called text) 0 c.methods) (function_known text c.methods h.methods)) (if_get IsKnownClass env.heads.classes i known.classes)
+method_known env (OfHost i) text known = if_any (λ (m : Invoked). IsResultType m.result) host_method (host_member_in env.registered i text) host_method_known
 
 mutual
   pub known_type : {env : Environment} {left : Bool} {e : written.Expr} {t : Term} → HasType env left e t → IsKnown env → IsKnownType t.ty
@@ -189,8 +207,8 @@ mutual
   known_type truth known = refl
   known_type null known = refl
   known_type (this h) known = refl
-  known_type {env} (name {text = text} {known = found} h) known = at_some (λ found. IsKnownType found.1) (variable_in env text) found (variable_known env text known) h
-  known_type {env} (call {text = text} {callee = callee} c q all args) known = at_some (λ callee. IsKnownType callee.result) (callee_in env text) callee (callee_known env text known) c
+  known_type {env} (name {text = text} {known = found} h) known = variable_is_known found.1 (at_some (λ found. IsVariableType found.1) (variable_in env text) found (variable_known env text known) h)
+  known_type {env} (call {text = text} {callee = callee} c q all args) known = result_is_known callee.result (at_some (λ callee. IsResultType callee.result) (callee_in env text) callee (callee_known env text known) c)
   known_type (brackets h) known = known_type h known
   known_type (to_integer h i l) known = refl
   known_type (to_bool h i l) known = refl
@@ -206,7 +224,7 @@ mutual
   known_type (binary h ls) known = links_known ls known (known_type h known)
   known_type (conditional {x = x} {y = y} {of = of} h i k l m) known = common_known x.ty y.ty of (known_type k known) (known_type l known) m
   known_type (assign h i s k l) known = known_type h known
-  known_type (update f h i l m n) known = known_type h known
+  known_type (update f h i s l m n) known = known_type h known
 
   pub links_known : {env : Environment} {t : Term} {ls : written.Links} {u : Term} → LinksHaveType env t ls u → IsKnown env → IsKnownType t.ty → IsKnownType u.ty
   links_known no_more known h = h
@@ -217,7 +235,7 @@ mutual
   suffixes_known (suffixed s rest) known h = suffixes_known rest known (suffix_known s known)
 
   pub suffix_known : {env : Environment} {t : Term} {s : written.Suffix} {u : Term} → SuffixHasType env t s u → IsKnown env → IsKnownType u.ty
-  suffix_known {env} (field {text = text} {o = o} {found = found} h i) known = at_some (λ found. IsKnownType found.1) (member_in env o text) found (member_known env o text known) i
-  suffix_known {env} (method {text = text} {o = o} {m = m} h i all args) known = at_some (λ m. IsKnownType m.result) (method_in env o text) m (method_known env o text known) i
+  suffix_known {env} (field {text = text} {o = o} {found = found} h i) known = variable_is_known found.1 (at_some (λ found. IsVariableType found.1) (member_in env o text) found (member_known env o text known) i)
+  suffix_known {env} (method {text = text} {o = o} {m = m} h i all args) known = result_is_known m.result (at_some (λ m. IsResultType m.result) (method_in env o text) m (method_known env o text known) i)
   suffix_known (increment_after h i) known = refl
   suffix_known (decrement_after h i) known = refl

@@ -1,6 +1,6 @@
 -- What the walk types has that type by the rules, where all types are known.
 use Rattle.std.proofs.lemmas.Bool.{eqb-true}
-use Rattle.std.proofs.Common.{◌≡◌, ℕ, pred, List, [], ◌∷◌, length, nat_eq, Bool, true, false, cond, Option, Some, None, Ok, refl, sym, ap, ◌∙◌, subst}
+use Rattle.std.proofs.Common.{◌≡◌, ℕ, pred, List, [], ◌∷◌, map, length, nat_eq, Bool, true, false, cond, Option, Some, None, Ok, refl, sym, ap, ◌∙◌, subst}
 use Rattle.ash_tree.specs.declared.tree.places.Place as place
 use Rattle.ash_tree.specs.declared.tree.types.Primitive.{Primitive}
 use Rattle.ash_tree.specs.declared.tree.types.Primitive.TheVariants as primitives
@@ -14,10 +14,10 @@ use Rattle.ash_typing.specs.declared.fault.Rule.TheVariants as rules
 use Rattle.ash_typed.specs.declared.types.Kind.{Kind}
 use Rattle.ash_typed.specs.declared.types.ObjectType.{ObjectType}
 use Rattle.ash_typed.specs.declared.types.ObjectType.TheVariants as objects
-use Rattle.ash_typed.specs.declared.types.Ty.{Ty}
-use Rattle.ash_typed.specs.declared.types.Ty.TheVariants as ty
+use Rattle.ash_typing.specs.declared.types.Ty.{Ty}
+use Rattle.ash_typing.specs.declared.types.Ty.TheVariants as ty
 use Rattle.ash_typing.specs.declared.forms.Sort.{Sort}
-use Rattle.ash_typing.specs.declared.forms.Alone.TheVariants as alone
+use Rattle.ash_typing.specs.declared.forms.Form.TheVariants as form
 use Rattle.ash_typed.specs.declared.tree.operations.Change.TheVariants as changes
 use Rattle.ash_typed.specs.declared.tree.operations.Member.{Member}
 use Rattle.ash_typed.specs.declared.tree.operations.Calculator.{Calculator}
@@ -26,10 +26,10 @@ use Rattle.ash_typed.specs.declared.tree.operations.Operands.TheVariants as oper
 use Rattle.ash_typed.specs.declared.tree.operations.Step.{Step}
 use Rattle.ash_typed.specs.declared.tree.operations.Step.TheVariants as steps
 use Rattle.ash_typing.specs.Checking.{Checking, ◌>>=◌, broken}
-use Rattle.ash_typing.specs.Types.{signed, fits, common, object_of, ty_of, sort_of, binary_of, integers_in, outcome, meets, assumed}
-use Rattle.ash_typed.specs.Tree.{Expr, Exprs, Truth, Null, This, Read, Invoke, Alter, Conditional, Assign, Update, Count, Call, Place, Held, no_expr, expr, place_in}
+use Rattle.ash_typing.specs.Types.{var_type, signed, fits, common, object_of, ty_of, sort_of, binary_of, integers_in, outcome, meets, assumed}
+use Rattle.ash_typed.specs.Tree.{Expr, Exprs, Truth, Null, This, Read, Invoke, Alter, Conditional, Assign, Update, Count, Call, Place, Held, no_expr, expr}
 use Rattle.ash_typing.specs.Environment.{Environment, Known, Callee, Invoked, variable_in, callee_in, member_in, method_in}
-use Rattle.ash_typing.specs.Expressions.{Typed, Met, typed, all_typed, links_typed, suffixes_typed, suffix_typed, call_typed, invocation_typed, called, callee_at, known_at, this_at, arguments_at, all_fitted, fitted, brought, numeral, right_operand, operate, operated as joined, met, met_as, met_by, counted, altered, unary_at, integer_of, bool_of, handle_of, handle_at, convert_at, converting, choice, chosen, operator_of, is_stored, assigned, assigned_to, stored, updated, is_assign, field_of, member_at, method_of, invoked, invoked_at, made, in_brackets, applied, call_of}
+use Rattle.ash_typing.specs.Expressions.{Typed, Met, typed, all_typed, links_typed, suffixes_typed, suffix_typed, call_typed, invocation_typed, called, callee_at, known_at, this_at, arguments_at, all_fitted, fitted, brought, numeral, right_operand, operate, operated as joined, met, met_as, met_by, counted, altered, unary_at, integer_of, bool_of, handle_of, handle_at, convert_at, converting, choice, chosen, operator_of, is_stored, assigned, assigned_to, stored, updated, is_assign, field_of, member_at, method_of, invoked, invoked_at, made, read_at, integer_at, in_brackets, applied, call_of, assignable, handle_form}
 use Rattle.ash_typing.specs.Typing.{IsKnown, is_known, Term, term, placed, term_of, HasType, AllHaveType, LinksHaveType, SuffixesHaveType, SuffixHasType, AreArguments, no_arguments, argument, number, truth, null, this, name, call, brackets, to_integer, to_bool, postfix, plus, minus, complement, not, increment, decrement, handle, handle_written, binary, conditional, assign, update, none_left, each, no_more, operated, no_suffixes, suffixed, field, method, increment_after, decrement_after, Meet, beside, converted_to, left_of, right_of, right_by}
 use Rattle.ash_typing.proofs.TypingWords.{no_fault, same_ok, bind_ok, unconverted, beside_is, known_alone, right_is, calculated_integers}
 use Rattle.ash_typing.proofs.TypingKnown.{known_type, outcome_known, beside_known, suffix_known}
@@ -100,14 +100,14 @@ this_sound env left p (Some class) r e h = at_ok (λ r. HasType env left (writte
 
 name_sound : (env : Environment) (left : Bool) (p : place.Place) (text : List ℕ) (found : Option Known) (r : Typed) → variable_in env text ≡ found → known_at p.at found ≡ Ok r → HasType env left (written.Name p text) (term_of r)
 name_sound env left p text None r e h = absurd (no_fault _ r h)
-name_sound env left p text (Some known) r e h = at_ok (λ r. HasType env left (written.Name p text) (term_of r)) (made p.at known.1 known.0) r h (name e)
+name_sound env left p text (Some known) r e h = at_ok (λ r. HasType env left (written.Name p text) (term_of r)) (read_at p.at known.1 known.0) r h (name e)
 
-pub called_ok : (at : ℕ) (callee : Callee) (ts : List Typed) (parameters : Option (List Ty)) (r : Typed) → called at callee ts parameters ≡ Ok r → (ps : List Ty) × (parameters ≡ Some ps) × ((trees : Exprs) × AreArguments ps (terms ts) trees × (made at callee.result (call_of callee.target trees) ≡ r))
+pub called_ok : (at : ℕ) (callee : Callee) (ts : List Typed) (parameters : Option (List Ty)) (r : Typed) → called at callee ts parameters ≡ Ok r → (ps : List Ty) × (parameters ≡ Some ps) × ((trees : Exprs) × AreArguments ps (terms ts) trees × (made at callee.result (call_of callee.target (map var_type ps) trees) ≡ r))
 unfolding called
 called_ok at callee ts None r h = absurd (no_fault _ r h)
 called_ok at callee ts (Some ps) r h =
-    let a = bind_ok (arguments_at at ps ts) (λ es. Ok (made at callee.result (call_of callee.target es))) r h in
-    (ps, refl, (a.0, arguments_ok at ps ts a.0 a.1, same_ok (made at callee.result (call_of callee.target a.0)) r a.2))
+    let a = bind_ok (arguments_at at ps ts) (λ es. Ok (made at callee.result (call_of callee.target (map var_type ps) es))) r h in
+    (ps, refl, (a.0, arguments_ok at ps ts a.0 a.1, same_ok (made at callee.result (call_of callee.target (map var_type ps) a.0)) r a.2))
 
 callee_ok : (at : ℕ) (found : Option Callee) (callee : Callee) → callee_at at found ≡ Ok callee → found ≡ Some callee
 callee_ok at None callee h = absurd (no_fault _ callee h)
@@ -127,14 +127,14 @@ brackets_sound env left p e r sound h =
 
 to_integer_sound : (env : Environment) (left : Bool) (p : place.Place) (to : Primitive) (k : Kind) (e : written.Expr) (u r : Typed) → HasType env false e (term_of u) → is_known u.ty ≡ true → ty_of to ≡ ty.Integer k → converting p.at (ty.Integer k) u ≡ Ok r → HasType env left (written.Convert p to e) (term_of r)
 to_integer_sound env left p to k e u r d known is h =
-    let j = bind_ok (integer_of u.at u.ty) (λ j. Ok (altered p.at k changes.Keep u)) r h in
-    at_ok (λ r. HasType env left (written.Convert p to e) (term_of r)) (altered p.at k changes.Keep u) r j.2 (to_integer d is (integer_ok u.at u.ty j.0 known j.1))
+    let j = bind_ok (integer_of u.at u.ty) (λ j. Ok (integer_at p.at k u)) r h in
+    at_ok (λ r. HasType env left (written.Convert p to e) (term_of r)) (integer_at p.at k u) r j.2 (to_integer d is (integer_ok u.at u.ty j.0 known j.1))
 
 convert_sound : (env : Environment) (left : Bool) (p : place.Place) (to : Primitive) (e : written.Expr) (u r : Typed) → HasType env false e (term_of u) → is_known u.ty ≡ true → convert_at p.at to u ≡ Ok r → HasType env left (written.Convert p to e) (term_of r)
 unfolding convert_at
 convert_sound env left p primitives.Bool e u r d known h =
-    let b = bind_ok (bool_of u.at u.ty) (λ yes. Ok (made p.at ty.Bool (Alter changes.Keep u.tree))) r h in
-    at_ok (λ r. HasType env left (written.Convert p primitives.Bool e) (term_of r)) (made p.at ty.Bool (Alter changes.Keep u.tree)) r b.2 (to_bool d refl (bool_ok u.at u.ty b.0 known b.1))
+    let b = bind_ok (bool_of u.at u.ty) (λ yes. Ok (made p.at ty.Bool u.tree)) r h in
+    at_ok (λ r. HasType env left (written.Convert p primitives.Bool e) (term_of r)) (made p.at ty.Bool u.tree) r b.2 (to_bool d refl (bool_ok u.at u.ty b.0 known b.1))
 convert_sound env left p _ e u r d known h = to_integer_sound env left p _ _ e u r d known refl h
 
 -- operators before an operand
@@ -147,18 +147,18 @@ counted_ok at step u (Some stands) r known h =
     (stands, refl, (k.0, integer_ok u.at u.ty k.0 known k.1, same_ok (made at (ty.Integer k.0) (Count stands k.0 step)) r k.2))
 
 handle_sound : (env : Environment) (left : Bool) (p : place.Place) (e : written.Expr) (u r : Typed) → HasType env false e (term_of u) → is_known u.ty ≡ true → handle_at left p.at u ≡ Ok r → HasType env left (written.Unary p unary.Handle e) (term_of r)
-handle_sound env true p e u r d known h = at_ok (λ r. HasType env true (written.Unary p unary.Handle e) (term_of r)) (record { at = p.at; ty = u.ty; alone = alone.Handle; tree = u.tree }) r h (handle_written d)
+handle_sound env true p e u r d known h = at_ok (λ r. HasType env true (written.Unary p unary.Handle e) (term_of r)) (record { at = p.at; ty = u.ty; form = handle_form u.form; tree = u.tree }) r h (handle_written d)
 handle_sound env false p e u r d known h =
-    let t = bind_ok (handle_of u.at u.ty) (λ t. Ok (made p.at t (Alter changes.Keep u.tree))) r h in
+    let t = bind_ok (handle_of u.at u.ty) (λ t. Ok (made p.at t u.tree)) r h in
     let o = object_ok u.at u.ty t.0 known t.1 in
-    at_ok (λ r. HasType env false (written.Unary p unary.Handle e) (term_of r)) (made p.at t.0 (Alter changes.Keep u.tree)) r t.2 (rw (← o.2) (handle d o.1))
+    at_ok (λ r. HasType env false (written.Unary p unary.Handle e) (term_of r)) (made p.at t.0 u.tree) r t.2 (rw (← o.2) (handle d o.1))
 
 unary_sound : (env : Environment) (left : Bool) (p : place.Place) (op : UnaryOp) (e : written.Expr) (u r : Typed) → HasType env false e (term_of u) → is_known u.ty ≡ true → unary_at left p.at op u ≡ Ok r → HasType env left (written.Unary p op e) (term_of r)
 unfolding unary_at
 unary_sound env left p unary.Plus e u r d known h =
-    let k = bind_ok (integer_of u.at u.ty) (λ k. Ok (altered p.at k changes.Keep u)) r h in
+    let k = bind_ok (integer_of u.at u.ty) (λ k. Ok (integer_at p.at k u)) r h in
     let is = integer_ok u.at u.ty k.0 known k.1 in
-    at_ok (λ r. HasType env left (written.Unary p unary.Plus e) (term_of r)) (altered p.at k.0 changes.Keep u) r k.2 (rw (unconverted k.0 (term_of u) is) (plus d is))
+    at_ok (λ r. HasType env left (written.Unary p unary.Plus e) (term_of r)) (integer_at p.at k.0 u) r k.2 (rw (unconverted k.0 (term_of u) is) (plus d is))
 unary_sound env left p unary.Minus e u r d known h =
     let k = bind_ok (integer_of u.at u.ty) (λ k. Ok (altered p.at (signed k) (changes.Negate (signed k)) u)) r h in
     at_ok (λ r. HasType env left (written.Unary p unary.Minus e) (term_of r)) (altered p.at (signed k.0) (changes.Negate (signed k.0)) u) r k.2 (minus d (integer_ok u.at u.ty k.0 known k.1))
@@ -170,10 +170,10 @@ unary_sound env left p unary.Not e u r d known h =
     let b = bind_ok (bool_of u.at u.ty) (λ yes. Ok (made p.at ty.Bool (Alter changes.Not u.tree))) r h in
     at_ok (λ r. HasType env left (written.Unary p unary.Not e) (term_of r)) (made p.at ty.Bool (Alter changes.Not u.tree)) r b.2 (not d (bool_ok u.at u.ty b.0 known b.1))
 unary_sound env left p unary.Increment e u r d known h =
-    let c = counted_ok p.at steps.Increment u (place_in u.tree) r known h in
+    let c = counted_ok p.at steps.Increment u (assignable u.form u.tree) r known h in
     subst (λ r. HasType env left (written.Unary p unary.Increment e) (term_of r)) ((c.2).2) (increment d c.1 ((c.2).1))
 unary_sound env left p unary.Decrement e u r d known h =
-    let c = counted_ok p.at steps.Decrement u (place_in u.tree) r known h in
+    let c = counted_ok p.at steps.Decrement u (assignable u.form u.tree) r known h in
     subst (λ r. HasType env left (written.Unary p unary.Decrement e) (term_of r)) ((c.2).2) (decrement d c.1 ((c.2).1))
 unary_sound env left p unary.Handle e u r d known h = handle_sound env left p e u r d known h
 
@@ -227,18 +227,18 @@ conditional_sound env left p c a b t x y r d f g known h =
 
 -- assignments
 
-assigned_ok : (t u : Typed) (op : AssignOp) (found : Option Place) (r : Typed) → assigned_to t op u found ≡ Ok r → (stands : Place) × (found ≡ Some stands) × ((is_stored t.alone t.ty ≡ true) × (stored t.at t.ty stands (operator_of op) u ≡ Ok r))
+assigned_ok : (t u : Typed) (op : AssignOp) (found : Option Place) (r : Typed) → assigned_to t op u found ≡ Ok r → (stands : Place) × (found ≡ Some stands) × ((is_stored t.form t.ty ≡ true) × (stored t.at t.ty stands (operator_of op) u ≡ Ok r))
 assigned_ok t u op None r h = absurd (no_fault _ r h)
-assigned_ok t u op (Some stands) r h = go (is_stored t.alone t.ty) refl h
+assigned_ok t u op (Some stands) r h = go (is_stored t.form t.ty) refl h
   where
-    go : (b : Bool) → is_stored t.alone t.ty ≡ b → cond b (stored t.at t.ty stands (operator_of op) u) (broken rules.NotAssignable t.at) ≡ Ok r → (s : Place) × (Some stands ≡ Some s) × ((is_stored t.alone t.ty ≡ true) × (stored t.at t.ty s (operator_of op) u ≡ Ok r))
+    go : (b : Bool) → is_stored t.form t.ty ≡ b → cond b (stored t.at t.ty stands (operator_of op) u) (broken rules.NotAssignable t.at) ≡ Ok r → (s : Place) × (Some stands ≡ Some s) × ((is_stored t.form t.ty ≡ true) × (stored t.at t.ty s (operator_of op) u ≡ Ok r))
     go true e h = (stands, refl, (e, h))
     go false e h = absurd (no_fault _ r h)
 
 plain_sound : (env : Environment) (left : Bool) (p : place.Place) (e v : written.Expr) (t u r : Typed) → HasType env true e (term_of t) → HasType env false v (term_of u) → assigned t assigns.Assign u ≡ Ok r → HasType env left (written.Assign p e assigns.Assign v) (term_of r)
 unfolding assigned stored
 plain_sound env left p e v t u r d f h =
-    let a = assigned_ok t u assigns.Assign (place_in t.tree) r h in
+    let a = assigned_ok t u assigns.Assign (assignable t.form t.tree) r h in
     let tree = bind_ok (fitted t.ty u) (λ e. Ok (made t.at t.ty (Assign a.0 e))) r ((a.2).1) in
     let fit = fitted_ok t.ty u tree.0 tree.1 in
     at_ok (λ r. HasType env left (written.Assign p e assigns.Assign v) (term_of r)) (made t.at t.ty (Assign a.0 tree.0)) r tree.2 (rw (← fit.1) (assign d a.1 ((a.2).0) f fit.0))
@@ -246,14 +246,14 @@ plain_sound env left p e v t u r d f h =
 update_sound : (env : Environment) (left : Bool) (p : place.Place) (op : AssignOp) (c : Calculator) (e v : written.Expr) (t u r : Typed) → operator_of op ≡ Some c → HasType env false e (term_of t) → HasType env false v (term_of u) → is_known t.ty ≡ true → is_known u.ty ≡ true → assigned t op u ≡ Ok r → HasType env left (written.Assign p e op v) (term_of r)
 unfolding assigned stored
 update_sound env left p op c e v t u r is d f known kept h =
-    let a = assigned_ok t u op (place_in t.tree) r h in
+    let a = assigned_ok t u op (assignable t.form t.tree) r h in
     let whole : updated t.at t.ty a.0 c u ≡ Ok r = subst (λ q. stored t.at t.ty a.0 q u ≡ Ok r) is ((a.2).1) in
     let m = bind_ok (met (binary_of c) (made t.at t.ty Null) u) (λ m. integer_of t.at t.ty >>= λ k. Ok (made t.at (ty.Integer k) (Update a.0 k (record { operator = c; of = integers_in m.operands }) m.right))) r whole in
     let k = bind_ok (integer_of t.at t.ty) (λ k. Ok (made t.at (ty.Integer k) (Update a.0 k (record { operator = c; of = integers_in (m.0).operands }) (m.0).right))) r m.2 in
     let i = integer_ok t.at t.ty k.0 known k.1 in
     let n = met_ok (binary_of c) (made t.at t.ty Null) u m.0 known kept m.1 in
     let integers : n.0 ≡ operands.Integers (integers_in n.0) = calculated_integers c _ _ n.0 n.1 in
-    let rule = update is d a.1 i f (subst (λ (o : Operands). Meet (binary_of c) (term t.ty Null) (term_of u) o) integers n.1) in
+    let rule = update is d a.1 ((a.2).0) i f (subst (λ (o : Operands). Meet (binary_of c) (term t.ty Null) (term_of u) o) integers n.1) in
     let back = subst (λ (o : Operands). HasType env left (written.Assign p e op v) (term t.ty (Update a.0 k.0 (record { operator = c; of = integers_in n.0 }) (right_of (binary_of c) o (term t.ty Null) (term_of u))))) (sym integers) rule in
     let kind = subst (λ of. HasType env left (written.Assign p e op v) (term of (Update a.0 k.0 (record { operator = c; of = integers_in n.0 }) (right_of (binary_of c) n.0 (term t.ty Null) (term_of u))))) i back in
     let all = subst (λ (m : Met). HasType env left (written.Assign p e op v) (term (ty.Integer k.0) (Update a.0 k.0 (record { operator = c; of = integers_in m.operands }) m.right))) n.2 kind in
@@ -265,11 +265,11 @@ assign_sound env left p _ e v t u r d f known kept h = update_sound env left p _
 
 -- suffixes
 
-member_ok : (t : Typed) (at : ℕ) (found : Option (Member × Ty)) (r : Typed) → member_at t at found ≡ Ok r → (m : Member × Ty) × (found ≡ Some m) × (made t.at m.1 (Read (Held t.tree m.0)) ≡ r)
+member_ok : (t : Typed) (at : ℕ) (found : Option (Member × Ty)) (r : Typed) → member_at t at found ≡ Ok r → (m : Member × Ty) × (found ≡ Some m) × (read_at t.at m.1 (Read (Held t.tree m.0)) ≡ r)
 member_ok t at None r h = absurd (no_fault _ r h)
 member_ok t at (Some m) r h = (m, refl, same_ok _ r h)
 
-field_ok : (env : Environment) (t : Typed) (of : Ty) (at : ℕ) (text : List ℕ) (r : Typed) → is_known of ≡ true → field_of env t of at text ≡ Ok r → (o : ObjectType) × (object_of of ≡ Some o) × ((m : Member × Ty) × (member_in env o text ≡ Some m) × (made t.at m.1 (Read (Held t.tree m.0)) ≡ r))
+field_ok : (env : Environment) (t : Typed) (of : Ty) (at : ℕ) (text : List ℕ) (r : Typed) → is_known of ≡ true → field_of env t of at text ≡ Ok r → (o : ObjectType) × (object_of of ≡ Some o) × ((m : Member × Ty) × (member_in env o text ≡ Some m) × (read_at t.at m.1 (Read (Held t.tree m.0)) ≡ r))
 unfolding field_of
 field_ok env t (ty.Object o) at text r known h = (o, refl, member_ok t at (member_in env o text) r h)
 field_ok env t (ty.Handle o) at text r known h = (o, refl, member_ok t at (member_in env o text) r h)
@@ -295,8 +295,8 @@ method_sound env t p text es r known all h =
     let a = bind_ok (all_typed env es) (λ ts. invoked t p.at ts m.0) r m.2 in
     let found = (i.2).0 in
     let called : invoked t p.at a.0 (Some found) ≡ Ok r = subst (λ m. invoked t p.at a.0 m ≡ Ok r) (sym ((i.2).2)) a.2 in
-    let b = bind_ok (arguments_at p.at found.parameters a.0) (λ es. Ok (made t.at found.result (Invoke t.tree found.method es))) r called in
-    at_ok (λ r. SuffixHasType env (term_of t) (written.Method p text es) (term_of r)) (made t.at found.result (Invoke t.tree found.method b.0)) r b.2 (method i.1 ((i.2).1) (all a.0 a.1) (arguments_ok p.at found.parameters a.0 b.0 b.1))
+    let b = bind_ok (arguments_at p.at found.parameters a.0) (λ es. Ok (made t.at found.result (Invoke t.tree found.method (map var_type found.parameters) es))) r called in
+    at_ok (λ r. SuffixHasType env (term_of t) (written.Method p text es) (term_of r)) (made t.at found.result (Invoke t.tree found.method (map var_type found.parameters) b.0)) r b.2 (method i.1 ((i.2).1) (all a.0 a.1) (arguments_ok p.at found.parameters a.0 b.0 b.1))
 
 -- the walk
 
@@ -357,8 +357,8 @@ mutual
   suffix_sound env known (written.Method p text es) t r kept h = method_sound env t p text es r kept (all_sound env known es) h
   suffix_sound env known (written.Index e) t r kept h = absurd (no_fault _ r h)
   suffix_sound env known written.Increment t r kept h =
-      let c = counted_ok t.at steps.IncrementAfter t (place_in t.tree) r kept h in
+      let c = counted_ok t.at steps.IncrementAfter t (assignable t.form t.tree) r kept h in
       subst (λ r. SuffixHasType env (term_of t) written.Increment (term_of r)) ((c.2).2) (increment_after c.1 ((c.2).1))
   suffix_sound env known written.Decrement t r kept h =
-      let c = counted_ok t.at steps.DecrementAfter t (place_in t.tree) r kept h in
+      let c = counted_ok t.at steps.DecrementAfter t (assignable t.form t.tree) r kept h in
       subst (λ r. SuffixHasType env (term_of t) written.Decrement (term_of r)) ((c.2).2) (decrement_after c.1 ((c.2).1))

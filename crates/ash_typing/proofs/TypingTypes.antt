@@ -1,7 +1,7 @@
--- A typed tree says its type: that of the term which the rules give.
+-- A typed tree says its type: that of the term which the rules give. What can be assigned has the tree of a read.
 use Rattle.std.specs.Option.{option_and_then, option_map, option_or}
 use Rattle.std.proofs.lemmas.Option.{none-some, same_Some}
-use Rattle.std.proofs.Common.{◌≡◌, ℕ, List, Bool, true, false, cond, Option, Some, None, IfSome, slice_get, refl, sym, ap, subst, ◌∙◌}
+use Rattle.std.proofs.Common.{◌≡◌, ℕ, List, Bool, true, false, cond, map, Option, Some, None, IfSome, slice_get, refl, sym, ap, subst, ◌∙◌}
 use Rattle.ash_tree.specs.declared.tree.operators.BinaryOp.{BinaryOp}
 use Rattle.ash_tree.specs.declared.tree.operators.BinaryOp.TheVariants as binary
 use Rattle.ash_tree.specs.Tree as written
@@ -10,8 +10,8 @@ use Rattle.ash_typed.specs.declared.types.Kind.{Kind}
 use Rattle.ash_typed.specs.declared.types.Kind.TheVariants as kinds
 use Rattle.ash_typed.specs.declared.types.ObjectType.{ObjectType}
 use Rattle.ash_typed.specs.declared.types.ObjectType.TheVariants.{Class as OfClass, Host as OfHost}
-use Rattle.ash_typed.specs.declared.types.Ty.{Ty}
-use Rattle.ash_typed.specs.declared.types.Ty.TheVariants as ty
+use Rattle.ash_typing.specs.declared.types.Ty.{Ty}
+use Rattle.ash_typing.specs.declared.types.Ty.TheVariants as ty
 use Rattle.ash_typed.specs.declared.tree.operations.Variable.TheVariants as variables
 use Rattle.ash_typed.specs.declared.tree.operations.Member.{Member}
 use Rattle.ash_typed.specs.declared.tree.operations.Member.TheVariants.{Field}
@@ -24,41 +24,45 @@ use Rattle.ash_typed.specs.declared.tree.operations.Operands.TheVariants as oper
 use Rattle.ash_typing.specs.declared.forms.Sort.{Sort}
 use Rattle.ash_typing.specs.declared.forms.Sort.TheVariants as sort
 use Rattle.ash_typed.specs.Tree.{Expr, Exprs, Number, Truth, Null, This, Read, Invoke, Convert, Alter, Operate, Conditional, Assign, Update, Count, Call, Place, Stored, Held, place_in, converted}
-use Rattle.ash_typed.specs.TypeOf.{type_of, type_of_place, type_of_member, result_of_method, result_of_target, kept, chosen_type}
-use Rattle.ash_typing.specs.Types.{is_same_kind, fits_object, common, object_of, meeting, sort_of, integers_in, meets, outcome, ty_of}
+use Rattle.ash_typed.specs.TypeOf.{type_of, type_of_place, type_of_member, result_of_method, result_of_target, value, given, kept, chosen_type}
+use Rattle.ash_typed.specs.declared.types.VarType.{VarType}
+use Rattle.ash_typed.specs.declared.types.VarType.TheVariants as vars
+use Rattle.ash_typing.specs.Types.{var_type, result_type, ty_of_var, value_type, is_same_kind, fits_object, common, object_of, meeting, sort_of, integers_in, meets, outcome, ty_of}
 use Rattle.ash_typing.specs.Environment.{Environment, Declared, Function, Class, Known, Callee, Invoked, first_from, last_named, declares, is_called, is_class, this_class, variable_in, callee_in, member_in, method_in, method_of_class, method_of_kind, host_member_in, service_function, host_type, host_method, property, named_in, own_method_in, class_in, function_in, field_in, local_in, own_field_in, global_in, callee_beside, class_method}
-use Rattle.ash_typing.specs.Expressions.{conversion, applied, call_of}
-use Rattle.ash_typing.specs.Typing.{IsKnown, is_known, Term, converted_to, HasType, LinksHaveType, SuffixesHaveType, SuffixHasType, number, truth, null, this, name, call, brackets, to_integer, to_bool, postfix, plus, minus, complement, not, increment, decrement, handle, handle_written, binary as operators, conditional, assign, update, no_more, operated, no_suffixes, suffixed, field, method, increment_after, decrement_after}
+use Rattle.ash_typing.specs.declared.forms.Form.{Form}
+use Rattle.ash_typing.specs.declared.forms.Form.TheVariants as form
+use Rattle.ash_typing.specs.Expressions.{conversion, applied, call_of, assignable, bracketed, handle_form}
+use Rattle.ash_typing.specs.Typing.{IsKnown, IsVariableType, IsResultType, is_known, Term, converted_to, IsRead, IsReadWherePlace, HasType, LinksHaveType, SuffixesHaveType, SuffixHasType, number, truth, null, this, name, call, brackets, to_integer, to_bool, postfix, plus, minus, complement, not, increment, decrement, handle, handle_written, binary as operators, conditional, assign, update, no_more, operated, no_suffixes, suffixed, field, method, increment_after, decrement_after}
 use Rattle.ash_typing.proofs.TypingWords.{arithmetic_integers, shift_integers}
-use Rattle.ash_typing.proofs.TypingKnown.{known_type, at_some, if_map, if_or, if_then, if_any, if_all}
+use Rattle.ash_typing.proofs.TypingKnown.{known_type, variable_known, callee_known, member_known, method_known, at_some, if_map, if_or, if_then, if_weaker, if_any, if_all}
 
 -- what names stand for
 
 abbrev IsTyped : Known → Type 0
-IsTyped known = type_of known.0 ≡ known.1
+IsTyped known = type_of known.0 ≡ value (kept (var_type known.1))
 
 abbrev IsTypedMember : Member × Ty → Type 0
-IsTypedMember found = type_of_member found.0 ≡ found.1
+IsTypedMember found = type_of_member found.0 ≡ var_type found.1
 
-abbrev result_of : Callable → Ty
+abbrev result_of : Callable → Option VarType
 result_of (callables.OwnMethod class place of) = of
 result_of (callables.Target target) = result_of_target target
 
 abbrev IsTypedCallee : Callee → Type 0
-IsTypedCallee callee = result_of callee.target ≡ callee.result
+IsTypedCallee callee = result_of callee.target ≡ result_type callee.result
 
 abbrev IsTypedMethod : Invoked → Type 0
-IsTypedMethod m = result_of_method m.method ≡ m.result
+IsTypedMethod m = result_of_method m.method ≡ result_type m.result
 
 field_type : (class : ℕ) (c : Class) (text : List ℕ) → IfSome (field_in class c text) IsTypedMember
-field_type class c text = if_map IsTypedMember (λ (found : ℕ × Declared). (Field class found.0 found.1.of, found.1.of)) (first_from (declares text) 0 c.fields) (if_all (first_from (declares text) 0 c.fields) (λ found. refl))
+field_type class c text = if_map IsTypedMember (λ (found : ℕ × Declared). (Field class found.0 (var_type found.1.of), found.1.of)) (first_from (declares text) 0 c.fields) (if_all (first_from (declares text) 0 c.fields) (λ found. refl))
 
 variable_type : (env : Environment) (text : List ℕ) → IfSome (variable_in env text) IsTyped
 unfolding variable_in
 variable_type env text =
-    let local = if_map IsTyped (λ (found : ℕ × Ty). (Read (Stored (variables.Local found.0 found.1)), found.1)) (last_named text 0 None env.locals) (if_all (last_named text 0 None env.locals) (λ found. refl)) in
-    let own = if_any IsTyped (λ (c : ℕ × Class). option_map (λ (found : Member × Ty). (Read (Held (This c.0) found.0), found.1)) (field_in c.0 c.1 text)) (this_class env) (λ c. if_map IsTyped (λ (found : Member × Ty). (Read (Held (This c.0) found.0), found.1)) (field_in c.0 c.1 text) (field_type c.0 c.1 text)) in
-    let global = if_map IsTyped (λ (found : ℕ × Declared). (Read (Stored (variables.Global found.0 found.1.of)), found.1.of)) (first_from (declares text) 0 env.heads.globals) (if_all (first_from (declares text) 0 env.heads.globals) (λ found. refl)) in
+    let local = if_map IsTyped (λ (found : ℕ × Ty). (Read (Stored (variables.Local found.0 (var_type found.1))), found.1)) (last_named text 0 None env.locals) (if_all (last_named text 0 None env.locals) (λ found. refl)) in
+    let own = if_any IsTyped (λ (c : ℕ × Class). option_map (λ (found : Member × Ty). (Read (Held (This c.0) found.0), found.1)) (field_in c.0 c.1 text)) (this_class env) (λ c. if_map IsTyped (λ (found : Member × Ty). (Read (Held (This c.0) found.0), found.1)) (field_in c.0 c.1 text) (if_weaker (field_in c.0 c.1 text) (λ found h. ap (λ (of : VarType). value (kept of)) h) (field_type c.0 c.1 text))) in
+    let global = if_map IsTyped (λ (found : ℕ × Declared). (Read (Stored (variables.Global found.0 (var_type found.1.of))), found.1.of)) (first_from (declares text) 0 env.heads.globals) (if_all (first_from (declares text) 0 env.heads.globals) (λ found. refl)) in
     if_or IsTyped (local_in env.locals text) (option_or (own_field_in env text) (global_in env.heads.globals text)) local (if_or IsTyped (own_field_in env text) (global_in env.heads.globals text) own global)
 
 service_type : (call : host.Call) → IfSome (service_function call) IsTypedCallee
@@ -70,7 +74,7 @@ host_result calls (host.AType text kind) = refl
 host_result calls _ = tt
 
 property_type : (call : host.Call) → IfSome (property call) IsTypedMember
-property_type (host.AProperty of id value text) = refl
+property_type (host.AProperty of id primitive text) = refl
 property_type _ = tt
 
 host_method_type : (call : host.Call) → IfSome (host_method call) IsTypedMethod
@@ -80,8 +84,8 @@ host_method_type _ = tt
 callee_type : (env : Environment) (text : List ℕ) → IfSome (callee_in env text) IsTypedCallee
 unfolding callee_in
 callee_type env text =
-    let own = if_any IsTypedCallee (λ (c : ℕ × Class). option_map (λ (found : ℕ × Function). record { target = callables.OwnMethod c.0 found.0 found.1.result; result = found.1.result; parameters = Some found.1.parameters }) (first_from (is_called text) 0 c.1.methods)) (this_class env) (λ c. if_map IsTypedCallee (λ (found : ℕ × Function). record { target = callables.OwnMethod c.0 found.0 found.1.result; result = found.1.result; parameters = Some found.1.parameters }) (first_from (is_called text) 0 c.1.methods) (if_all (first_from (is_called text) 0 c.1.methods) (λ found. refl))) in
-    let function = if_map IsTypedCallee (λ (found : ℕ × Function). record { target = callables.Target (targets.Function found.0 found.1.result); result = found.1.result; parameters = Some found.1.parameters }) (first_from (is_called text) 0 env.heads.functions) (if_all (first_from (is_called text) 0 env.heads.functions) (λ found. refl)) in
+    let own = if_any IsTypedCallee (λ (c : ℕ × Class). option_map (λ (found : ℕ × Function). record { target = callables.OwnMethod c.0 found.0 (result_type found.1.result); result = found.1.result; parameters = Some found.1.parameters }) (first_from (is_called text) 0 c.1.methods)) (this_class env) (λ c. if_map IsTypedCallee (λ (found : ℕ × Function). record { target = callables.OwnMethod c.0 found.0 (result_type found.1.result); result = found.1.result; parameters = Some found.1.parameters }) (first_from (is_called text) 0 c.1.methods) (if_all (first_from (is_called text) 0 c.1.methods) (λ found. refl))) in
+    let function = if_map IsTypedCallee (λ (found : ℕ × Function). record { target = callables.Target (targets.Function found.0 (result_type found.1.result)); result = found.1.result; parameters = Some found.1.parameters }) (first_from (is_called text) 0 env.heads.functions) (if_all (first_from (is_called text) 0 env.heads.functions) (λ found. refl)) in
     let service = if_any IsTypedCallee service_function (named_in env.registered text) service_type in
     let class = if_map IsTypedCallee (λ (found : ℕ × Class). record { target = callables.Target (targets.Class found.0); result = ty.Handle (OfClass found.0); parameters = Some found.1.parameters }) (first_from (is_class text) 0 env.heads.classes) (if_all (first_from (is_class text) 0 env.heads.classes) (λ found. refl)) in
     let kind = if_any IsTypedCallee (host_type env.registered) (named_in env.registered text) (host_result env.registered) in
@@ -94,12 +98,36 @@ member_type env (OfHost i) text = if_any IsTypedMember property (host_member_in 
 
 method_type : (env : Environment) (o : ObjectType) (text : List ℕ) → IfSome (method_in env o text) IsTypedMethod
 unfolding method_in method_of_class method_of_kind
-method_type env (OfClass i) text = if_any IsTypedMethod (class_method i text) (slice_get env.heads.classes i) (λ c. if_map IsTypedMethod (λ (found : ℕ × Function). record { method = methods.Script i found.0 found.1.result; result = found.1.result; parameters = found.1.parameters }) (first_from (is_called text) 0 c.methods) (if_all (first_from (is_called text) 0 c.methods) (λ found. refl)))
+method_type env (OfClass i) text = if_any IsTypedMethod (class_method i text) (slice_get env.heads.classes i) (λ c. if_map IsTypedMethod (λ (found : ℕ × Function). record { method = methods.Script i found.0 (result_type found.1.result); result = found.1.result; parameters = found.1.parameters }) (first_from (is_called text) 0 c.methods) (if_all (first_from (is_called text) 0 c.methods) (λ found. refl)))
 method_type env (OfHost i) text = if_any IsTypedMethod host_method (host_member_in env.registered i text) host_method_type
 
-call_type : (c : Callable) (es : Exprs) → type_of (call_of c es) ≡ result_of c
-call_type (callables.OwnMethod class place of) es = refl
-call_type (callables.Target target) es = refl
+call_type : (c : Callable) (parameters : List VarType) (es : Exprs) → type_of (call_of c parameters es) ≡ given (result_of c)
+call_type (callables.OwnMethod class place of) parameters es = refl
+call_type (callables.Target target) parameters es = refl
+
+-- types of variables and results
+
+variable_value : (of : Ty) → IsVariableType of → value (kept (var_type of)) ≡ value_type of
+variable_value ty.Void h = cc
+variable_value ty.Null h = cc
+variable_value ty.Unknown h = cc
+variable_value _ h = refl
+
+result_value : (of : Ty) → IsResultType of → given (result_type of) ≡ value_type of
+result_value ty.Void h = refl
+result_value ty.Null h = cc
+result_value ty.Unknown h = cc
+result_value _ h = refl
+
+pub variable_written : (of : Ty) → IsVariableType of → ty_of_var (var_type of) ≡ of
+variable_written ty.Void h = cc
+variable_written ty.Null h = cc
+variable_written ty.Unknown h = cc
+variable_written _ h = refl
+
+pub variable_read_back : (of : VarType) → var_type (ty_of_var of) ≡ of
+variable_read_back vars.Bool = refl
+variable_read_back _ = refl
 
 -- conversions
 
@@ -121,28 +149,33 @@ equal_kinds kinds.Uint64 kinds.Uint h = absurd (cc)
 equal_kinds kinds.Uint64 kinds.Int64 h = absurd (cc)
 equal_kinds kinds.Uint64 kinds.Uint64 h = refl
 
-converted_if : (j k : Kind) (tree : Expr) (b : Bool) → is_same_kind j k ≡ b → type_of tree ≡ ty.Integer j → type_of (converted (cond b None (Some (record { from = j; to = k }))) tree) ≡ ty.Integer k
-converted_if j k tree true h i = i ∙ ap (λ (x : Kind). ty.Integer x) (equal_kinds j k h)
+converted_if : (j k : Kind) (tree : Expr) (b : Bool) → is_same_kind j k ≡ b → type_of tree ≡ value (vars.Integer j) → type_of (converted (cond b None (Some (record { from = j; to = k }))) tree) ≡ value (vars.Integer k)
+converted_if j k tree true h i = i ∙ ap (λ (x : Kind). value (vars.Integer x)) (equal_kinds j k h)
 converted_if j k tree false h i = refl
 
-integer_converted : (k j : Kind) (tree : Expr) → type_of tree ≡ ty.Integer j → type_of (converted (conversion (ty.Integer k) (ty.Integer j)) tree) ≡ ty.Integer k
+integer_converted : (k j : Kind) (tree : Expr) → type_of tree ≡ value (vars.Integer j) → type_of (converted (conversion (ty.Integer k) (ty.Integer j)) tree) ≡ value (vars.Integer k)
 integer_converted k j tree h = converted_if j k tree (is_same_kind j k) refl h
 
-converted_type : (k j : Kind) (t : Term) → type_of t.tree ≡ t.ty → t.ty ≡ ty.Integer j → type_of (converted_to (ty.Integer k) t) ≡ ty.Integer k
-converted_type k j t h i = rw i (integer_converted k j t.tree (h ∙ i))
+converted_type : (k j : Kind) (t : Term) → type_of t.tree ≡ value_type t.ty → t.ty ≡ ty.Integer j → type_of (converted_to (ty.Integer k) t) ≡ value (vars.Integer k)
+converted_type k j t h i = rw i (integer_converted k j t.tree (h ∙ ap value_type i))
 
 -- places
 
-place_type : (e : Expr) (at : Place) → place_in e ≡ Some at → type_of e ≡ type_of_place at
-place_type (Read p) at h = ap type_of_place (same_Some p at h)
+place_type : (e : Expr) (at : Place) → place_in e ≡ Some at → type_of e ≡ value (kept (type_of_place at))
+place_type (Read p) at h = ap (λ (p : Place). value (kept (type_of_place p))) (same_Some p at h)
 place_type _ at h = absurd (none-some at h)
+
+assigned_type : (f : Form) (e : Expr) (at : Place) → assignable f e ≡ Some at → type_of e ≡ value (kept (type_of_place at))
+assigned_type form.Place e at h = place_type e at h
+assigned_type form.HandlePlace e at h = place_type e at h
+assigned_type _ e at h = absurd (none-some at h)
 
 -- operators
 
-calculated_type : (s : Sort) (o : Operands) → ((k : Kind) → outcome s (operands.Integers k) ≡ ty.Integer k) → o ≡ operands.Integers (integers_in o) → ty.Integer (integers_in o) ≡ outcome s o
-calculated_type s o h e = sym (ap (outcome s) e ∙ h (integers_in o))
+calculated_type : (s : Sort) (o : Operands) → ((k : Kind) → outcome s (operands.Integers k) ≡ ty.Integer k) → o ≡ operands.Integers (integers_in o) → value (vars.Integer (integers_in o)) ≡ value_type (outcome s o)
+calculated_type s o h e = ap value_type (sym (ap (outcome s) e ∙ h (integers_in o)))
 
-applied_type : (op : BinaryOp) (o : Operands) (a b : Expr) (x y : Ty) → meets (sort_of op) x y ≡ Some o → type_of (applied op o a b) ≡ outcome (sort_of op) o
+applied_type : (op : BinaryOp) (o : Operands) (a b : Expr) (x y : Ty) → meets (sort_of op) x y ≡ Some o → type_of (applied op o a b) ≡ value_type (outcome (sort_of op) o)
 applied_type binary.Multiply o a b x y h = calculated_type sort.Arithmetic o (λ k. refl) (arithmetic_integers x y o h)
 applied_type binary.Divide o a b x y h = calculated_type sort.Arithmetic o (λ k. refl) (arithmetic_integers x y o h)
 applied_type binary.Remainder o a b x y h = calculated_type sort.Arithmetic o (λ k. refl) (arithmetic_integers x y o h)
@@ -166,9 +199,9 @@ applied_type binary.Xor o a b x y h = refl
 applied_type binary.And o a b x y h = refl
 applied_type binary.Or o a b x y h = refl
 
-kept_type : (of : Ty) (o : ObjectType) → object_of of ≡ Some o → kept of ≡ ty.Handle o
-kept_type (ty.Object p) o h = ap ty.Handle (same_Some p o h)
-kept_type (ty.Handle p) o h = ap ty.Handle (same_Some p o h)
+kept_type : (of : Ty) (o : ObjectType) → object_of of ≡ Some o → value_type of ≡ value (vars.Handle o)
+kept_type (ty.Object p) o h = ap (λ (x : ObjectType). value (vars.Handle x)) (same_Some p o h)
+kept_type (ty.Handle p) o h = ap (λ (x : ObjectType). value (vars.Handle x)) (same_Some p o h)
 kept_type _ o h = absurd (none-some o h)
 
 -- branches
@@ -178,9 +211,9 @@ handle_chosen true o of h = same_Some (ty.Handle o) of h
 handle_chosen false o of h = absurd (none-some of h)
 
 abbrev Chosen : Ty → Ty → Expr → Expr → Ty → Type 0
-Chosen a b s t of = chosen_type (type_of (converted (conversion of a) s)) (type_of (converted (conversion of b) t)) ≡ of
+Chosen a b s t of = chosen_type (type_of (converted (conversion of a) s)) (type_of (converted (conversion of b) t)) ≡ value_type of
 
-chosen_is : (a b of : Ty) (s t : Expr) → is_known a ≡ true → is_known b ≡ true → type_of s ≡ a → type_of t ≡ b → common a b ≡ Some of → Chosen a b s t of
+chosen_is : (a b of : Ty) (s t : Expr) → is_known a ≡ true → is_known b ≡ true → type_of s ≡ value_type a → type_of t ≡ value_type b → common a b ≡ Some of → Chosen a b s t of
 chosen_is ty.Unknown b of s t h k i j c = absurd (cc)
 chosen_is (ty.Object o) b of s t h k i j c = subst (Chosen (ty.Object o) b s t) (handle_chosen (fits_object o b) o of c) (rw i refl)
 chosen_is (ty.Handle o) b of s t h k i j c = subst (Chosen (ty.Handle o) b s t) (handle_chosen (fits_object o b) o of c) (rw i refl)
@@ -194,40 +227,86 @@ chosen_is a b of s t h k i j c = absurd (none-some of c)
 -- expressions
 
 mutual
-  pub type_is : {env : Environment} {left : Bool} {e : written.Expr} {t : Term} → HasType env left e t → IsKnown env → type_of t.tree ≡ t.ty
+  pub type_is : {env : Environment} {left : Bool} {e : written.Expr} {t : Term} → HasType env left e t → IsKnown env → type_of t.tree ≡ value_type t.ty
   type_is number known = refl
   type_is truth known = refl
   type_is null known = refl
   type_is (this h) known = refl
-  type_is {env} (name {text = text} {known = found} h) known = at_some IsTyped (variable_in env text) found (variable_type env text) h
-  type_is {env} (call {text = text} {callee = callee} {trees = trees} c q all args) known = call_type callee.target trees ∙ at_some IsTypedCallee (callee_in env text) callee (callee_type env text) c
+  type_is {env} (name {text = text} {known = found} h) known = at_some IsTyped (variable_in env text) found (variable_type env text) h ∙ variable_value found.1 (at_some (λ found. IsVariableType found.1) (variable_in env text) found (variable_known env text known) h)
+  type_is {env} (call {text = text} {callee = callee} {parameters = parameters} {trees = trees} c q all args) known = call_type callee.target (map var_type parameters) trees ∙ ap given (at_some IsTypedCallee (callee_in env text) callee (callee_type env text) c) ∙ result_value callee.result (at_some (λ callee. IsResultType callee.result) (callee_in env text) callee (callee_known env text known) c)
   type_is (brackets h) known = type_is h known
-  type_is (to_integer {t = t} {j = j} {k = k} h i l) known = ap kept (converted_type k j t (type_is h known) l)
-  type_is (to_bool h i l) known = ap kept (type_is h known ∙ l)
+  type_is (to_integer {t = t} {j = j} {k = k} h i l) known = converted_type k j t (type_is h known) l
+  type_is (to_bool h i l) known = type_is h known ∙ ap value_type l
   type_is (postfix h ss) known = suffixes_type ss known (type_is h known)
-  type_is (plus h i) known = ap kept (type_is h known ∙ i)
+  type_is (plus h i) known = type_is h known ∙ ap value_type i
   type_is (minus h i) known = refl
   type_is (complement h i) known = refl
   type_is (not h i) known = refl
   type_is (increment h i l) known = refl
   type_is (decrement h i l) known = refl
-  type_is (handle {t = t} {o = o} h i) known = ap kept (type_is h known) ∙ kept_type t.ty o i
+  type_is (handle {t = t} {o = o} h i) known = type_is h known ∙ kept_type t.ty o i
   type_is (handle_written h) known = type_is h known
   type_is (operators h ls) known = links_type ls known (type_is h known)
   type_is (conditional {x = x} {y = y} {of = of} h i k l m) known = chosen_is x.ty y.ty of x.tree y.tree (known_type k known) (known_type l known) (type_is k known) (type_is l known) m
-  type_is (assign {t = t} {at = at} h i s k l) known = sym (place_type t.tree at i) ∙ type_is h known
-  type_is (update f h i l m n) known = sym l
+  type_is (assign {t = t} {at = at} h i s k l) known = sym (assigned_type t.form t.tree at i) ∙ type_is h known
+  type_is (update f h i s l m n) known = ap value_type (sym l)
 
-  links_type : {env : Environment} {t : Term} {ls : written.Links} {u : Term} → LinksHaveType env t ls u → IsKnown env → type_of t.tree ≡ t.ty → type_of u.tree ≡ u.ty
+  links_type : {env : Environment} {t : Term} {ls : written.Links} {u : Term} → LinksHaveType env t ls u → IsKnown env → type_of t.tree ≡ value_type t.ty → type_of u.tree ≡ value_type u.ty
   links_type no_more known h = h
   links_type (operated {op = op} {o = o} e m rest) known h = links_type rest known (applied_type op o _ _ _ _ m)
 
-  suffixes_type : {env : Environment} {t : Term} {ss : written.Suffixes} {u : Term} → SuffixesHaveType env t ss u → IsKnown env → type_of t.tree ≡ t.ty → type_of u.tree ≡ u.ty
+  suffixes_type : {env : Environment} {t : Term} {ss : written.Suffixes} {u : Term} → SuffixesHaveType env t ss u → IsKnown env → type_of t.tree ≡ value_type t.ty → type_of u.tree ≡ value_type u.ty
   suffixes_type no_suffixes known h = h
   suffixes_type (suffixed s rest) known h = suffixes_type rest known (suffix_type s known)
 
-  suffix_type : {env : Environment} {t : Term} {s : written.Suffix} {u : Term} → SuffixHasType env t s u → IsKnown env → type_of u.tree ≡ u.ty
-  suffix_type {env} (field {text = text} {o = o} {found = found} h i) known = at_some IsTypedMember (member_in env o text) found (member_type env o text) i
-  suffix_type {env} (method {text = text} {o = o} {m = m} h i all args) known = at_some IsTypedMethod (method_in env o text) m (method_type env o text) i
+  suffix_type : {env : Environment} {t : Term} {s : written.Suffix} {u : Term} → SuffixHasType env t s u → IsKnown env → type_of u.tree ≡ value_type u.ty
+  suffix_type {env} (field {text = text} {o = o} {found = found} h i) known = ap (λ (of : VarType). value (kept of)) (at_some IsTypedMember (member_in env o text) found (member_type env o text) i) ∙ variable_value found.1 (at_some (λ found. IsVariableType found.1) (member_in env o text) found (member_known env o text known) i)
+  suffix_type {env} (method {text = text} {o = o} {m = m} h i all args) known = ap given (at_some IsTypedMethod (method_in env o text) m (method_type env o text) i) ∙ result_value m.result (at_some (λ m. IsResultType m.result) (method_in env o text) m (method_known env o text known) i)
   suffix_type (increment_after h i) known = refl
   suffix_type (decrement_after h i) known = refl
+
+-- what can be assigned
+
+abbrev IsReadTerm : Term → Type 0
+IsReadTerm t = IsReadWherePlace t.form t.tree
+
+abbrev IsReadName : Known → Type 0
+IsReadName known = IsRead known.0
+
+variable_read : (env : Environment) (text : List ℕ) → IfSome (variable_in env text) IsReadName
+unfolding variable_in
+variable_read env text =
+    let local = if_map IsReadName (λ (found : ℕ × Ty). (Read (Stored (variables.Local found.0 (var_type found.1))), found.1)) (last_named text 0 None env.locals) (if_all (last_named text 0 None env.locals) (λ found. (_, refl))) in
+    let own = if_any IsReadName (λ (c : ℕ × Class). option_map (λ (found : Member × Ty). (Read (Held (This c.0) found.0), found.1)) (field_in c.0 c.1 text)) (this_class env) (λ c. if_map IsReadName (λ (found : Member × Ty). (Read (Held (This c.0) found.0), found.1)) (field_in c.0 c.1 text) (if_all (field_in c.0 c.1 text) (λ found. (_, refl)))) in
+    let global = if_map IsReadName (λ (found : ℕ × Declared). (Read (Stored (variables.Global found.0 (var_type found.1.of))), found.1.of)) (first_from (declares text) 0 env.heads.globals) (if_all (first_from (declares text) 0 env.heads.globals) (λ found. (_, refl))) in
+    if_or IsReadName (local_in env.locals text) (option_or (own_field_in env text) (global_in env.heads.globals text)) local (if_or IsReadName (own_field_in env text) (global_in env.heads.globals text) own global)
+
+bracketed_read : (f : Form) (tree : Expr) → IsReadWherePlace f tree → IsReadWherePlace (bracketed f) tree
+bracketed_read form.Place tree h = h
+bracketed_read _ tree h = tt
+
+handle_read : (f : Form) (tree : Expr) → IsReadWherePlace f tree → IsReadWherePlace (handle_form f) tree
+handle_read form.Place tree h = h
+handle_read _ tree h = tt
+
+suffix_read : {env : Environment} {t : Term} {s : written.Suffix} {u : Term} → SuffixHasType env t s u → IsReadTerm u
+suffix_read (field h i) = (_, refl)
+suffix_read (method h i all args) = tt
+suffix_read (increment_after h i) = tt
+suffix_read (decrement_after h i) = tt
+
+suffixes_read : {env : Environment} {t : Term} {ss : written.Suffixes} {u : Term} → SuffixesHaveType env t ss u → IsReadTerm t → IsReadTerm u
+suffixes_read no_suffixes h = h
+suffixes_read (suffixed s rest) h = suffixes_read rest (suffix_read s)
+
+links_read : {env : Environment} {t : Term} {ls : written.Links} {u : Term} → LinksHaveType env t ls u → IsReadTerm t → IsReadTerm u
+links_read no_more h = h
+links_read (operated e m rest) h = links_read rest tt
+
+pub read_is : {env : Environment} {left : Bool} {e : written.Expr} {t : Term} → HasType env left e t → IsReadTerm t
+read_is {env} (name {text = text} {known = found} h) = at_some IsReadName (variable_in env text) found (variable_read env text) h
+read_is (brackets {t = t} h) = bracketed_read t.form t.tree (read_is h)
+read_is (postfix h ss) = suffixes_read ss (read_is h)
+read_is (handle_written {t = t} h) = handle_read t.form t.tree (read_is h)
+read_is (operators h ls) = links_read ls (read_is h)
+read_is _ = tt

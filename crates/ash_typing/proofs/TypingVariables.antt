@@ -1,10 +1,10 @@
 -- What variables begin with, by the rules and by the walk.
-use Rattle.std.proofs.Common.{◌≡◌, ℕ, List, [], ◌∷◌, true, false, Option, Some, None, Ok, refl, sym, ap, ◌∙◌, subst}
+use Rattle.std.proofs.Common.{◌≡◌, ℕ, List, [], ◌∷◌, map, true, false, Option, Some, None, Ok, refl, sym, ap, ◌∙◌, subst}
 use Rattle.ash_tree.specs.Tree as written
 use Rattle.ash_typed.specs.declared.types.ObjectType.{ObjectType}
-use Rattle.ash_typed.specs.declared.types.Ty.{Ty}
-use Rattle.ash_typed.specs.declared.types.Ty.TheVariants as ty
-use Rattle.ash_typing.specs.Types.{fits, object_of}
+use Rattle.ash_typing.specs.declared.types.Ty.{Ty}
+use Rattle.ash_typing.specs.declared.types.Ty.TheVariants as ty
+use Rattle.ash_typing.specs.Types.{var_type, fits, object_of}
 use Rattle.ash_typed.specs.Tree.{Expr, Exprs, Call}
 use Rattle.ash_typing.specs.Environment.{Environment, Callee}
 use Rattle.ash_typing.specs.Expressions.{Typed, typed, all_typed, fitted, called, call_of}
@@ -16,7 +16,7 @@ use Rattle.ash_typing.proofs.TypingSound.{at_ok, fitted_ok, called_ok, sound, al
 
 -- what begins by the rules begins so in the walk
 
-built_is : (env : Environment) (at : ℕ) (o : ObjectType) (us : List Typed) (callee : Callee) (parameters : List Ty) (trees : Exprs) → construction env o ≡ Some callee → callee.parameters ≡ Some parameters → AreArguments parameters (terms us) trees → constructed at us (construction env o) ≡ Ok (Some (call_of callee.target trees))
+built_is : (env : Environment) (at : ℕ) (o : ObjectType) (us : List Typed) (callee : Callee) (parameters : List Ty) (trees : Exprs) → construction env o ≡ Some callee → callee.parameters ≡ Some parameters → AreArguments parameters (terms us) trees → constructed at us (construction env o) ≡ Ok (Some (call_of callee.target (map var_type parameters) trees))
 unfolding constructed called
 built_is env at o us callee parameters trees c p a = rw (c, p, arguments_is at parameters us trees a) refl
 
@@ -62,7 +62,7 @@ constructed_ok env at o us None begins e h = absurd (no_fault _ begins h)
 constructed_ok env at o us (Some callee) begins e h =
     let t = bind_ok (called at callee us callee.parameters) (λ t. Ok (built t)) begins h in
     let c = called_ok at callee us callee.parameters t.0 t.1 in
-    (call_of callee.target ((c.2).0), construct e c.1 ((c.2).1), ap (λ (t : Typed). built t) ((c.2).2) ∙ same_ok (built t.0) begins t.2)
+    (call_of callee.target (map var_type c.0) ((c.2).0), construct e c.1 ((c.2).1), ap (λ (t : Typed). built t) ((c.2).2) ∙ same_ok (built t.0) begins t.2)
 
 begun_sound : (env : Environment) (at : ℕ) (of : Ty) (begins : Option Expr) → begun env at of ≡ Ok begins → BeginsWith env of written.Default begins
 unfolding begun

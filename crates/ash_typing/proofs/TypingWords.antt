@@ -5,12 +5,12 @@ use Rattle.ash_tree.specs.declared.tree.operators.BinaryOp.{BinaryOp}
 use Rattle.ash_typing.specs.declared.fault.Fault.{Fault}
 use Rattle.ash_typed.specs.declared.types.Kind.{Kind}
 use Rattle.ash_typed.specs.declared.types.Kind.TheVariants as kinds
-use Rattle.ash_typed.specs.declared.types.Ty.{Ty}
-use Rattle.ash_typed.specs.declared.types.Ty.TheVariants as ty
+use Rattle.ash_typing.specs.declared.types.Ty.{Ty}
+use Rattle.ash_typing.specs.declared.types.Ty.TheVariants as ty
 use Rattle.ash_typing.specs.declared.forms.Sort.{Sort}
 use Rattle.ash_typing.specs.declared.forms.Sort.TheVariants as sort
-use Rattle.ash_typing.specs.declared.forms.Alone.{Alone}
-use Rattle.ash_typing.specs.declared.forms.Alone.TheVariants as alone
+use Rattle.ash_typing.specs.declared.forms.Form.{Form}
+use Rattle.ash_typing.specs.declared.forms.Form.TheVariants as form
 use Rattle.ash_typed.specs.declared.tree.operations.Calculator.{Calculator}
 use Rattle.ash_typed.specs.declared.tree.operations.Calculator.TheVariants as calculators
 use Rattle.ash_typed.specs.declared.tree.operations.Operands.{Operands}
@@ -61,15 +61,15 @@ placed_if : (b : Bool) (at : ℕ) (t u : Term) → cond b (placed at t) (placed 
 placed_if true at t u = refl
 placed_if false at t u = refl
 
-pub taking_is : (a : Alone) (of : Ty) (b : Alone) (at : ℕ) (t : Term) → adapted_to a of b (placed at t) ≡ placed at (taking a of b t)
-taking_is (alone.Number m) of (alone.Number n) at t = refl
-taking_is a (ty.Integer k) (alone.Number n) at t = placed_if (holds k n) at (record { ty = ty.Integer k; alone = alone.Number n; tree = Number k n }) t
+pub taking_is : (a : Form) (of : Ty) (b : Form) (at : ℕ) (t : Term) → adapted_to a of b (placed at t) ≡ placed at (taking a of b t)
+taking_is (form.Number m) of (form.Number n) at t = refl
+taking_is a (ty.Integer k) (form.Number n) at t = placed_if (holds k n) at (record { ty = ty.Integer k; form = form.Number n; tree = Number k n }) t
 taking_is a of b at t = refl
 
-pub beside_is : (s : Sort) (other t : Term) (at : ℕ) → adapted s other.alone other.ty (placed at t) ≡ placed at (beside s other t)
+pub beside_is : (s : Sort) (other t : Term) (at : ℕ) → adapted s other.form other.ty (placed at t) ≡ placed at (beside s other t)
 unfolding adapted
 beside_is sort.Shift other t at = refl
-beside_is _ other t at = taking_is other.alone other.ty t.alone at t
+beside_is _ other t at = taking_is other.form other.ty t.form at t
 
 pub known_alone : (s : Sort) (beside of : Ty) → is_known of ≡ true → assumed s beside of ≡ of
 known_alone sort.Equality ty.Bool ty.Unknown h = cc

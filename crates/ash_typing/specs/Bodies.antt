@@ -1,7 +1,7 @@
 -- The typing of the body of a function.
 use Rattle.std.specs.Prelude.{List, Bool, false}
 use Rattle.ash_tree.specs.Tree as written
-use Rattle.ash_typed.specs.declared.types.Ty.{Ty}
+use Rattle.ash_typing.specs.declared.types.Ty.{Ty}
 use Rattle.ash_typing.specs.Checking.{Checking}
 pub use Rattle.ash_typed.specs.StatementTree.{Body}
 use Rattle.ash_typing.specs.Environment.{Environment}

@@ -6,12 +6,13 @@ use Rattle.ash_tree.specs.Tree as written
 use Rattle.ash_typing.specs.declared.fault.Rule.TheVariants.{UnknownType, TypeMismatch, NotAssignable, NoFactory}
 use Rattle.ash_typed.specs.declared.types.ObjectType.{ObjectType}
 use Rattle.ash_typed.specs.declared.types.ObjectType.TheVariants.{Class as OfClass, Host as OfHost}
-use Rattle.ash_typed.specs.declared.types.Ty.{Ty}
-use Rattle.ash_typed.specs.declared.types.Ty.TheVariants as ty
+use Rattle.ash_typing.specs.declared.types.Ty.{Ty}
+use Rattle.ash_typing.specs.declared.types.Ty.TheVariants as ty
 use Rattle.ash_typed.specs.declared.tree.operations.Target.TheVariants as targets
 use Rattle.ash_typing.specs.declared.forms.Callable.TheVariants as callables
 use Rattle.ash_typing.specs.Checking.{Checking, ◌>>=◌, broken}
 use Rattle.ash_typed.specs.Tree.{Expr}
+use Rattle.ash_typing.specs.Types.{var_type}
 use Rattle.ash_typing.specs.Environment.{Environment, Class, Callee, host_type}
 use Rattle.ash_typing.specs.Heads.{ty_named}
 pub use Rattle.ash_typed.specs.StatementTree.{Initialization}
@@ -34,7 +35,7 @@ known_ty at t = Ok t
 -- what they begin with
 
 abbrev pub initialization : List ℕ → Ty → Option Expr → Initialization
-initialization name of value = record { name = name; of = of; value = value }
+initialization name of value = record { name = name; of = var_type of; value = value }
 
 -- objects are constructed
 

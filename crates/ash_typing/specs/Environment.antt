@@ -6,8 +6,8 @@ use Rattle.ash_tree.specs.declared.tree.types.Primitive.{Primitive}
 use Rattle.ash_registrations.specs.Calls as host
 use Rattle.ash_typed.specs.declared.types.ObjectType.{ObjectType}
 use Rattle.ash_typed.specs.declared.types.ObjectType.TheVariants.{Class as OfClass, Host as OfHost}
-use Rattle.ash_typed.specs.declared.types.Ty.{Ty}
-use Rattle.ash_typed.specs.declared.types.Ty.TheVariants as ty
+use Rattle.ash_typing.specs.declared.types.Ty.{Ty}
+use Rattle.ash_typing.specs.declared.types.Ty.TheVariants as ty
 use Rattle.ash_typed.specs.declared.tree.operations.Variable.TheVariants as variables
 use Rattle.ash_typed.specs.declared.tree.operations.Member.{Member}
 use Rattle.ash_typed.specs.declared.tree.operations.Member.TheVariants as members
@@ -16,7 +16,7 @@ use Rattle.ash_typed.specs.declared.tree.operations.Method.TheVariants as method
 use Rattle.ash_typed.specs.declared.tree.operations.Target.TheVariants as targets
 use Rattle.ash_typing.specs.declared.forms.Callable.{Callable}
 use Rattle.ash_typing.specs.declared.forms.Callable.TheVariants as callables
-use Rattle.ash_typing.specs.Types.{ty_of}
+use Rattle.ash_typing.specs.Types.{ty_of, var_type, result_type}
 use Rattle.ash_typed.specs.Tree.{Expr, This, Read, Stored, Held}
 
 -- a variable, a parameter or a field
@@ -84,17 +84,17 @@ abbrev pub Known : Type 0
 Known = Expr × Ty
 
 abbrev pub local_in : List Declared → List ℕ → Option Known
-local_in locals name = option_map (λ (found : ℕ × Ty). (Read (Stored (variables.Local found.0 found.1)), found.1)) (last_named name 0 None locals)
+local_in locals name = option_map (λ (found : ℕ × Ty). (Read (Stored (variables.Local found.0 (var_type found.1))), found.1)) (last_named name 0 None locals)
 
 -- a field of the class of this place
 abbrev pub field_in : ℕ → Class → List ℕ → Option (Member × Ty)
-field_in class c name = option_map (λ (found : ℕ × Declared). (members.Field class found.0 found.1.of, found.1.of)) (first_from (declares name) 0 c.fields)
+field_in class c name = option_map (λ (found : ℕ × Declared). (members.Field class found.0 (var_type found.1.of), found.1.of)) (first_from (declares name) 0 c.fields)
 
 abbrev pub own_field_in : Environment → List ℕ → Option Known
 own_field_in env name = option_and_then (λ (c : ℕ × Class). option_map (λ (found : Member × Ty). (Read (Held (This c.0) found.0), found.1)) (field_in c.0 c.1 name)) (this_class env)
 
 abbrev pub global_in : List Declared → List ℕ → Option Known
-global_in globals name = option_map (λ (found : ℕ × Declared). (Read (Stored (variables.Global found.0 found.1.of)), found.1.of)) (first_from (declares name) 0 globals)
+global_in globals name = option_map (λ (found : ℕ × Declared). (Read (Stored (variables.Global found.0 (var_type found.1.of))), found.1.of)) (first_from (declares name) 0 globals)
 
 unfoldable pub variable_in : Environment → List ℕ → Option Known
 variable_in env name = option_or (local_in env.locals name) (option_or (own_field_in env name) (global_in env.heads.globals name))
@@ -113,13 +113,13 @@ result_of None = ty.Void
 result_of (Some primitive) = ty_of primitive
 
 abbrev pub own_method_in : Environment → List ℕ → Option Callee
-own_method_in env name = option_and_then (λ (c : ℕ × Class). option_map (λ (found : ℕ × Function). record { target = callables.OwnMethod c.0 found.0 found.1.result; result = found.1.result; parameters = Some found.1.parameters }) (first_from (is_called name) 0 c.1.methods)) (this_class env)
+own_method_in env name = option_and_then (λ (c : ℕ × Class). option_map (λ (found : ℕ × Function). record { target = callables.OwnMethod c.0 found.0 (result_type found.1.result); result = found.1.result; parameters = Some found.1.parameters }) (first_from (is_called name) 0 c.1.methods)) (this_class env)
 
 abbrev pub function_in : List Function → List ℕ → Option Callee
-function_in functions name = option_map (λ (found : ℕ × Function). record { target = callables.Target (targets.Function found.0 found.1.result); result = found.1.result; parameters = Some found.1.parameters }) (first_from (is_called name) 0 functions)
+function_in functions name = option_map (λ (found : ℕ × Function). record { target = callables.Target (targets.Function found.0 (result_type found.1.result)); result = found.1.result; parameters = Some found.1.parameters }) (first_from (is_called name) 0 functions)
 
 abbrev pub service_function : host.Call → Option Callee
-service_function (host.AFunction service id operation) = Some (record { target = callables.Target (targets.Service service id (result_of operation.result)); result = result_of operation.result; parameters = Some (map ty_of operation.parameters) })
+service_function (host.AFunction service id operation) = Some (record { target = callables.Target (targets.Service service id (result_type (result_of operation.result))); result = result_of operation.result; parameters = Some (map ty_of operation.parameters) })
 service_function _ = None
 
 abbrev pub class_in : List Class → List ℕ → Option Callee
@@ -161,7 +161,7 @@ unfoldable pub host_member_in : List host.Call → ℕ → List ℕ → Option h
 host_member_in calls kind name = find (host.takes_member (name_of_kind calls kind) name) calls
 
 abbrev pub property : host.Call → Option (Member × Ty)
-property (host.AProperty of id value name) = Some (members.Property id (ty_of value), ty_of value)
+property (host.AProperty of id value name) = Some (members.Property id (var_type (ty_of value)), ty_of value)
 property _ = None
 
 unfoldable pub member_in : Environment → ObjectType → List ℕ → Option (Member × Ty)
@@ -175,11 +175,11 @@ pub record Invoked : Type 0 where
   pub parameters : List Ty
 
 abbrev pub host_method : host.Call → Option Invoked
-host_method (host.AMethod of id operation) = Some (record { method = methods.Host id (result_of operation.result); result = result_of operation.result; parameters = map ty_of operation.parameters })
+host_method (host.AMethod of id operation) = Some (record { method = methods.Host id (result_type (result_of operation.result)); result = result_of operation.result; parameters = map ty_of operation.parameters })
 host_method _ = None
 
 abbrev pub class_method : ℕ → List ℕ → Class → Option Invoked
-class_method i name c = option_map (λ (found : ℕ × Function). record { method = methods.Script i found.0 found.1.result; result = found.1.result; parameters = found.1.parameters }) (first_from (is_called name) 0 c.methods)
+class_method i name c = option_map (λ (found : ℕ × Function). record { method = methods.Script i found.0 (result_type found.1.result); result = found.1.result; parameters = found.1.parameters }) (first_from (is_called name) 0 c.methods)
 
 unfoldable pub method_of_class : List Class → ℕ → List ℕ → Option Invoked
 method_of_class classes i name = option_and_then (class_method i name) (slice_get classes i)

@@ -1,7 +1,7 @@
 -- The typing of expressions (AngelScript manual, "Expressions"), as a function whose order is that of the walk: the parts
 -- of a phrase in the order of the text, then the phrase. Of several faults of one phrase the one at the earliest token
 -- is told.
-use Rattle.std.specs.Prelude.{ℕ, List, [], ◌∷◌, Bool, true, false, Option, Some, None, Ok, length, nat_eq, if◌then◌else◌}
+use Rattle.std.specs.Prelude.{ℕ, List, [], ◌∷◌, Bool, true, false, Option, Some, None, Ok, map, length, nat_eq, if◌then◌else◌}
 use Rattle.ash_tree.specs.declared.tree.types.Primitive.{Primitive}
 use Rattle.ash_tree.specs.declared.tree.operators.UnaryOp.{UnaryOp}
 use Rattle.ash_tree.specs.declared.tree.operators.UnaryOp.TheVariants as unary
@@ -14,12 +14,12 @@ use Rattle.ash_typing.specs.declared.fault.Rule.TheVariants.{UnknownName, TypeMi
 use Rattle.ash_typed.specs.declared.types.Kind.{Kind}
 use Rattle.ash_typed.specs.declared.types.Kind.TheVariants as kinds
 use Rattle.ash_typed.specs.declared.types.ObjectType.TheVariants as objects
-use Rattle.ash_typed.specs.declared.types.Ty.{Ty}
-use Rattle.ash_typed.specs.declared.types.Ty.TheVariants as ty
+use Rattle.ash_typing.specs.declared.types.Ty.{Ty}
+use Rattle.ash_typing.specs.declared.types.Ty.TheVariants as ty
 use Rattle.ash_typing.specs.declared.forms.Sort.{Sort}
 use Rattle.ash_typing.specs.declared.forms.Sort.TheVariants as sort
-use Rattle.ash_typing.specs.declared.forms.Alone.{Alone}
-use Rattle.ash_typing.specs.declared.forms.Alone.TheVariants as alone
+use Rattle.ash_typing.specs.declared.forms.Form.{Form}
+use Rattle.ash_typing.specs.declared.forms.Form.TheVariants as form
 use Rattle.ash_typed.specs.declared.tree.operations.Change.{Change}
 use Rattle.ash_typed.specs.declared.tree.operations.Change.TheVariants as changes
 use Rattle.ash_typed.specs.declared.tree.operations.Conversion.{Conversion}
@@ -38,7 +38,8 @@ use Rattle.ash_typed.specs.declared.tree.operations.Operands.TheVariants as oper
 use Rattle.ash_typed.specs.declared.tree.operations.Step.{Step}
 use Rattle.ash_typed.specs.declared.tree.operations.Step.TheVariants as steps
 use Rattle.ash_typing.specs.Checking.{Checking, ◌>>=◌, broken}
-use Rattle.ash_typing.specs.Types.{kind_of, holds, signed, is_same_kind, fits, common, ty_of, sort_of, typed_operator, binary_of, integers_in, takes, assumed, meets, outcome}
+use Rattle.ash_typed.specs.declared.types.VarType.{VarType}
+use Rattle.ash_typing.specs.Types.{var_type, kind_of, holds, signed, is_same_kind, fits, common, ty_of, sort_of, typed_operator, binary_of, integers_in, takes, assumed, meets, outcome}
 use Rattle.ash_typed.specs.Tree.{Expr, Number, Truth, Null, This, Read, Invoke, Alter, Operate, Lazily, Conditional, Assign, Update, Count, Call, Place, Held, Exprs, no_expr, expr, place_in, converted}
 use Rattle.ash_typing.specs.Environment.{Environment, Known, Callee, Invoked, variable_in, callee_in, member_in, method_in}
 
@@ -46,11 +47,21 @@ use Rattle.ash_typing.specs.Environment.{Environment, Known, Callee, Invoked, va
 pub record Typed : Type 0 where
   pub at : ℕ
   pub ty : Ty
-  pub alone : Alone
+  pub form : Form
   pub tree : Expr
 
 abbrev pub made : ℕ → Ty → Expr → Typed
-made at t tree = record { at = at; ty = t; alone = alone.Other; tree = tree }
+made at t tree = record { at = at; ty = t; form = form.Value; tree = tree }
+
+-- what can be assigned: its tree reads the place
+abbrev pub read_at : ℕ → Ty → Expr → Typed
+read_at at t tree = record { at = at; ty = t; form = form.Place; tree = tree }
+
+-- the place that can be assigned, where an expression is one
+abbrev pub assignable : Form → Expr → Option Place
+assignable form.Place tree = place_in tree
+assignable form.HandlePlace tree = place_in tree
+assignable _ tree = None
 
 -- conversions
 
@@ -87,18 +98,18 @@ handle_of at _ = broken TypeMismatch at
 
 -- a number has the first of the four integer types that holds it
 abbrev pub numeral : ℕ → ℕ → Typed
-numeral at n = record { at = at; ty = ty.Integer (kind_of n); alone = alone.Number n; tree = Number (kind_of n) n }
+numeral at n = record { at = at; ty = ty.Integer (kind_of n); form = form.Number n; tree = Number (kind_of n) n }
 
 -- A number alone takes the type of the other operand, where that holds it and the other is no number.
-abbrev pub adapted_to : Alone → Ty → Alone → Typed → Typed
-adapted_to (alone.Number m) k (alone.Number n) t = t
-adapted_to _ (ty.Integer k) (alone.Number n) t = if holds k n then record { at = t.at; ty = ty.Integer k; alone = alone.Number n; tree = Number k n } else t
+abbrev pub adapted_to : Form → Ty → Form → Typed → Typed
+adapted_to (form.Number m) k (form.Number n) t = t
+adapted_to _ (ty.Integer k) (form.Number n) t = if holds k n then record { at = t.at; ty = ty.Integer k; form = form.Number n; tree = Number k n } else t
 adapted_to _ _ _ t = t
 
 -- the operand of an operator, beside one of this form and type
-unfoldable pub adapted : Sort → Alone → Ty → Typed → Typed
+unfoldable pub adapted : Sort → Form → Ty → Typed → Typed
 adapted sort.Shift beside of t = t
-adapted _ beside of t = adapted_to beside of t.alone t
+adapted _ beside of t = adapted_to beside of t.form t
 
 -- operators between two operands
 
@@ -126,7 +137,7 @@ abbrev pub met_by : Sort → Typed → Typed → Checking Met
 met_by s a b = met_as s a b (meets s (assumed s b.ty a.ty) (assumed s a.ty b.ty))
 
 unfoldable pub met : BinaryOp → Typed → Typed → Checking Met
-met op a b = met_by (sort_of op) (adapted (sort_of op) b.alone b.ty a) (adapted (sort_of op) a.alone a.ty b)
+met op a b = met_by (sort_of op) (adapted (sort_of op) b.form b.ty a) (adapted (sort_of op) a.form a.ty b)
 
 -- what an operator makes of its operands
 abbrev pub applied_by : Operator → Operands → Expr → Expr → Expr
@@ -152,24 +163,32 @@ counted at step t (Some p) = integer_of t.at t.ty >>= λ k. Ok (made at (ty.Inte
 abbrev pub altered : ℕ → Kind → Change → Typed → Typed
 altered at k change t = made at (ty.Integer k) (Alter change (brought (ty.Integer k) t))
 
--- `@e` left of `=` is what is written to, and its type is tested there
+-- the value alone, which can't be assigned
+abbrev pub integer_at : ℕ → Kind → Typed → Typed
+integer_at at k t = made at (ty.Integer k) (brought (ty.Integer k) t)
+
+-- Left of `=` a place with its sign `@` is what is written to, and its type is tested there.
+abbrev pub handle_form : Form → Form
+handle_form form.Place = form.HandlePlace
+handle_form _ = form.Value
+
 abbrev pub handle_at : Bool → ℕ → Typed → Checking Typed
-handle_at true at t = Ok (record { at = at; ty = t.ty; alone = alone.Handle; tree = t.tree })
-handle_at false at t = handle_of t.at t.ty >>= λ h. Ok (made at h (Alter changes.Keep t.tree))
+handle_at true at t = Ok (record { at = at; ty = t.ty; form = handle_form t.form; tree = t.tree })
+handle_at false at t = handle_of t.at t.ty >>= λ h. Ok (made at h t.tree)
 
 unfoldable pub unary_at : Bool → ℕ → UnaryOp → Typed → Checking Typed
-unary_at left at unary.Plus t = integer_of t.at t.ty >>= λ k. Ok (altered at k changes.Keep t)
+unary_at left at unary.Plus t = integer_of t.at t.ty >>= λ k. Ok (integer_at at k t)
 unary_at left at unary.Minus t = integer_of t.at t.ty >>= λ k. Ok (altered at (signed k) (changes.Negate (signed k)) t)
 unary_at left at unary.BitNot t = integer_of t.at t.ty >>= λ k. Ok (altered at k (changes.Complement k) t)
 unary_at left at unary.Not t = bool_of t.at t.ty >>= λ yes. Ok (made at ty.Bool (Alter changes.Not t.tree))
-unary_at left at unary.Increment t = counted at steps.Increment t (place_in t.tree)
-unary_at left at unary.Decrement t = counted at steps.Decrement t (place_in t.tree)
+unary_at left at unary.Increment t = counted at steps.Increment t (assignable t.form t.tree)
+unary_at left at unary.Decrement t = counted at steps.Decrement t (assignable t.form t.tree)
 unary_at left at unary.Handle t = handle_at left at t
 
 -- `prim(e)`
 abbrev pub converting : ℕ → Ty → Typed → Checking Typed
-converting at (ty.Integer k) t = integer_of t.at t.ty >>= λ j. Ok (altered at k changes.Keep t)
-converting at _ t = bool_of t.at t.ty >>= λ yes. Ok (made at ty.Bool (Alter changes.Keep t.tree))
+converting at (ty.Integer k) t = integer_of t.at t.ty >>= λ j. Ok (integer_at at k t)
+converting at _ t = bool_of t.at t.ty >>= λ yes. Ok (made at ty.Bool t.tree)
 
 unfoldable pub convert_at : ℕ → Primitive → Typed → Checking Typed
 convert_at at to t = converting at (ty_of to) t
@@ -205,13 +224,12 @@ operator_of assigns.ShiftRight = Some calculators.ShiftRight
 operator_of assigns.ShiftRightArithmetic = Some calculators.ShiftRightArithmetic
 
 -- what a place takes: `=` and `op=` a primitive type, `@p =` a handle
-abbrev pub is_stored : Alone → Ty → Bool
-is_stored alone.Handle (ty.Handle o) = true
-is_stored alone.Handle ty.Unknown = true
-is_stored alone.Handle _ = false
-is_stored _ ty.Bool = true
-is_stored _ (ty.Integer k) = true
-is_stored _ ty.Unknown = true
+abbrev pub is_stored : Form → Ty → Bool
+is_stored form.HandlePlace (ty.Handle o) = true
+is_stored form.HandlePlace ty.Unknown = true
+is_stored form.Place ty.Bool = true
+is_stored form.Place (ty.Integer k) = true
+is_stored form.Place ty.Unknown = true
 is_stored _ _ = false
 
 -- what stands at a place is an operand of its type
@@ -224,10 +242,10 @@ stored at of p (Some op) v = updated at of p op v
 
 abbrev pub assigned_to : Typed → AssignOp → Typed → Option Place → Checking Typed
 assigned_to t op v None = broken NotAssignable t.at
-assigned_to t op v (Some p) = if is_stored t.alone t.ty then stored t.at t.ty p (operator_of op) v else broken NotAssignable t.at
+assigned_to t op v (Some p) = if is_stored t.form t.ty then stored t.at t.ty p (operator_of op) v else broken NotAssignable t.at
 
 unfoldable pub assigned : Typed → AssignOp → Typed → Checking Typed
-assigned t op v = assigned_to t op v (place_in t.tree)
+assigned t op v = assigned_to t op v (assignable t.form t.tree)
 
 abbrev pub is_assign : AssignOp → Bool
 is_assign assigns.Assign = true
@@ -242,14 +260,14 @@ all_fitted _ _ = Ok no_expr
 unfoldable pub arguments_at : ℕ → List Ty → List Typed → Checking Exprs
 arguments_at at parameters ts = if nat_eq (length parameters) (length ts) then all_fitted parameters ts else broken WrongArgumentCount at
 
--- a method is called on the object that runs
-abbrev pub call_of : Callable → Exprs → Expr
-call_of (callables.OwnMethod class method result) es = Invoke (This class) (methods.Script class method result) es
-call_of (callables.Target target) es = Call target es
+-- a call says its parameters' types; a method is called on the object that runs
+abbrev pub call_of : Callable → List VarType → Exprs → Expr
+call_of (callables.OwnMethod class method result) parameters es = Invoke (This class) (methods.Script class method result) parameters es
+call_of (callables.Target target) parameters es = Call target parameters es
 
 unfoldable pub called : ℕ → Callee → List Typed → Option (List Ty) → Checking Typed
 called at callee ts None = broken NoFactory at
-called at callee ts (Some parameters) = arguments_at at parameters ts >>= λ es. Ok (made at callee.result (call_of callee.target es))
+called at callee ts (Some parameters) = arguments_at at parameters ts >>= λ es. Ok (made at callee.result (call_of callee.target (map var_type parameters) es))
 
 abbrev pub callee_at : ℕ → Option Callee → Checking Callee
 callee_at at None = broken UnknownName at
@@ -259,7 +277,7 @@ callee_at at (Some callee) = Ok callee
 
 abbrev pub known_at : ℕ → Option Known → Checking Typed
 known_at at None = broken UnknownName at
-known_at at (Some known) = Ok (made at known.1 known.0)
+known_at at (Some known) = Ok (read_at at known.1 known.0)
 
 abbrev pub this_at : ℕ → Option ℕ → Checking Typed
 this_at at None = broken Misplaced at
@@ -269,12 +287,12 @@ this_at at (Some class) = Ok (made at (ty.Handle (objects.Class class)) (This cl
 
 abbrev pub member_at : Typed → ℕ → Option (Member × Ty) → Checking Typed
 member_at t at None = broken UnknownName at
-member_at t at (Some (member, of)) = Ok (made t.at of (Read (Held t.tree member)))
+member_at t at (Some (member, of)) = Ok (read_at t.at of (Read (Held t.tree member)))
 
 unfoldable pub field_of : Environment → Typed → Ty → ℕ → List ℕ → Checking Typed
 field_of env t (ty.Object o) at name = member_at t at (member_in env o name)
 field_of env t (ty.Handle o) at name = member_at t at (member_in env o name)
-field_of env t ty.Unknown at name = Ok (made t.at ty.Unknown (Read (Held t.tree (members.Field 0 0 ty.Unknown))))
+field_of env t ty.Unknown at name = Ok (read_at t.at ty.Unknown (Read (Held t.tree (members.Field 0 0 (var_type ty.Unknown)))))
 field_of env t _ at name = broken TypeMismatch t.at
 
 -- the method, or nothing where the type of the object is unknown
@@ -290,10 +308,15 @@ method_of env t _ at name = broken TypeMismatch t.at
 
 unfoldable pub invoked : Typed → ℕ → List Typed → Option Invoked → Checking Typed
 invoked t at ts None = Ok (made t.at ty.Unknown Null)
-invoked t at ts (Some m) = arguments_at at m.parameters ts >>= λ es. Ok (made t.at m.result (Invoke t.tree m.method es))
+invoked t at ts (Some m) = arguments_at at m.parameters ts >>= λ es. Ok (made t.at m.result (Invoke t.tree m.method (map var_type m.parameters) es))
+
+-- a place in brackets is one; a number in brackets has its own type
+abbrev pub bracketed : Form → Form
+bracketed form.Place = form.Place
+bracketed _ = form.Value
 
 abbrev pub in_brackets : ℕ → Typed → Typed
-in_brackets at t = record { at = at; ty = t.ty; alone = alone.Other; tree = t.tree }
+in_brackets at t = record { at = at; ty = t.ty; form = bracketed t.form; tree = t.tree }
 
 -- A call, whose arguments are walked once its name is known.
 abbrev pub call_typed : Environment → ℕ → List ℕ → Checking (List Typed) → Checking Typed
@@ -339,5 +362,5 @@ abbrev mutual
   suffix_typed env t (written.Field p name) = field_of env t t.ty p.at name
   suffix_typed env t (written.Method p name es) = invocation_typed env t p.at name (all_typed env es)
   suffix_typed env t (written.Index e) = broken TypeMismatch t.at
-  suffix_typed env t written.Increment = counted t.at steps.IncrementAfter t (place_in t.tree)
-  suffix_typed env t written.Decrement = counted t.at steps.DecrementAfter t (place_in t.tree)
+  suffix_typed env t written.Increment = counted t.at steps.IncrementAfter t (assignable t.form t.tree)
+  suffix_typed env t written.Decrement = counted t.at steps.DecrementAfter t (assignable t.form t.tree)

@@ -9,8 +9,10 @@ use Rattle.ash_registrations.specs.Calls as host
 use Rattle.ash_tree.specs.declared.tree.places.Place.{Place}
 use Rattle.ash_tree.specs.Tree as written
 use Rattle.ash_typing.specs.declared.fault.Rule.TheVariants.{UnknownType, NameTaken, NoReturn, Misplaced, TooMany}
-use Rattle.ash_typed.specs.declared.types.Ty.{Ty}
-use Rattle.ash_typed.specs.declared.types.Ty.TheVariants as ty
+use Rattle.ash_typing.specs.declared.types.Ty.{Ty}
+use Rattle.ash_typing.specs.declared.types.Ty.TheVariants as ty
+use Rattle.ash_typed.specs.declared.types.VarType.{VarType}
+use Rattle.ash_typing.specs.Types.{var_type, result_type}
 use Rattle.ash_typing.specs.Checking.{Checking, ◌>>=◌, broken}
 use Rattle.ash_typing.specs.Environment.{Declared, Heads, Environment, declares}
 use Rattle.ash_typing.specs.Expressions.{is_void}
@@ -98,11 +100,11 @@ constructing c = record { place = c.place; name = c.name; parameters = c.paramet
 unfoldable pub returning : ℕ → Ty → List written.Stmt → Body → Checking Body
 returning at of statements body = if is_void of || returns_in statements then Ok body else broken NoReturn at
 
-abbrev pub type_of : Declared → Ty
-type_of v = v.of
+abbrev pub type_of : Declared → VarType
+type_of v = var_type v.of
 
 unfoldable pub routine_typed : Environment → Ty → Routine → Checking Function
-routine_typed env of c = parameters_typed env [] c.parameters >>= λ locals. body_typed (with_locals env locals) of c.body >>= λ body. returning c.place.at of c.body body >>= λ done. Ok (record { name = c.name; line = c.place.line; result = of; parameters = map type_of locals; body = done })
+routine_typed env of c = parameters_typed env [] c.parameters >>= λ locals. body_typed (with_locals env locals) of c.body >>= λ body. returning c.place.at of c.body body >>= λ done. Ok (record { name = c.name; line = c.place.line; result = result_type of; parameters = map type_of locals; body = done })
 
 -- classes
 

@@ -7,8 +7,8 @@ use Rattle.ash_tree.specs.declared.tree.statements.Label.TheVariants as labels
 use Rattle.ash_typing.specs.declared.fault.Rule.TheVariants.{Misplaced, ConstantOutOfRange, DuplicateCase}
 use Rattle.ash_typed.specs.declared.types.Kind.{Kind}
 use Rattle.ash_typed.specs.declared.types.Kind.TheVariants.{Int, Uint, Int64, Uint64}
-use Rattle.ash_typed.specs.declared.types.Ty.{Ty}
-use Rattle.ash_typed.specs.declared.types.Ty.TheVariants as ty
+use Rattle.ash_typing.specs.declared.types.Ty.{Ty}
+use Rattle.ash_typing.specs.declared.types.Ty.TheVariants as ty
 use Rattle.ash_typing.specs.Checking.{Checking, broken}
 use Rattle.ash_typing.specs.Types.{holds}
 

@@ -6,8 +6,10 @@ use Rattle.std.specs.List.{AllByRecursion, AllZip, IsDistinct}
 use Rattle.std.specs.Str.{bytes_eq}
 use Rattle.ash_registrations.specs.Calls as host
 use Rattle.ash_tree.specs.Tree as written
-use Rattle.ash_typed.specs.declared.types.Ty.{Ty}
-use Rattle.ash_typed.specs.declared.types.Ty.TheVariants as ty
+use Rattle.ash_typing.specs.declared.types.Ty.{Ty}
+use Rattle.ash_typing.specs.declared.types.Ty.TheVariants as ty
+use Rattle.ash_typed.specs.declared.types.VarType.{VarType}
+use Rattle.ash_typing.specs.Types.{var_type, result_type}
 use Rattle.ash_typing.specs.Environment.{Declared, Environment, named_in}
 use Rattle.ash_typing.specs.Typing.{IsKnownType, IsDeclared}
 use Rattle.ash_typing.specs.Heads.{heads, result_named}
@@ -105,8 +107,8 @@ is_passed _ = false
 abbrev pub IsPassed : Ty → Type 0
 IsPassed of = is_passed of ≡ true
 
-abbrev pub type_of_parameter : Environment → written.Parameter → Ty
-type_of_parameter env p = ty_in env p.of
+abbrev pub type_of_parameter : Environment → written.Parameter → VarType
+type_of_parameter env p = var_type (ty_in env p.of)
 
 abbrev pub parameter_of : Environment → written.Parameter → Declared
 parameter_of env p = record { name = p.name; of = ty_in env p.of }
@@ -138,7 +140,7 @@ IsBody env of body typed = AreStmts (body_scope env of) (written.stmts body) typ
 pub record IsRoutine (env : Environment) (of : Ty) (r : Routine) (typed : Function) : Type 0 where
   pub name : typed.name ≡ r.name
   pub line : typed.line ≡ r.place.line
-  pub result : typed.result ≡ of
+  pub result : typed.result ≡ result_type of
   pub passed : AllByRecursion (IsPassedParameter env) r.parameters
   pub differ : IsDistinct bytes_eq (map parameter_name r.parameters)
   pub parameters : typed.parameters ≡ map (type_of_parameter env) r.parameters

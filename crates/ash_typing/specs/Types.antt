@@ -8,8 +8,10 @@ use Rattle.ash_typed.specs.declared.types.Kind.{Kind}
 use Rattle.ash_typed.specs.declared.types.Kind.TheVariants.{Int, Uint, Int64, Uint64}
 use Rattle.ash_typed.specs.declared.types.ObjectType.{ObjectType}
 use Rattle.ash_typed.specs.declared.types.ObjectType.TheVariants.{Class, Host}
-use Rattle.ash_typed.specs.declared.types.Ty.{Ty}
-use Rattle.ash_typed.specs.declared.types.Ty.TheVariants as ty
+use Rattle.ash_typed.specs.declared.types.VarType.{VarType}
+use Rattle.ash_typed.specs.declared.types.VarType.TheVariants as vars
+use Rattle.ash_typing.specs.declared.types.Ty.{Ty}
+use Rattle.ash_typing.specs.declared.types.Ty.TheVariants as ty
 use Rattle.ash_typing.specs.declared.forms.Sort.{Sort}
 use Rattle.ash_typing.specs.declared.forms.Sort.TheVariants as sort
 use Rattle.ash_typed.specs.declared.tree.operations.Calculator.{Calculator}
@@ -20,6 +22,7 @@ use Rattle.ash_typing.specs.declared.forms.Operator.{Operator}
 use Rattle.ash_typing.specs.declared.forms.Operator.TheVariants as operators
 use Rattle.ash_typed.specs.declared.tree.operations.Operands.{Operands}
 use Rattle.ash_typed.specs.declared.tree.operations.Operands.TheVariants as operands
+use Rattle.ash_typed.specs.TypeOf.{ValueType, no_value, null_value, value, kept}
 
 -- integer types
 
@@ -80,6 +83,47 @@ abbrev pub object_of : Ty → Option ObjectType
 object_of (ty.Object o) = Some o
 object_of (ty.Handle o) = Some o
 object_of _ = None
+
+-- types of variables
+
+-- whether variables may be of a type
+abbrev pub is_variable : Ty → Bool
+is_variable ty.Bool = true
+is_variable (ty.Integer k) = true
+is_variable (ty.Object o) = true
+is_variable (ty.Handle o) = true
+is_variable _ = false
+
+-- whether functions may give a type
+abbrev pub is_result : Ty → Bool
+is_result ty.Void = true
+is_result of = is_variable of
+
+-- The type of a variable, as a typed tree says it. A type that is not one of a variable gives `bool`: no tree that is
+-- answered has it.
+abbrev pub var_type : Ty → VarType
+var_type ty.Bool = vars.Bool
+var_type (ty.Integer k) = vars.Integer k
+var_type (ty.Object o) = vars.Object o
+var_type (ty.Handle o) = vars.Handle o
+var_type _ = vars.Bool
+
+-- what a function gives, as a typed tree says it: `void` gives no value
+abbrev pub result_type : Ty → Option VarType
+result_type ty.Void = None
+result_type of = Some (var_type of)
+
+abbrev pub ty_of_var : VarType → Ty
+ty_of_var vars.Bool = ty.Bool
+ty_of_var (vars.Integer k) = ty.Integer k
+ty_of_var (vars.Object o) = ty.Object o
+ty_of_var (vars.Handle o) = ty.Handle o
+
+-- What an expression of a type gives: no value, null, or a value of a type of variables; an object is given by its handle.
+abbrev pub value_type : Ty → ValueType
+value_type ty.Void = no_value
+value_type ty.Null = null_value
+value_type of = value (kept (var_type of))
 
 -- types that are written
 

@@ -4,7 +4,7 @@
 --
 -- `HasType env left e t`: the expression `e` has the type of the term `t`, and its tree. `left` says that `e` stands left
 -- of `=`, where `@e` is what is written to.
-use Rattle.std.specs.Prelude.{◌≡◌, ℕ, List, [], ◌∷◌, Bool, true, false, Option, Some, None, if◌then◌else◌}
+use Rattle.std.specs.Prelude.{◌≡◌, ℕ, List, [], ◌∷◌, Bool, true, false, Option, Some, None, map, if◌then◌else◌}
 use Rattle.std.specs.List.{AllByRecursion}
 use Rattle.ash_tree.specs.declared.tree.places.Place as place
 use Rattle.ash_tree.specs.declared.tree.types.Primitive.{Primitive}
@@ -16,22 +16,22 @@ use Rattle.ash_tree.specs.Tree as written
 use Rattle.ash_typed.specs.declared.types.Kind.{Kind}
 use Rattle.ash_typed.specs.declared.types.ObjectType.{ObjectType}
 use Rattle.ash_typed.specs.declared.types.ObjectType.TheVariants as objects
-use Rattle.ash_typed.specs.declared.types.Ty.{Ty}
-use Rattle.ash_typed.specs.declared.types.Ty.TheVariants as ty
+use Rattle.ash_typing.specs.declared.types.Ty.{Ty}
+use Rattle.ash_typing.specs.declared.types.Ty.TheVariants as ty
 use Rattle.ash_typing.specs.declared.forms.Sort.{Sort}
 use Rattle.ash_typing.specs.declared.forms.Sort.TheVariants as sort
-use Rattle.ash_typing.specs.declared.forms.Alone.{Alone}
-use Rattle.ash_typing.specs.declared.forms.Alone.TheVariants as alone
+use Rattle.ash_typing.specs.declared.forms.Form.{Form}
+use Rattle.ash_typing.specs.declared.forms.Form.TheVariants as form
 use Rattle.ash_typed.specs.declared.tree.operations.Change.TheVariants as changes
 use Rattle.ash_typed.specs.declared.tree.operations.Member.{Member}
 use Rattle.ash_typed.specs.declared.tree.operations.Calculator.{Calculator}
 use Rattle.ash_typed.specs.declared.tree.operations.Operands.{Operands}
 use Rattle.ash_typed.specs.declared.tree.operations.Operands.TheVariants as operands
 use Rattle.ash_typed.specs.declared.tree.operations.Step.TheVariants as steps
-use Rattle.ash_typing.specs.Types.{kind_of, holds, signed, fits, common, object_of, ty_of, sort_of, binary_of, meets, outcome}
-use Rattle.ash_typed.specs.Tree.{Expr, Number, Truth, Null, This, Read, Invoke, Alter, Conditional, Assign, Update, Count, Place, Held, Exprs, no_expr, expr, place_in, converted}
+use Rattle.ash_typing.specs.Types.{is_variable, is_result, var_type, kind_of, holds, signed, fits, common, object_of, ty_of, sort_of, binary_of, meets, outcome}
+use Rattle.ash_typed.specs.Tree.{Expr, Number, Truth, Null, This, Read, Invoke, Alter, Conditional, Assign, Update, Count, Place, Held, Exprs, no_expr, expr, converted}
 use Rattle.ash_typing.specs.Environment.{Environment, Declared, Function, Class, Known, Callee, Invoked, variable_in, callee_in, member_in, method_in}
-use Rattle.ash_typing.specs.Expressions.{Typed, conversion, operand_type, applied, operator_of, is_stored, call_of}
+use Rattle.ash_typing.specs.Expressions.{Typed, conversion, operand_type, applied, operator_of, is_stored, call_of, assignable, bracketed, handle_form}
 use Rattle.ash_typing.specs.Declarations.{Initialization, initialization, construction}
 
 -- an environment whose types are known
@@ -43,17 +43,25 @@ is_known _ = true
 abbrev pub IsKnownType : Ty → Type 0
 IsKnownType of = is_known of ≡ true
 
+-- a type of variables
+abbrev pub IsVariableType : Ty → Type 0
+IsVariableType of = is_variable of ≡ true
+
+-- what a function gives
+abbrev pub IsResultType : Ty → Type 0
+IsResultType of = is_result of ≡ true
+
 abbrev pub IsKnownVariable : Declared → Type 0
-IsKnownVariable v = IsKnownType v.of
+IsKnownVariable v = IsVariableType v.of
 
 pub record IsKnownFunction (f : Function) : Type 0 where
-  pub result : IsKnownType f.result
-  pub parameters : AllByRecursion IsKnownType f.parameters
+  pub result : IsResultType f.result
+  pub parameters : AllByRecursion IsVariableType f.parameters
 
 pub record IsKnownClass (c : Class) : Type 0 where
   pub fields : AllByRecursion IsKnownVariable c.fields
   pub methods : AllByRecursion IsKnownFunction c.methods
-  pub parameters : AllByRecursion IsKnownType c.parameters
+  pub parameters : AllByRecursion IsVariableType c.parameters
 
 pub record IsKnown (env : Environment) : Type 0 where
   pub classes : AllByRecursion IsKnownClass env.heads.classes
@@ -66,30 +74,34 @@ pub record IsKnown (env : Environment) : Type 0 where
 -- what an expression is typed as, and what it is by itself
 pub record Term : Type 0 where
   pub ty : Ty
-  pub alone : Alone
+  pub form : Form
   pub tree : Expr
 
 abbrev pub term : Ty → Expr → Term
-term of tree = record { ty = of; alone = alone.Other; tree = tree }
+term of tree = record { ty = of; form = form.Value; tree = tree }
+
+-- what can be assigned: its tree reads the place
+abbrev pub read_term : Ty → Expr → Term
+read_term of tree = record { ty = of; form = form.Place; tree = tree }
 
 -- a number has the first of the four integer types that holds it
 abbrev pub number_term : ℕ → Term
-number_term n = record { ty = ty.Integer (kind_of n); alone = alone.Number n; tree = Number (kind_of n) n }
+number_term n = record { ty = ty.Integer (kind_of n); form = form.Number n; tree = Number (kind_of n) n }
 
 -- converted to a type
 abbrev pub converted_to : Ty → Term → Expr
 converted_to of t = converted (conversion of t.ty) t.tree
 
 -- A number alone takes the type of the other operand, where that holds it and the other is no number.
-abbrev pub taking : Alone → Ty → Alone → Term → Term
-taking (alone.Number m) of (alone.Number n) t = t
-taking _ (ty.Integer k) (alone.Number n) t = if holds k n then record { ty = ty.Integer k; alone = alone.Number n; tree = Number k n } else t
+abbrev pub taking : Form → Ty → Form → Term → Term
+taking (form.Number m) of (form.Number n) t = t
+taking _ (ty.Integer k) (form.Number n) t = if holds k n then record { ty = ty.Integer k; form = form.Number n; tree = Number k n } else t
 taking _ _ _ t = t
 
 -- the operand of an operator beside another operand: the two of a shift have a type each
 abbrev pub beside : Sort → Term → Term → Term
 beside sort.Shift other t = t
-beside _ other t = taking other.alone other.ty t.alone t
+beside _ other t = taking other.form other.ty t.form t
 
 -- The operator takes the two terms, each beside the other, for these operands.
 abbrev pub Meet : BinaryOp → Term → Term → Operands → Type 0
@@ -127,38 +139,38 @@ mutual
         → HasType env left (written.This p) (term (ty.Handle (objects.Class class)) (This class))
     name : {left : Bool} {p : place.Place} {text : List ℕ} {known : Known}
         → variable_in env text ≡ Some known
-        → HasType env left (written.Name p text) (term known.1 known.0)
+        → HasType env left (written.Name p text) (read_term known.1 known.0)
     call : {left : Bool} {p : place.Place} {text : List ℕ} {es : written.Exprs} {callee : Callee} {parameters : List Ty} {ts : List Term} {trees : Exprs}
         → callee_in env text ≡ Some callee
         → callee.parameters ≡ Some parameters
         → AllHaveType env es ts
         → AreArguments parameters ts trees
-        → HasType env left (written.Call p text es) (term callee.result (call_of callee.target trees))
-    -- (e), which is no number alone
+        → HasType env left (written.Call p text es) (term callee.result (call_of callee.target (map var_type parameters) trees))
+    -- (e), which is no number alone; what can be assigned still can
     brackets : {left : Bool} {p : place.Place} {e : written.Expr} {t : Term}
         → HasType env false e t
-        → HasType env left (written.Brackets p e) (term t.ty t.tree)
-    -- `prim(e)`
+        → HasType env left (written.Brackets p e) (record { ty = t.ty; form = bracketed t.form; tree = t.tree })
+    -- `prim(e)`, which can't be assigned
     to_integer : {left : Bool} {p : place.Place} {to : Primitive} {e : written.Expr} {t : Term} {j k : Kind}
         → HasType env false e t
         → ty_of to ≡ ty.Integer k
         → t.ty ≡ ty.Integer j
-        → HasType env left (written.Convert p to e) (term (ty.Integer k) (Alter changes.Keep (converted_to (ty.Integer k) t)))
+        → HasType env left (written.Convert p to e) (term (ty.Integer k) (converted_to (ty.Integer k) t))
     to_bool : {left : Bool} {p : place.Place} {to : Primitive} {e : written.Expr} {t : Term}
         → HasType env false e t
         → ty_of to ≡ ty.Bool
         → t.ty ≡ ty.Bool
-        → HasType env left (written.Convert p to e) (term ty.Bool (Alter changes.Keep t.tree))
+        → HasType env left (written.Convert p to e) (term ty.Bool t.tree)
     -- e with suffixes
     postfix : {left : Bool} {p : place.Place} {e : written.Expr} {ss : written.Suffixes} {t u : Term}
         → HasType env false e t
         → SuffixesHaveType env t ss u
         → HasType env left (written.Postfix p e ss) u
-    -- + e, - e, ~ e
+    -- + e, which can't be assigned, - e, ~ e
     plus : {left : Bool} {p : place.Place} {e : written.Expr} {t : Term} {k : Kind}
         → HasType env false e t
         → t.ty ≡ ty.Integer k
-        → HasType env left (written.Unary p unary.Plus e) (term (ty.Integer k) (Alter changes.Keep t.tree))
+        → HasType env left (written.Unary p unary.Plus e) (term (ty.Integer k) t.tree)
     minus : {left : Bool} {p : place.Place} {e : written.Expr} {t : Term} {k : Kind}
         → HasType env false e t
         → t.ty ≡ ty.Integer k
@@ -175,22 +187,22 @@ mutual
     -- ++ e, -- e
     increment : {left : Bool} {p : place.Place} {e : written.Expr} {t : Term} {at : Place} {k : Kind}
         → HasType env false e t
-        → place_in t.tree ≡ Some at
+        → assignable t.form t.tree ≡ Some at
         → t.ty ≡ ty.Integer k
         → HasType env left (written.Unary p unary.Increment e) (term (ty.Integer k) (Count at k steps.Increment))
     decrement : {left : Bool} {p : place.Place} {e : written.Expr} {t : Term} {at : Place} {k : Kind}
         → HasType env false e t
-        → place_in t.tree ≡ Some at
+        → assignable t.form t.tree ≡ Some at
         → t.ty ≡ ty.Integer k
         → HasType env left (written.Unary p unary.Decrement e) (term (ty.Integer k) (Count at k steps.Decrement))
-    -- @ e, of an object or a handle; left of `=` it is what is written to
+    -- @ e, of an object or a handle; left of `=` a place with this sign is what is written to
     handle : {p : place.Place} {e : written.Expr} {t : Term} {o : ObjectType}
         → HasType env false e t
         → object_of t.ty ≡ Some o
-        → HasType env false (written.Unary p unary.Handle e) (term (ty.Handle o) (Alter changes.Keep t.tree))
+        → HasType env false (written.Unary p unary.Handle e) (term (ty.Handle o) t.tree)
     handle_written : {p : place.Place} {e : written.Expr} {t : Term}
         → HasType env false e t
-        → HasType env true (written.Unary p unary.Handle e) (record { ty = t.ty; alone = alone.Handle; tree = t.tree })
+        → HasType env true (written.Unary p unary.Handle e) (record { ty = t.ty; form = handle_form t.form; tree = t.tree })
     -- operators of one level, which group to the left
     binary : {left : Bool} {p : place.Place} {e : written.Expr} {ls : written.Links} {t u : Term}
         → HasType env false e t
@@ -207,16 +219,17 @@ mutual
     -- e = v, where e is a place of a primitive type, or `@` with a place of a handle
     assign : {left : Bool} {p : place.Place} {e v : written.Expr} {t u : Term} {at : Place}
         → HasType env true e t
-        → place_in t.tree ≡ Some at
-        → is_stored t.alone t.ty ≡ true
+        → assignable t.form t.tree ≡ Some at
+        → is_stored t.form t.ty ≡ true
         → HasType env false v u
         → fits t.ty u.ty ≡ true
         → HasType env left (written.Assign p e assigns.Assign v) (term t.ty (Assign at (converted_to t.ty u)))
-    -- e op= v: what stands at e is an operand of its type
+    -- e op= v, where e is a place of an integer type: what stands there is an operand of its type
     update : {left : Bool} {p : place.Place} {op : AssignOp} {c : Calculator} {e v : written.Expr} {t u : Term} {at : Place} {j k : Kind}
         → operator_of op ≡ Some c
         → HasType env false e t
-        → place_in t.tree ≡ Some at
+        → assignable t.form t.tree ≡ Some at
+        → is_stored t.form t.ty ≡ true
         → t.ty ≡ ty.Integer k
         → HasType env false v u
         → Meet (binary_of c) (term t.ty Null) u (operands.Integers j)
@@ -252,22 +265,22 @@ mutual
     field : {p : place.Place} {text : List ℕ} {t : Term} {o : ObjectType} {found : Member × Ty}
         → object_of t.ty ≡ Some o
         → member_in env o text ≡ Some found
-        → SuffixHasType env t (written.Field p text) (term found.1 (Read (Held t.tree found.0)))
+        → SuffixHasType env t (written.Field p text) (read_term found.1 (Read (Held t.tree found.0)))
     -- .name(e ..)
     method : {p : place.Place} {text : List ℕ} {es : written.Exprs} {t : Term} {o : ObjectType} {m : Invoked} {ts : List Term} {trees : Exprs}
         → object_of t.ty ≡ Some o
         → method_in env o text ≡ Some m
         → AllHaveType env es ts
         → AreArguments m.parameters ts trees
-        → SuffixHasType env t (written.Method p text es) (term m.result (Invoke t.tree m.method trees))
+        → SuffixHasType env t (written.Method p text es) (term m.result (Invoke t.tree m.method (map var_type m.parameters) trees))
     -- ++
     increment_after : {t : Term} {at : Place} {k : Kind}
-        → place_in t.tree ≡ Some at
+        → assignable t.form t.tree ≡ Some at
         → t.ty ≡ ty.Integer k
         → SuffixHasType env t written.Increment (term (ty.Integer k) (Count at k steps.IncrementAfter))
     -- --
     decrement_after : {t : Term} {at : Place} {k : Kind}
-        → place_in t.tree ≡ Some at
+        → assignable t.form t.tree ≡ Some at
         → t.ty ≡ ty.Integer k
         → SuffixHasType env t written.Decrement (term (ty.Integer k) (Count at k steps.DecrementAfter))
 
@@ -283,7 +296,7 @@ pub data IsConstructed (env : Environment) : ObjectType → List Term → Expr �
       → construction env o ≡ Some callee
       → callee.parameters ≡ Some parameters
       → AreArguments parameters ts trees
-      → IsConstructed env o ts (call_of callee.target trees)
+      → IsConstructed env o ts (call_of callee.target (map var_type parameters) trees)
 
 -- what a variable of a type begins with: where nothing is named, with zero, `false` or null
 pub data BeginsWith (env : Environment) : Ty → written.Initializer → Option Expr → Type 0 where
@@ -340,11 +353,21 @@ first_at (written.Assign p e op v) = first_at e
 
 -- what the walk answers of a term
 abbrev pub placed : ℕ → Term → Typed
-placed at t = record { at = at; ty = t.ty; alone = t.alone; tree = t.tree }
+placed at t = record { at = at; ty = t.ty; form = t.form; tree = t.tree }
 
 abbrev pub all_placed : written.Exprs → List Term → List Typed
 all_placed (written.expr e es) (t ∷ ts) = placed (first_at e) t ∷ all_placed es ts
 all_placed _ _ = []
 
 abbrev pub term_of : Typed → Term
-term_of t = record { ty = t.ty; alone = t.alone; tree = t.tree }
+term_of t = record { ty = t.ty; form = t.form; tree = t.tree }
+
+-- what can be assigned has the tree of a read
+
+abbrev pub IsRead : Expr → Type 0
+IsRead tree = (at : Place) × (tree ≡ Read at)
+
+abbrev pub IsReadWherePlace : Form → Expr → Type 0
+IsReadWherePlace form.Place tree = IsRead tree
+IsReadWherePlace form.HandlePlace tree = IsRead tree
+IsReadWherePlace _ tree = Unit {0}

@@ -1,6 +1,6 @@
 //! What the rules of typing see of an operator and of an expression, beside their types.
 
-use ash_typed::{Calculator, Comparator, Lazy, Target, Ty};
+use ash_typed::{Calculator, Comparator, Lazy, Target, VarType};
 
 /// What an operator between two operands is of.
 #[derive(Clone, Copy, Debug, PartialEq, Eq)]
@@ -27,24 +27,27 @@ pub enum Operator {
     Lazy(Lazy),
 }
 
-/// What an expression is by itself; in brackets it is nothing of this.
+/// What an expression is by itself.
 #[derive(Clone, Copy, Debug, PartialEq, Eq)]
-pub enum Alone {
-    /// A number, which takes the type of the other operand.
+pub enum Form {
+    /// A number, which takes the type of the other operand; in brackets it is a value.
     Number(u64),
-    /// `@e`
-    Handle,
-    Other,
+    /// A variable, a field or a property, also in brackets: what can be assigned.
+    Place,
+    /// `@place` left of `=`
+    HandlePlace,
+    Value,
 }
 
 /// What a name before brackets stands for.
 #[derive(Clone, Copy, Debug, PartialEq, Eq)]
 pub enum Callable {
-    /// A method of the object that runs, which is of the class of this place, with what it gives.
+    /// A method of the object that runs, which is of the class of this place, with what it gives, where it gives a
+    /// value.
     OwnMethod {
         class: usize,
         method: usize,
-        result: Ty,
+        result: Option<VarType>,
     },
     Target(Target),
 }

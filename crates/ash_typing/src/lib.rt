@@ -6,15 +6,19 @@
 //! The crate stands on `ash_tree`, whose trees are typed, on `ash_registrations`, and on `ash_typed`, whose trees are
 //! the typed ones. It types nothing itself: `ash_expressions` and `ash_check` do, by these definitions.
 //!
-//! In reading order: `forms`, `fault`, `typing`, `modules`.
+//! In reading order: `types`, `forms`, `fault`, `typing`, `modules`.
 #![tactic(auto)]
 
 mod fault;
 mod forms;
 mod modules;
+mod types;
 mod typing;
 
 pub use fault::{Fault, Rule};
-pub use forms::{Alone, Callable, Operator, Sort};
+pub use forms::{Callable, Form, Operator, Sort};
 pub use modules::{typing_of_modules, typing_of_statements};
-pub use typing::{typing_of_arguments, typing_of_expressions, typing_of_variables};
+pub use types::Ty;
+pub use typing::{
+    types_of_variables, typing_of_arguments, typing_of_expressions, typing_of_variables,
+};

@@ -2,18 +2,20 @@
 
 ghost use Rattle.std.specs.Prelude.{◌≡◌, ◌↔◌, ◌≢◌, ℕ, List, map, Bool, Option, Ok, IsOk};
 ghost use Rattle.ash_tree.specs.Tree as written;
-ghost use Rattle.ash_typed.specs.declared.types.Ty.{Ty};
-ghost use Rattle.ash_typed.specs.declared.types.Ty.TheVariants.{Unknown};
+ghost use Rattle.ash_typing.specs.declared.types.Ty.{Ty};
+ghost use Rattle.ash_typing.specs.declared.types.Ty.TheVariants.{Unknown};
 ghost use Rattle.ash_typing.specs.Environment.{Environment};
 ghost use Rattle.ash_typing.specs.Expressions.{Typed, typed, all_typed};
 ghost use Rattle.ash_typing.specs.Declarations.{Initialization, initialized, decl_typed};
 ghost use Rattle.ash_typed.specs.Tree.{Expr};
 ghost use Rattle.ash_typed.specs.TypeOf.{type_of};
-ghost use Rattle.ash_typing.specs.Typing.{IsKnown, Term, HasType, AllHaveType, BeginsWith, IsDeclared, first_at, placed, all_placed, term_of};
+ghost use Rattle.ash_typed.specs.declared.types.VarType.{VarType};
+ghost use Rattle.ash_typing.specs.Types.{var_type, ty_of_var, value_type};
+ghost use Rattle.ash_typing.specs.Typing.{IsKnown, IsVariableType, Term, HasType, AllHaveType, BeginsWith, IsDeclared, IsReadWherePlace, first_at, placed, all_placed, term_of};
 
 /// That the walk types what has a type by the rules, and nothing else where all types are known. Its answer is the term
-/// of the rules, with the offset of the first token. And that the tree of a term says the term's type. It does nothing when
-/// it runs.
+/// of the rules, with the offset of the first token. And that the tree of a term says what an expression of the term's
+/// type gives. What can be assigned has the tree of a read. It does nothing when it runs.
 pub fn typing_of_expressions()
     ensures complete { (env : Environment) (left : Bool) (e : written.Expr) (t : Term) →
         HasType env left e t → typed env left e ≡ Ok (placed (first_at e) t) }
@@ -26,7 +28,9 @@ pub fn typing_of_expressions()
     ensures known { (env : Environment) → IsKnown env → (left : Bool) (e : written.Expr) (t : Term) →
         HasType env left e t → t.ty ≢ Unknown }
     ensures typed { (env : Environment) → IsKnown env → (left : Bool) (e : written.Expr) (t : Term) →
-        HasType env left e t → type_of t.tree ≡ t.ty }
+        HasType env left e t → type_of t.tree ≡ value_type t.ty }
+    ensures place { (env : Environment) (left : Bool) (e : written.Expr) (t : Term) →
+        HasType env left e t → IsReadWherePlace t.form t.tree }
 {}
 
 /// The same of expressions that stand as arguments. It does nothing when it runs.
@@ -52,4 +56,11 @@ pub fn typing_of_variables()
         decl_typed env at of d ≡ Ok i → IsDeclared env of d i }
     ensures no_fault { (env : Environment) → IsKnown env → (at : ℕ) (of : Ty) (d : written.Decl) →
         IsOk (decl_typed env at of d) ↔ ((i : Initialization) × IsDeclared env of d i) }
+{}
+
+/// That each type of variables is one of a typed tree, and each of a typed tree one of variables. It does nothing when
+/// it runs.
+pub fn types_of_variables()
+    ensures written { (of : Ty) → IsVariableType of → ty_of_var (var_type of) ≡ of }
+    ensures read { (of : VarType) → var_type (ty_of_var of) ≡ of }
 {}

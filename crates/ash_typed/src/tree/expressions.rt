@@ -6,7 +6,7 @@
 use crate::tree::operations::{
     Calculation, Change, Conversion, Lazy, Member, Method, Operation, Step, Target, Variable,
 };
-use crate::types::Kind;
+use crate::types::{Kind, VarType};
 
 /// A typed expression.
 #[cycle(typed_expressions)]
@@ -70,8 +70,10 @@ pub enum Expr {
         of: Kind,
         step: Step,
     },
+    /// The parameters are the types of the arguments, in order.
     Call {
         target: Target,
+        parameters: Vec<VarType>,
         arguments: Vec<Expr>,
     },
 }
@@ -90,9 +92,10 @@ pub enum Place {
 pub enum Link {
     /// What it holds.
     Member(Member),
-    /// What its method gives.
+    /// What its method gives. The parameters are the types of the arguments, in order.
     Invoke {
         method: Method,
+        parameters: Vec<VarType>,
         arguments: Vec<Expr>,
     },
 }

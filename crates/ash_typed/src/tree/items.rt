@@ -1,7 +1,7 @@
 //! Typed modules.
 
 use crate::tree::statements::{Initialization, Stmt};
-use crate::types::Ty;
+use crate::types::VarType;
 
 /// A module: what it declares, each in source order.
 #[derive(Debug, Drop)]
@@ -29,12 +29,13 @@ pub struct Class {
     pub methods: Vec<Function>,
 }
 
-/// A function, with the line of its name. Its parameters are its first locals.
+/// A function, with the line of its name and what it gives, where it gives a value. Its parameters are its first
+/// locals.
 #[derive(Debug, Drop)]
 pub struct Function {
     pub name: String,
     pub line: usize,
-    pub result: Ty,
-    pub parameters: Vec<Ty>,
+    pub result: Option<VarType>,
+    pub parameters: Vec<VarType>,
     pub body: Vec<Stmt>,
 }

@@ -1,48 +1,62 @@
 //! What a typed tree names: variables, members, functions, and operators with their kinds.
 
-use crate::types::{Kind, Ty};
+use crate::types::{Kind, VarType};
 
 /// A variable, with its type.
 #[derive(Clone, Copy, Debug, PartialEq, Eq)]
 pub enum Variable {
     /// A local or a parameter, by its slot: how many locals its function has before it. The parameters are the first.
-    Local { slot: usize, of: Ty },
+    Local { slot: usize, of: VarType },
     /// A global of the module, by its place among them.
-    Global { place: usize, of: Ty },
+    Global { place: usize, of: VarType },
 }
 
 /// What an object holds.
 #[derive(Clone, Copy, Debug, PartialEq, Eq)]
 pub enum Member {
     /// A field of a class, by the place of the class and its own among the fields, with its type.
-    Field { class: usize, place: usize, of: Ty },
+    Field {
+        class: usize,
+        place: usize,
+        of: VarType,
+    },
     /// A property of a registered type, by its number, with its type.
-    Property { id: u16, of: Ty },
+    Property {
+        id: u16,
+        of: VarType,
+    },
 }
 
-/// A method of an object.
+/// A method of an object. What gives no value has no result.
 #[derive(Clone, Copy, Debug, PartialEq, Eq)]
 pub enum Method {
     /// A method of a class, by their places, with what it gives.
     Script {
         class: usize,
         method: usize,
-        result: Ty,
+        result: Option<VarType>,
     },
     /// A method of a registered type, by its number, with what it gives.
     Host {
         id: u16,
-        result: Ty,
+        result: Option<VarType>,
     },
 }
 
-/// What a call calls, but for methods.
+/// What a call calls, but for methods. What gives no value has no result.
 #[derive(Clone, Copy, Debug, PartialEq, Eq)]
 pub enum Target {
     /// A function of the module, by its place among them, with what it gives.
-    Function { function: usize, result: Ty },
+    Function {
+        function: usize,
+        result: Option<VarType>,
+    },
     /// A function of a registered service, by its index and its number, with what it gives.
-    Service { service: u16, id: u16, result: Ty },
+    Service {
+        service: u16,
+        id: u16,
+        result: Option<VarType>,
+    },
     /// The construction of an object of a class.
     Class(usize),
     /// The construction of an object of a registered type, by its kind.
@@ -135,8 +149,6 @@ pub enum Lazy {
 /// An operation before its operand.
 #[derive(Clone, Copy, Debug, PartialEq, Eq)]
 pub enum Change {
-    /// The value itself, which is no place any more: unary `+`, `bool(e)`, and `@e`.
-    Keep,
     /// Unary `-`.
     Negate(Kind),
     /// `~`

@@ -2,7 +2,7 @@
 //! statement.
 
 use crate::tree::expressions::Expr;
-use crate::types::{Kind, Ty};
+use crate::types::{Kind, VarType};
 use ash_tree::Label;
 
 /// A variable that is declared: its name, its type, and what it begins with; where nothing is written, with zero, `false`
@@ -10,7 +10,7 @@ use ash_tree::Label;
 #[derive(Debug, Drop)]
 pub struct Initialization {
     pub name: String,
-    pub of: Ty,
+    pub of: VarType,
     pub value: Option<Expr>,
 }
 

@@ -2,4 +2,4 @@ use Rattle.ash_typed.proofs.Rows.{call_is}
 use Rattle.ash_typed.proofs.nodes.call.Goals as goal
 
 pub returns : goal.returns
-returns c = call_is c.args.target c.args.arguments
+returns c = call_is c.args.target c.args.parameters c.args.arguments

@@ -5,7 +5,7 @@ use Rattle.ash_typing.proofs.TypingWords.{answered, no_fault_at, same_ok}
 use Rattle.ash_typing.proofs.TypingKnown.{known_type}
 use Rattle.ash_typing.proofs.TypingComplete.{complete}
 use Rattle.ash_typing.proofs.TypingSound.{sound}
-use Rattle.ash_typing.proofs.TypingTypes.{type_is}
+use Rattle.ash_typing.proofs.TypingTypes.{type_is, read_is}
 use Rattle.ash_typing.proofs.typing.typing_of_expressions.Goals as goal
 
 pub returns-clause-complete : goal.returns-clause-complete
@@ -25,3 +25,6 @@ returns-clause-known c = λ env known left e t h is. let yes = known_type h know
 
 pub returns-clause-typed : goal.returns-clause-typed
 returns-clause-typed c = λ env known left e t h. type_is h known
+
+pub returns-clause-place : goal.returns-clause-place
+returns-clause-place c = λ env left e t h. read_is h

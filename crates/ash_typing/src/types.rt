@@ -1,0 +1,20 @@
+//! Types, as the rules of typing see them (AngelScript manual, "Data types").
+
+use ash_typed::{Kind, ObjectType};
+
+/// The type of a variable or of an expression.
+#[derive(Clone, Copy, Debug, PartialEq, Eq)]
+pub enum Ty {
+    Bool,
+    Integer(Kind),
+    /// An object that the variable stands for: `T x`.
+    Object(ObjectType),
+    /// A handle of an object: `T@ x`, and each expression that gives an object and is no variable.
+    Handle(ObjectType),
+    /// `null`
+    Null,
+    /// What a function without a result gives.
+    Void,
+    /// A type that is declared and not known. A fault is told at its declaration, and none before it for its sake.
+    Unknown,
+}
