@@ -1,14 +1,18 @@
 //! The check of a script: its typed module with a rank for each class, or why it is refused.
 
-ghost use Rattle.std.specs.Prelude.{◌≡◌, ◌<◌, ℕ, List, length, map, string_bytes, All, IfOk, IfErr, OnOk, MatchResult};
+ghost use Rattle.std.specs.Prelude.{◌≡◌, ◌↔◌, ◌<◌, ℕ, false, List, Ok, Err, length, map, string_bytes, All, IfOk, IfErr, OnOk, MatchResult};
+ghost use Rattle.ash_registrations.specs.Calls.{Call};
 ghost use Rattle.ash_registrations.specs.Registered as table;
 ghost use Rattle.ash_registry.specs.Registered.{registered};
+ghost use Rattle.ash_tree.specs.Tree.{Item};
 ghost use Rattle.ash_tree.specs.Views.{module_of as written_module};
+ghost use Rattle.ash_typed.specs.Modules as modules;
 ghost use Rattle.ash_typed.specs.Modules.{module_of};
 ghost use Rattle.ash_typing.specs.TypedModules.{IsTyped};
 ghost use Rattle.ash_classes.specs.References.{Refers, classes_of, seen};
-ghost use Rattle.ash_classes.specs.Ways.{Reaches, AreRanks};
-ghost use Rattle.ash_check.specs.Checks.{checked, typed_checked, Tells, told_of, name_at, round_of, GoesRoundIfCyclic};
+ghost use Rattle.ash_classes.specs.Ways.{IsTold, Reaches, AreRanks};
+ghost use Rattle.ash_check.specs.Checks.{Cyclic, checked, typed_checked, Tells, told_of, name_at, round_of, GoesRoundIfCyclic};
+ghost use Rattle.ash_check.specs.Interfaces.{names_interface};
 
 use crate::faults::{CheckFault, ClassNames};
 use crate::items::module_typed;
@@ -104,3 +108,22 @@ pub fn check(
     }
     check_typed(alloc, registry.registrations(), script)
 }
+
+/// That the check accepts a script, with this typed module, exactly where the rules give it this module, it names no
+/// interface, and no class reaches itself. And that it answers a cycle exactly where the rules give it a module, it names
+/// no interface, and some class reaches itself: the cycle from the first class that does, by the first of its shortest
+/// ways back. It does nothing when it runs.
+pub fn check_is_exact()
+    ensures accepted { (calls : List Call) (items : List Item) (typed : modules.Module) →
+        (checked calls items ≡ Ok typed) ↔ (IsTyped calls items typed × (names_interface items ≡ false) ×
+        ((class : ℕ) → Reaches (Refers (classes_of items)) class class → ⊥)) }
+    ensures cyclic { (calls : List Call) (items : List Item) →
+        ((names : List (List ℕ)) × (checked calls items ≡ Err (Cyclic names))) ↔
+        ((typed : modules.Module) × (class : ℕ) × IsTyped calls items typed × (names_interface items ≡ false) ×
+        Reaches (Refers (classes_of items)) class class) }
+    ensures names { (calls : List Call) (items : List Item) (names : List (List ℕ)) →
+        (checked calls items ≡ Err (Cyclic names)) ↔
+        ((typed : modules.Module) × (first : ℕ) × (others : List ℕ) × IsTyped calls items typed ×
+        (names_interface items ≡ false) × IsTold (Refers (classes_of items)) first others ×
+        (names ≡ round_of (classes_of items) (first, others))) }
+{}

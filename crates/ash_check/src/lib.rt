@@ -4,7 +4,8 @@
 //! which fault is the first, `ash_typing` defines: `module_typed` of its `specs/Items.antt` walks a script in the order of
 //! the text. Where every rule is kept, classes must not reach themselves by what their fields hold: `ash_classes` has
 //! their ranks, or the cycle that is told. `checked` of `specs/Checks.antt` says all this as one function, and `check`
-//! gives what it says, unless memory runs out. Expressions are typed by `ash_expressions`.
+//! gives what it says, unless memory runs out; `check_is_exact` says what that is by the rules of typing alone.
+//! Expressions are typed by `ash_expressions`.
 //!
 //! In reading order: `checks`, the whole; `faults`, what is told; `items`, the walk over a module, with `names`,
 //! `declarations` and `bodies`; `heads`, what a module declares; `statements`, the walk over a body, with `scopes`, what a
@@ -28,5 +29,5 @@ mod statements;
 mod switches;
 
 pub use ash_classes::search_is_exact;
-pub use checks::{Checked, check};
+pub use checks::{Checked, check, check_is_exact};
 pub use faults::{CheckFault, ClassNames};

@@ -14,3 +14,11 @@ pub mod TypedClasses
 pub mod TypedItems
 pub mod KnownModules
 pub mod ModuleLaws
+pub mod FaultTokens
+pub mod DerivedPlaces
+pub mod DerivedItems
+pub mod FaultAnswers
+pub mod FaultExpressions
+pub mod FaultStatements
+pub mod FaultItems
+pub mod FaultLaws

@@ -12,3 +12,4 @@ pub mod TypedStatements
 pub mod Bodies
 pub mod Items
 pub mod TypedModules
+pub mod FaultPlaces

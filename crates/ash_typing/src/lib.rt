@@ -2,9 +2,11 @@
 //!
 //! The rules stand in `specs/`, one case for each: of expressions and of variables in `Typing`, of statements in
 //! `TypedStatements`, of modules in `TypedModules`. The walk that finds the first fault stands in `Expressions`,
-//! `Declarations`, `Statements` and `Items`. `typing` and `modules` say that the two are one.
-//! The crate stands on `ash_tree`, whose trees are typed, on `ash_registrations`, and on `ash_typed`, whose trees are
-//! the typed ones. It types nothing itself: `ash_expressions` and `ash_check` do, by these definitions.
+//! `Declarations`, `Statements` and `Items`. `typing` and `modules` say that the two are one, and that each fault of a
+//! module is at one of its tokens: at which, `FaultPlaces` says.
+//! The crate stands on `ash_lex` and `ash_tree`, whose tokens and trees are typed, on `ash_registrations`, and on
+//! `ash_typed`, whose trees are the typed ones. It types nothing itself: `ash_expressions` and `ash_check` do, by these
+//! definitions.
 //!
 //! In reading order: `types`, `forms`, `fault`, `typing`, `modules`.
 #![tactic(auto)]
@@ -17,7 +19,7 @@ mod typing;
 
 pub use fault::{Fault, Rule};
 pub use forms::{Callable, Form, Operator, Sort};
-pub use modules::{typing_of_modules, typing_of_statements};
+pub use modules::{faults_are_at_tokens, typing_of_modules, typing_of_statements};
 pub use types::Ty;
 pub use typing::{
     types_of_variables, typing_of_arguments, typing_of_expressions, typing_of_variables,

@@ -1,9 +1,13 @@
 //! The typing rules of statements and of modules, and the walk that types: there is no fault exactly where a typed tree
 //! exists.
 
-ghost use Rattle.std.specs.Prelude.{◌≡◌, ◌↔◌, List, Ok, IsOk};
+ghost use Rattle.std.specs.Prelude.{◌≡◌, ◌↔◌, ℕ, List, Ok, Err, IsOk};
 ghost use Rattle.ash_registrations.specs.Calls.{Call};
+ghost use Rattle.ash_tree.specs.Grammar.{Derives};
+ghost use Rattle.ash_tree.specs.Tokens.{Tokens};
 ghost use Rattle.ash_tree.specs.Tree as written;
+ghost use Rattle.ash_typing.specs.declared.fault.Fault.{Fault};
+ghost use Rattle.ash_typing.specs.FaultPlaces.{IsTokenOf, IsFaultOf};
 ghost use Rattle.ash_typing.specs.Items.{module_typed};
 ghost use Rattle.ash_typed.specs.Modules as modules;
 ghost use Rattle.ash_typed.specs.StatementTree.{Stmts};
@@ -36,4 +40,13 @@ pub fn typing_of_modules()
         IsTyped calls is t → IsTyped calls is u → t ≡ u }
     ensures known { (calls : List Call) (is : List written.Item) (typed : modules.Module) →
         IsTyped calls is typed → IsKnown (environment calls is) }
+{}
+
+/// That the fault of a module is at one of the tokens that derive it, whatever is registered, and at one that means what
+/// a fault of its rule may be at. It does nothing when it runs.
+pub fn faults_are_at_tokens()
+    ensures at_a_token { (calls : List Call) (free : ℕ) (tokens : Tokens) (is : List written.Item) (fault : Fault) →
+        Derives free tokens is → module_typed calls is ≡ Err fault → IsTokenOf tokens fault.at }
+    ensures at_its_token { (calls : List Call) (free : ℕ) (tokens : Tokens) (is : List written.Item) (fault : Fault) →
+        Derives free tokens is → module_typed calls is ≡ Err fault → IsFaultOf tokens fault }
 {}

@@ -1,0 +1,123 @@
+-- The walk over the items of a module answers a fault at a token.
+use Rattle.std.proofs.Common.{ℕ, List, [], ◌∷◌, ◌++◌, Bool, Option, Some, None, length, nat_eq, inl, inr, refl}
+use Rattle.std.specs.Prelude.{◌||◌, is_some, nat_le}
+use Rattle.std.specs.List.{AllByRecursion, list_any}
+use Rattle.std.specs.Str.{bytes_eq}
+use Rattle.ash_lex.specs.Tokens.{name, reserved}
+use Rattle.ash_lex.specs.declared.words.ReservedWord.TheVariants as words
+use Rattle.ash_registrations.specs.Calls.{Call}
+use Rattle.ash_tree.specs.Tree as written
+use Rattle.ash_tree.specs.Tokens.{Tokens}
+use Rattle.ash_typing.specs.declared.types.Ty.{Ty}
+use Rattle.ash_typing.specs.declared.types.Ty.TheVariants as ty
+use Rattle.ash_typed.specs.Modules.{Class}
+use Rattle.ash_typing.specs.Environment.{Environment, Declared, Heads, declares, with_locals}
+use Rattle.ash_typing.specs.Expressions.{is_void}
+use Rattle.ash_typing.specs.Heads.{heads}
+use Rattle.ash_typing.specs.Bodies.{Body, body_scope, body_typed, returns_in}
+use Rattle.ash_typing.specs.Items.{ty_in, at_type, Names, is_taken, untaken, one_more, placed, passed_ty, result_typed, Row, with_variable, decls_typed, no_variables, vars_typed, parameters_typed, Routine, routine_of, returning, routine_typed, Members, constructor_named, member_typed, members_typed, no_members, inside, class_typed, Walked, one_more_class, item_typed, items_typed, seen, nothing, module_by, module_typed}
+use Rattle.ash_typing.proofs.FaultTokens.{HasToken, DeclIn, VarsIn, StmtsIn, ParameterIn, ResultIn, RoutineIn, MemberIn, ClassIn, ItemIn}
+use Rattle.ash_typing.proofs.FaultAnswers.{Answers, fine, faulty, Fine, bind, either}
+use Rattle.ash_typing.proofs.FaultStatements.{IsWrittenAt, written_at, known_ty_in, decl_in, stmts_in}
+
+-- names
+
+untaken_in : (script : Tokens) (names : Names) (at : ℕ) (text : List ℕ) → HasToken script (name text) at → Fine script (untaken names at text)
+unfolding untaken
+untaken_in script names at text h = either (is_taken names text) (faulty (name text, h, refl)) (fine tt)
+
+one_more_in : (script : Tokens) (names : Names) (at : ℕ) (text : List ℕ) → HasToken script (name text) at → Fine script (one_more names at)
+unfolding one_more
+one_more_in script names at text h = either (nat_eq names.room 0) (faulty (name text, h, refl)) (fine tt)
+
+placed_in : (script : Tokens) (names : Names) (at : ℕ) (text : List ℕ) → HasToken script (name text) at → Fine script (placed names at text)
+placed_in script names at text h = bind (untaken_in script names at text h) (λ next u. one_more_in script next at text h)
+
+-- types
+
+passed_ty_in : (script : Tokens) (at : ℕ) (of : Ty) → IsWrittenAt script of at → Fine script (passed_ty at of)
+unfolding passed_ty
+passed_ty_in script at ty.Unknown (inl h) = faulty (reserved words.Array, h, refl)
+passed_ty_in script at ty.Unknown (inr h) = faulty (name h.0, h.1, refl)
+passed_ty_in script at (ty.Object o) h = faulty (name h.0, h.1, refl)
+passed_ty_in script at ty.Void h = fine tt
+passed_ty_in script at ty.Bool h = fine tt
+passed_ty_in script at (ty.Integer k) h = fine tt
+passed_ty_in script at (ty.Handle o) h = fine tt
+passed_ty_in script at ty.Null h = fine tt
+
+result_in : (script : Tokens) (env : Environment) (of : Option written.Named) → ResultIn script of → Fine script (result_typed env of)
+result_in script env None h = fine tt
+result_in script env (Some of) h = passed_ty_in script (at_type of) (ty_in env of) (written_at script env.registered env.heads.classes of h)
+
+-- variables
+
+decls_in : (script : Tokens) (env : Environment) (at : ℕ) (of : Ty) (row : Row) (ds : List written.Decl) → IsWrittenAt script of at → AllByRecursion (DeclIn script) ds → Fine script (decls_typed env at of row ds)
+decls_in script env at of row [] w h = fine tt
+decls_in script env at of row (d ∷ ds) w h = bind (placed_in script row.names d.place.at d.name (h.0).0) (λ names u. bind (decl_in script env at of d w h.0) (λ value v. decls_in script env at of (record { names = names; variables = with_variable row.variables value }) ds w h.1))
+
+vars_in : (script : Tokens) (env : Environment) (names : Names) (v : written.Vars) → VarsIn script v → Fine script (vars_typed env names v)
+unfolding vars_typed
+vars_in script env names v h = bind (known_ty_in script (at_type v.of) (ty_in env v.of) (written_at script env.registered env.heads.classes v.of h.0)) (λ of w. decls_in script env (at_type v.of) of (record { names = names; variables = no_variables v.of }) v.decls w h.1)
+
+-- functions
+
+parameters_in : (script : Tokens) (env : Environment) (before : List Declared) (ps : List written.Parameter) → AllByRecursion (ParameterIn script) ps → Fine script (parameters_typed env before ps)
+parameters_in script env before [] h = fine tt
+parameters_in script env before (p ∷ ps) h = bind (passed_ty_in script (at_type p.of) (ty_in env p.of) (written_at script env.registered env.heads.classes p.of (h.0).0)) (λ of u. either (list_any (declares p.name) before) (faulty (name p.name, (h.0).1, refl)) (parameters_in script env (before ++ record { name = p.name; of = of } ∷ []) ps h.1))
+
+body_in : (script : Tokens) (env : Environment) (of : Ty) (body : List written.Stmt) → StmtsIn script (written.stmts body) → Fine script (body_typed env of body)
+unfolding body_typed
+body_in script env of body h = stmts_in script (body_scope env of) (written.stmts body) h
+
+returning_in : (script : Tokens) (at : ℕ) (text : List ℕ) (of : Ty) (statements : List written.Stmt) (body : Body) → HasToken script (name text) at → Fine script (returning at of statements body)
+unfolding returning
+returning_in script at text of statements body h = either (is_void of || returns_in statements) (fine tt) (faulty (name text, h, refl))
+
+routine_in : (script : Tokens) (env : Environment) (of : Ty) (c : Routine) → RoutineIn script c.place c.name c.parameters c.body → Fine script (routine_typed env of c)
+unfolding routine_typed
+routine_in script env of c h = bind (parameters_in script env [] c.parameters h.1) (λ locals u. bind (body_in script (with_locals env locals) of c.body h.2) (λ body v. bind (returning_in script c.place.at c.name of c.body body h.0) (λ done w. fine tt)))
+
+-- classes
+
+named_in : (script : Tokens) (class : Class) (c : written.Constructor) → RoutineIn script c.place c.name c.parameters c.body → Answers script (λ (r : Routine). RoutineIn script r.place r.name r.parameters r.body) (constructor_named class c)
+unfolding constructor_named
+named_in script class c h = either (is_some class.constructor) (faulty (name c.name, h.0, refl)) (either (bytes_eq c.name class.name) (fine h) (faulty (name c.name, h.0, refl)))
+
+member_in : (script : Tokens) (env : Environment) (ms : Members) (m : written.Member) → MemberIn script m → Fine script (member_typed env ms m)
+unfolding member_typed
+member_in script env ms (written.AField v) h = bind (vars_in script env ms.names v h) (λ row u. fine tt)
+member_in script env ms (written.AMethod f) h = bind (result_in script env f.result h.0) (λ of u. bind (placed_in script ms.names f.place.at f.name (h.1).0) (λ names v. bind (routine_in script env of (routine_of f) h.1) (λ t w. fine tt)))
+member_in script env ms (written.AConstructor c) h = bind (named_in script ms.class c h) (λ named k. bind (routine_in script env ty.Void named k) (λ t u. fine tt))
+
+members_in : (script : Tokens) (env : Environment) (ms : Members) (rest : List written.Member) → AllByRecursion (MemberIn script) rest → Fine script (members_typed env ms rest)
+members_in script env ms [] h = fine tt
+members_in script env ms (m ∷ rest) h = bind (member_in script env ms m h.0) (λ next u. members_in script env next rest h.1)
+
+class_in : (script : Tokens) (env : Environment) (place : ℕ) (c : written.Class) → ClassIn script c → Fine script (class_typed env place c)
+unfolding class_typed
+class_in script env place c h = bind (members_in script (inside env place) (no_members c) c.members h.2) (λ ms u. fine tt)
+
+-- modules
+
+one_more_class_in : (script : Tokens) (at : ℕ) (text : List ℕ) (count : ℕ) → HasToken script (name text) at → Fine script (one_more_class at count)
+unfolding one_more_class
+one_more_class_in script at text count h = either (nat_le 256 count) (faulty (name text, h, refl)) (fine tt)
+
+item_in : (script : Tokens) (env : Environment) (w : Walked) (i : written.Item) → ItemIn script i → Fine script (item_typed env w i)
+unfolding item_typed
+item_in script env w (written.AClass c) h = bind (untaken_in script w.names c.place.at c.name h.0) (λ names u. bind (one_more_class_in script c.place.at c.name (length w.typed.classes) h.0) (λ place v. bind (class_in script env place c h) (λ t x. fine tt)))
+item_in script env w (written.AnInterface i) h = bind (untaken_in script w.names i.place.at i.name h.0) (λ names u. fine tt)
+item_in script env w (written.AFunction f) h = bind (result_in script env f.result h.0) (λ of u. bind (untaken_in script w.names f.place.at f.name (h.1).0) (λ names v. bind (routine_in script env of (routine_of f) h.1) (λ t x. fine tt)))
+item_in script env w (written.AGlobal v) h = bind (vars_in script env w.names v h) (λ row u. fine tt)
+
+items_in : (script : Tokens) (env : Environment) (w : Walked) (is : List written.Item) → AllByRecursion (ItemIn script) is → Fine script (items_typed env w is)
+items_in script env w [] h = fine tt
+items_in script env w (i ∷ is) h = bind (item_in script env w i h.0) (λ next u. items_in script env next is h.1)
+
+module_by_in : (script : Tokens) (calls : List Call) (hs : Heads) (is : List written.Item) → AllByRecursion (ItemIn script) is → Fine script (module_by calls hs is)
+module_by_in script calls hs is h = bind (items_in script (seen calls hs) (nothing calls) is h) (λ w u. fine tt)
+
+pub module_in : (script : Tokens) (calls : List Call) (is : List written.Item) → AllByRecursion (ItemIn script) is → Fine script (module_typed calls is)
+unfolding module_typed
+module_in script calls is h = module_by_in script calls (heads calls is) is h

@@ -1,0 +1,53 @@
+-- The fault of a derived module is at a token.
+use Rattle.std.proofs.Common.{◌≡◌, ℕ, suc, List, [], ◌∷◌, true, Err, refl, sym, subst, arith}
+use Rattle.std.specs.List.{Any}
+use Rattle.ash_lex.specs.Tokens.{Meaning}
+use Rattle.ash_registrations.specs.Calls.{Call}
+use Rattle.ash_tree.specs.declared.tree.places.Place.{Place}
+use Rattle.ash_tree.specs.Grammar.{Derives}
+use Rattle.ash_tree.specs.Tokens.{Tokens}
+use Rattle.ash_tree.specs.Tree.{Item}
+use Rattle.ash_typing.specs.declared.fault.Fault.{Fault}
+use Rattle.ash_typing.specs.Items.{module_typed}
+use Rattle.ash_typing.specs.FaultPlaces.{breaks_at, IsTokenOf, IsFaultOf}
+use Rattle.ash_typing.proofs.FaultTokens.{HasToken, AreIn}
+use Rattle.ash_typing.proofs.FaultAnswers.{IsIn, is_in}
+use Rattle.ash_typing.proofs.DerivedItems.{items_in}
+use Rattle.ash_typing.proofs.FaultItems.{module_in}
+
+-- some element
+
+any_here : {X : Type 0} (P : X → Type 0) (x : X) (xs : List X) → P x → Any P (x ∷ xs)
+any_here P x xs h = (0, x, omega arith, refl, h)
+
+any_after : {X : Type 0} (P : X → Type 0) (x : X) (xs : List X) → Any P xs → Any P (x ∷ xs)
+any_after P x xs h = (suc h.0, h.1, omega (arith, h.2), h.3, h.4)
+
+any_map : {X : Type 0} (P Q : X → Type 0) (xs : List X) → ((x : X) → P x → Q x) → Any P xs → Any Q xs
+any_map P Q xs go h = (h.0, h.1, h.2, h.3, go h.1 h.4)
+
+-- each token of the script is one of it
+
+abbrev pub Has : Tokens → Meaning × Place → Type 0
+Has script t = HasToken script t.0 t.1.at
+
+further : (t u : Meaning × Place) (ts : Tokens) → Has ts u → Has (t ∷ ts) u
+further t u ts h = record { token = any_after (λ (x : Meaning × Place). (x.0 ≡ u.0) × (x.1.at ≡ u.1.at)) t ts h.token }
+
+all_further : (t : Meaning × Place) (ts us : Tokens) → AreIn ts us → AreIn (t ∷ ts) us
+all_further t ts [] h = tt
+all_further t ts (u ∷ us) h = (further t u ts h.0, all_further t ts us h.1)
+
+all_in : (ts : Tokens) → AreIn ts ts
+all_in [] = tt
+all_in (t ∷ ts) = (record { token = any_here (λ (x : Meaning × Place). (x.0 ≡ t.0) × (x.1.at ≡ t.1.at)) t ts (refl, refl) }, all_further t ts ts (all_in ts))
+
+-- the fault
+
+pub fault_at : (calls : List Call) (free : ℕ) (tokens : Tokens) (is : List Item) (fault : Fault) → Derives free tokens is → module_typed calls is ≡ Err fault → IsFaultOf tokens fault
+fault_at calls free tokens is fault d h =
+    let found : IsIn tokens fault = is_in (module_in tokens calls is (items_in tokens d (all_in tokens))) fault h in
+    any_map (λ (t : Meaning × Place). (t.0 ≡ found.0) × (t.1.at ≡ fault.at)) (λ (t : Meaning × Place). (t.1.at ≡ fault.at) × (breaks_at fault.rule t.0 ≡ true)) tokens (λ t k. (k.1, subst (λ m. breaks_at fault.rule m ≡ true) (sym k.0) found.2)) (found.1).token
+
+pub fault_token : (calls : List Call) (free : ℕ) (tokens : Tokens) (is : List Item) (fault : Fault) → Derives free tokens is → module_typed calls is ≡ Err fault → IsTokenOf tokens fault.at
+fault_token calls free tokens is fault d h = any_map (λ (t : Meaning × Place). (t.1.at ≡ fault.at) × (breaks_at fault.rule t.0 ≡ true)) (λ (t : Meaning × Place). t.1.at ≡ fault.at) tokens (λ t k. k.0) (fault_at calls free tokens is fault d h)
