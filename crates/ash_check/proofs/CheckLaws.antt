@@ -5,7 +5,7 @@ use Rattle.std.specs.Prelude.{if◌then◌else◌}
 use Rattle.std.proofs.lemmas.Option.{slice_get_within, get_or_from_slice_get}
 use Rattle.std.proofs.lemmas.List.{map-append}
 use Rattle.std.specs.Option.{option_map_or}
-use Rattle.std.specs.List.{Any, Contains}
+use Rattle.std.specs.List.{Contains}
 use Rattle.ash_registrations.specs.Calls.{Call}
 use Rattle.ash_tree.specs.Tree.{Class, Item}
 use Rattle.ash_typing.specs.declared.fault.Rule.{Rule}
@@ -16,7 +16,7 @@ use Rattle.ash_expressions.specs.declared.stop.Stop.{Stop}
 use Rattle.ash_expressions.specs.declared.stop.Stop.TheVariants as stops
 use Rattle.ash_expressions.specs.Gives.{Fails}
 use Rattle.ash_classes.specs.Ways.{IsWay}
-use Rattle.ash_classes.specs.References.{Holds, Refers, classes_of}
+use Rattle.ash_classes.specs.References.{Refers, classes_of}
 use Rattle.ash_classes.specs.ToldCycle.{told_cycle}
 use Rattle.ash_untyped.specs.Uses.{uses}
 use Rattle.ash_check.specs.declared.faults.CheckFault.{CheckFault}
@@ -108,7 +108,7 @@ holds_named : (classes : List Class) (from to : ℕ) → Refers classes from to 
 holds_named classes from to refers =
     let other = refers.0 in
     let one = refers.2.0 in
-    (one, is_among classes from one refers.2.1, sym (name_is classes from one refers.2.1), subst (λ (name : List ℕ). Any (λ member. Holds member name) one.members) (sym (name_is classes to other refers.1)) refers.2.2)
+    (one, other, is_among classes from one refers.2.1, sym (name_is classes from one refers.2.1), is_among classes to other refers.1, sym (name_is classes to other refers.1), refers.2.2)
 
 leads_to : (classes : List Class) (from : ℕ) (between : List ℕ) (to : ℕ) → IsWay (Refers classes) from between to → LeadsTo classes (name_at classes from) (map (name_at classes) between) (name_at classes to)
 leads_to classes from [] to way = holds_named classes from to way

@@ -1,7 +1,7 @@
 -- What checking tells of a script: its typed module; or that it uses what is not typed so far; else the first rule that
 -- is broken; else classes that could form cycles.
 use Rattle.std.specs.Prelude.{◌≡◌, ℕ, List, [], ◌∷◌, Option, Some, None, Result, Ok, Err, map, slice_get, string_bytes, if◌then◌else◌}
-use Rattle.std.specs.List.{Any, Contains}
+use Rattle.std.specs.List.{Contains}
 use Rattle.std.specs.Option.{option_map_or}
 use Rattle.ash_registrations.specs.Calls.{Call}
 use Rattle.ash_tree.specs.Tree.{Class, Item}
@@ -11,7 +11,7 @@ use Rattle.ash_typing.specs.declared.fault.Rule.TheVariants as rules
 use Rattle.ash_typing.specs.Checking.{Checking}
 use Rattle.ash_typed.specs.Modules.{Module}
 use Rattle.ash_typing.specs.Items.{module_typed}
-use Rattle.ash_classes.specs.References.{Holds, classes_of}
+use Rattle.ash_classes.specs.References.{RefersTo, classes_of}
 use Rattle.ash_classes.specs.ToldCycle.{told_cycle}
 use Rattle.ash_untyped.specs.Uses.{uses}
 use Rattle.ash_check.specs.declared.faults.CheckFault.{CheckFault}
@@ -86,9 +86,9 @@ Tells answer fault = IsWhatIsTold (told_of fault) answer
 
 -- a cycle as a reader of the script follows it
 
--- a class of the one name has a field with an object of the other, or with a handle of one
+-- a class of the one name refers to a class of the other
 abbrev pub HoldsNamed : List Class → List ℕ → List ℕ → Type 0
-HoldsNamed classes from to = (class : Class) × Contains classes class × (class.name ≡ from) × Any (λ member. Holds member to) class.members
+HoldsNamed classes from to = (one other : Class) × Contains classes one × (one.name ≡ from) × Contains classes other × (other.name ≡ to) × RefersTo one other
 
 -- the class of each name holds the next one, and the last holds this one
 abbrev pub LeadsTo : List Class → List ℕ → List (List ℕ) → List ℕ → Type 0

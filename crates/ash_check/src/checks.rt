@@ -30,7 +30,7 @@ pub struct Checked {
     /// What the script declares, typed.
     pub module: Module,
     /// A rank for each class, by its place in `module.classes`: a number below that of the classes, and greater than the
-    /// rank of each class that it has a field of, or a field with a handle of.
+    /// rank of each class that it refers to.
     pub ranks: Vec<usize>,
 }
 

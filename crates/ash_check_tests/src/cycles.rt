@@ -57,6 +57,52 @@ fn cycles_that_are_reported(rt: HostRuntime) {
     check_rows(&rt, rt.alloc(), Question::Cycle, CYCLES)
 }
 
+// In the order of the rows: a class with a handle of an interface that it lists; one with an object of it; an
+// interface that two classes list, where the later one refers back; the same where the first one does; two classes
+// and an interface; the second interface that a class lists; an interface that no class lists; a class before the
+// interfaces and classes between and after them, of which the first has no way back; a way by an interface that is
+// shorter than the one by classes alone; two classes by two interfaces; an interface whose name begins that of the
+// one listed; parameters and results of methods are no fields.
+const CYCLES_BY_INTERFACES: &str = "
+    0 | interface I { void g(); } class A : I { I@ n; void g() {} }
+    0 | interface I { } class A : I { I n; }
+    0 2 | interface I { } class A { I@ x; } class B : I { } class C : I { A@ x; }
+    0 1 | interface I { } class A { I@ x; } class B : I { A@ x; } class C : I { }
+    0 1 | interface I { } class A : I { B@ x; } class B { I@ x; }
+    0 | interface I { } interface J { } class A : I, J { J@ x; }
+    none | interface I { } interface J { } class A : I { J@ x; B@ y; } class B { J x; }
+    1 2 | class A { } interface I { } class B : I { C@ x; } interface J { } class C : J { A@ x; I@ y; }
+    0 2 | interface I { } class A { B@ x; I@ y; } class B { C@ x; } class C : I { A@ x; }
+    0 1 | interface I { } interface J { } class A : I { J@ x; } class B : J { I@ x; }
+    none | interface I { } interface In { } class A : In { I@ x; }
+    none | interface I { } class A : I { void g(I@ x) { } I@ h() { return null; } }
+    ";
+
+#[test]
+fn cycles_by_interfaces(rt: HostRuntime) {
+    check_rows(&rt, rt.alloc(), Question::Cycle, CYCLES_BY_INTERFACES)
+}
+
+// In the order of the rows: an array of handles; a handle of one; both of an interface's handles; arrays of
+// integers are no reference; nor are those of what is no class, and no interface; a cycle through an array, an
+// interface and an object; an array of an interface's handles leads to each class that lists it, and the first of
+// two comes first.
+const CYCLES_BY_ARRAYS: &str = "
+    0 | class Node { array<Node@> x; }
+    0 | class Node { array<Node@>@ x; }
+    0 | interface I { } class A : I { array<I@> x; }
+    0 | interface I { } class A : I { array<I@>@ x; }
+    none | class A { array<int> x; array<bool>@ y; array<int64> z; }
+    none | interface I { } class A : I { array<Counter@> x; array<Unknown@>@ y; Unknown@ z; }
+    0 1 2 | interface I { } class A { array<B@> x; } class B { I@ x; } class C : I { A x; }
+    0 1 | interface I { } class A { array<I@>@ x; } class B : I { A@ x; } class C : I { A@ x; }
+    ";
+
+#[test]
+fn cycles_by_arrays(rt: HostRuntime) {
+    check_rows(&rt, rt.alloc(), Question::Cycle, CYCLES_BY_ARRAYS)
+}
+
 /// 256 classes, each with a handle of the next; the last has a handle of this type.
 fn chain(alloc: Global, last: &str) -> Result<String, AllocError> {
     let mut source = String::new(alloc);

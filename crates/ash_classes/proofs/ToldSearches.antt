@@ -1,14 +1,16 @@
 -- The search for a cycle finds the one that is told, and none where there is none.
 use Rattle.std.proofs.Common.{◌≡◌, ℕ, zero, suc, ◌<◌, ◌⊎◌, ◌↔◌, Bool, true, false, cond, List, [], ◌∷◌, length, Option, Some, None, Decides, slice_get, option_map, inl, inr, refl, sym, ap, ◌∙◌, subst, arith}
 use Rattle.std.proofs.lemmas.Bool.{cases_lt}
+use Rattle.std.proofs.lemmas.Bool.Decides.{Decides-or}
 use Rattle.std.proofs.lemmas.Option.{none-some, same_Some, slice_get_within}
 use Rattle.std.proofs.lemmas.List.Folds.{Any-from_list_any, list_any-from_Any}
 use Rattle.std.proofs.lemmas.Slice.Eq.{bytes_eq-Decides}
+use Rattle.std.specs.List.{Any, list_any}
 use Rattle.std.specs.Option.{option_or}
-use Rattle.ash_tree.specs.Tree.{Named, Prim, Object, Handle, Array, ArrayHandle, Member, AField, AMethod, AConstructor, Class}
+use Rattle.ash_tree.specs.Tree.{Element, PrimElement, HandleElement, Named, Prim, Object, Handle, Array, ArrayHandle, Member, AField, AMethod, AConstructor, Class}
 use Rattle.ash_classes.specs.Ways.{IsWay, Reaches, IsNoLater, IsForemost, IsTold}
-use Rattle.ash_classes.specs.References.{Names, Holds, RefersTo, Refers}
-use Rattle.ash_classes.specs.ToldCycle.{is_of, is_field_of, refers_to, refers, refers_at, first_below, foremost, shortest_back, first_round, told_cycle}
+use Rattle.ash_classes.specs.References.{IsOf, ElementNames, Names, Holds, RefersTo, Refers}
+use Rattle.ash_classes.specs.ToldCycle.{is_of, element_names, names, holds, refers_to, refers, refers_at, first_below, foremost, shortest_back, first_round, told_cycle}
 use Rattle.ash_classes.proofs.ToldLaws.{only_told}
 use Rattle.ash_classes.proofs.Shortcuts.{end_within, short_round}
 
@@ -147,23 +149,33 @@ module _ (R : ℕ → ℕ → Type 0) (goes : ℕ → ℕ → Bool) (places : �
 
 -- the test of references
 
-of-Decides : (name : List ℕ) (of : Named) → Decides (is_of name of) (Names of name)
-of-Decides name (Prim place kind) = (λ h. cc, λ h. absurd h)
-of-Decides name (Object place text) = bytes_eq-Decides text name
-of-Decides name (Handle place text) = bytes_eq-Decides text name
-of-Decides name (Array place element) = (λ h. cc, λ h. absurd h)
-of-Decides name (ArrayHandle place element) = (λ h. cc, λ h. absurd h)
+any-Decides : {X : Type 0} (passes : X → Bool) (Passes : X → Type 0) → ((x : X) → Decides (passes x) (Passes x)) → (xs : List X) → Decides (list_any passes xs) (Any Passes xs)
+any-Decides passes Passes each xs = (
+  λ h. let any = Any-from_list_any passes xs h in (any.0, any.1, any.2, any.3, (each any.1).0 any.4),
+  λ any. list_any-from_Any passes xs (any.0, any.1, any.2, any.3, (each any.1).1 any.4),
+)
 
-field-Decides : (name : List ℕ) (member : Member) → Decides (is_field_of name member) (Holds member name)
-field-Decides name (AField vars) = of-Decides name vars.of
-field-Decides name (AMethod function) = (λ h. cc, λ h. absurd h)
-field-Decides name (AConstructor constructor) = (λ h. cc, λ h. absurd h)
+of-Decides : (class : Class) (name : List ℕ) → Decides (is_of class name) (IsOf class name)
+of-Decides class name = Decides-or _ _ (bytes_eq-Decides class.name name) (any-Decides _ _ (λ interface. bytes_eq-Decides interface.name name) class.interfaces)
+
+element-Decides : (class : Class) (element : Element) → Decides (element_names class element) (ElementNames element class)
+element-Decides class (PrimElement place kind) = (λ h. cc, λ h. absurd h)
+element-Decides class (HandleElement place name) = of-Decides class name
+
+type-Decides : (class : Class) (of : Named) → Decides (names class of) (Names of class)
+type-Decides class (Prim place kind) = (λ h. cc, λ h. absurd h)
+type-Decides class (Object place name) = of-Decides class name
+type-Decides class (Handle place name) = of-Decides class name
+type-Decides class (Array place element) = element-Decides class element
+type-Decides class (ArrayHandle place element) = element-Decides class element
+
+member-Decides : (class : Class) (member : Member) → Decides (holds class member) (Holds member class)
+member-Decides class (AField vars) = type-Decides class vars.of
+member-Decides class (AMethod function) = (λ h. cc, λ h. absurd h)
+member-Decides class (AConstructor constructor) = (λ h. cc, λ h. absurd h)
 
 pub refers_to-Decides : (from to : Class) → Decides (refers_to from to) (RefersTo from to)
-refers_to-Decides from to = (
-  λ h. let any = Any-from_list_any (is_field_of to.name) from.members h in (any.0, any.1, any.2, any.3, (field-Decides to.name any.1).0 any.4),
-  λ any. list_any-from_Any (is_field_of to.name) from.members (any.0, any.1, any.2, any.3, (field-Decides to.name any.1).1 any.4),
-)
+refers_to-Decides from to = any-Decides (holds to) (λ member. Holds member to) (member-Decides to) from.members
 
 -- classes that are there refer to one another
 abbrev ReferThere : Option Class → Option Class → Type 0

@@ -1,10 +1,10 @@
 -- What the classes of a module refer to.
-use Rattle.std.specs.Prelude.{◌≡◌, ℕ, List, [], ◌∷◌, Some, slice_get, map}
+use Rattle.std.specs.Prelude.{◌≡◌, ◌⊎◌, ℕ, List, [], ◌∷◌, Some, slice_get, map}
 use Rattle.std.specs.Borrow.{Bor}
 use Rattle.std.specs.List.{Any}
 use Rattle.ash_tree.specs.declared.tree.items.Class as code
 use Rattle.ash_tree.specs.Views.{class_of}
-use Rattle.ash_tree.specs.Tree.{Named, Object, Handle, Member, AField, Class, Item, AClass}
+use Rattle.ash_tree.specs.Tree.{Element, HandleElement, Named, Object, Handle, Array, ArrayHandle, Member, AField, Class, Item, AClass}
 
 -- the classes, in the order in which they stand
 abbrev pub classes_of : List Item → List Class
@@ -12,20 +12,31 @@ classes_of [] = []
 classes_of (AClass class ∷ items) = class ∷ classes_of items
 classes_of (_ ∷ items) = classes_of items
 
--- the object type of that name, or a handle of it
-abbrev pub Names : Named → List ℕ → Type 0
-Names (Object place text) name = text ≡ name
-Names (Handle place text) name = text ≡ name
-Names _ name = ⊥
+-- a class is of the type of that name: the name is its own, or that of an interface that it lists
+abbrev pub IsOf : Class → List ℕ → Type 0
+IsOf class name = (class.name ≡ name) ⊎ Any (λ interface. interface.name ≡ name) class.interfaces
 
--- a field of that type, or with a handle of it
-abbrev pub Holds : Member → List ℕ → Type 0
-Holds (AField vars) name = Names vars.of name
-Holds _ name = ⊥
+-- elements that are handles of a type that the class is of
+abbrev pub ElementNames : Element → Class → Type 0
+ElementNames (HandleElement place name) class = IsOf class name
+ElementNames _ class = ⊥
 
--- a member of the one class holds the other
+-- a type that the class is of, or a handle of one; an array of such handles, or a handle of such an array
+abbrev pub Names : Named → Class → Type 0
+Names (Object place name) class = IsOf class name
+Names (Handle place name) class = IsOf class name
+Names (Array place element) class = ElementNames element class
+Names (ArrayHandle place element) class = ElementNames element class
+Names _ class = ⊥
+
+-- a field of such a type can hold objects of the class
+abbrev pub Holds : Member → Class → Type 0
+Holds (AField vars) class = Names vars.of class
+Holds _ class = ⊥
+
+-- a member of the one class can hold objects of the other
 abbrev pub RefersTo : Class → Class → Type 0
-RefersTo from to = Any (λ member. Holds member to.name) from.members
+RefersTo from to = Any (λ member. Holds member to) from.members
 
 -- so does the class at a place
 abbrev pub RefersAt : List Class → ℕ → Class → Type 0

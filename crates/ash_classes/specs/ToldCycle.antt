@@ -1,26 +1,37 @@
 -- The cycle that is told of classes, as a reader would look for it: from the first class that leads back to itself, by the first of its shortest ways.
-use Rattle.std.specs.Prelude.{ℕ, zero, suc, Bool, false, List, [], ◌∷◌, length, Option, Some, None, option_map, slice_get, if◌then◌else◌}
+use Rattle.std.specs.Prelude.{ℕ, zero, suc, Bool, false, ◌||◌, List, [], ◌∷◌, length, Option, Some, None, option_map, slice_get, if◌then◌else◌}
 use Rattle.std.specs.Option.{option_or}
 use Rattle.std.specs.List.{list_any}
 use Rattle.std.specs.Str.{bytes_eq}
-use Rattle.ash_tree.specs.Tree.{Named, Object, Handle, Member, AField, Class}
+use Rattle.ash_tree.specs.Tree.{Element, HandleElement, Named, Object, Handle, Array, ArrayHandle, Member, AField, Class}
 
 -- whether one class refers to another
 
--- the object type of that name, or a handle of it
-abbrev pub is_of : List ℕ → Named → Bool
-is_of name (Object place text) = bytes_eq text name
-is_of name (Handle place text) = bytes_eq text name
-is_of name _ = false
+-- the name is the class's own, or that of an interface that it lists
+abbrev pub is_of : Class → List ℕ → Bool
+is_of class name = bytes_eq class.name name || list_any (λ interface. bytes_eq interface.name name) class.interfaces
 
--- a field of that type, or with a handle of it
-abbrev pub is_field_of : List ℕ → Member → Bool
-is_field_of name (AField vars) = is_of name vars.of
-is_field_of name _ = false
+-- elements that are handles of a type that the class is of
+abbrev pub element_names : Class → Element → Bool
+element_names class (HandleElement place name) = is_of class name
+element_names class _ = false
 
--- a member of the one class holds the other
+-- a type that the class is of, or a handle of one; an array of such handles, or a handle of such an array
+abbrev pub names : Class → Named → Bool
+names class (Object place name) = is_of class name
+names class (Handle place name) = is_of class name
+names class (Array place element) = element_names class element
+names class (ArrayHandle place element) = element_names class element
+names class _ = false
+
+-- a field of such a type can hold objects of the class
+abbrev pub holds : Class → Member → Bool
+holds class (AField vars) = names class vars.of
+holds class _ = false
+
+-- a member of the one class can hold objects of the other
 abbrev pub refers_to : Class → Class → Bool
-refers_to from to = list_any (is_field_of to.name) from.members
+refers_to from to = list_any (holds to) from.members
 
 abbrev pub refers : Option Class → Option Class → Bool
 refers (Some from) (Some to) = refers_to from to

@@ -2,36 +2,63 @@
 
 ghost use Rattle.std.specs.Prelude.{◌≡◌, ◌↔◌, ℕ, length, map, string_bytes, IsTrue, IfOk, Contains};
 ghost use Rattle.std.specs.List.{Any};
-ghost use Rattle.ash_tree.specs.Views.{type_of, member_of, class_of, item_of, module_of};
-ghost use Rattle.ash_classes.specs.References.{Names, Holds, RefersTo, RefersAt, Refers, classes_of, seen};
+ghost use Rattle.ash_tree.specs.Views.{element_of, type_of, type_name_of, member_of, class_of, item_of, module_of};
+ghost use Rattle.ash_classes.specs.References.{IsOf, ElementNames, Names, Holds, RefersTo, RefersAt, Refers, classes_of, seen};
 ghost use Rattle.ash_classes.specs.Marking.{rows_of, Goes};
 
-use ash_tree::{Class, Item, Member, Module, Type, TypeKind};
+use ash_tree::{Class, Element, ElementKind, Item, Member, Module, Type, TypeKind, TypeName};
 use std::alloc::{AllocError, Global};
 
-fn names(of: &Type, name: &str) -> bool
-    ensures { IsTrue result ↔ Names (type_of of.now) name.now }
+fn any_named(interfaces: &[TypeName], name: &str) -> bool
+    ensures { IsTrue result ↔ Any (λ interface. interface.name ≡ name.now) (map type_name_of interfaces.now) }
 {
-    match &of.kind {
-        TypeKind::Object(text) | TypeKind::Handle(text) => text.as_str() == name,
-        TypeKind::Primitive(_) | TypeKind::Array(_) | TypeKind::ArrayHandle(_) => false,
+    for interface in interfaces {
+        if interface.name.as_str() == name {
+            return true;
+        }
+    }
+    false
+}
+
+fn is_of(class: &Class, name: &str) -> bool
+    ensures { IsTrue result ↔ IsOf (class_of class.now) name.now }
+{
+    class.name.as_str() == name || any_named(&class.interfaces, name)
+}
+
+fn element_names(element: &Element, class: &Class) -> bool
+    ensures { IsTrue result ↔ ElementNames (element_of element.now) (class_of class.now) }
+{
+    match &element.kind {
+        ElementKind::Handle(name) => is_of(class, name),
+        ElementKind::Primitive(_) => false,
     }
 }
 
-fn holds(member: &Member, name: &str) -> bool
-    ensures { IsTrue result ↔ Holds (member_of member.now) name.now }
+fn names(of: &Type, class: &Class) -> bool
+    ensures { IsTrue result ↔ Names (type_of of.now) (class_of class.now) }
+{
+    match &of.kind {
+        TypeKind::Object(name) | TypeKind::Handle(name) => is_of(class, name),
+        TypeKind::Array(element) | TypeKind::ArrayHandle(element) => element_names(element, class),
+        TypeKind::Primitive(_) => false,
+    }
+}
+
+fn holds(member: &Member, class: &Class) -> bool
+    ensures { IsTrue result ↔ Holds (member_of member.now) (class_of class.now) }
 {
     match member {
-        Member::Vars(vars) => names(&vars.of, name),
+        Member::Vars(vars) => names(&vars.of, class),
         Member::Function(_) | Member::Constructor(_) => false,
     }
 }
 
-fn any_holds(members: &[Member], name: &str) -> bool
-    ensures { IsTrue result ↔ Any (λ member. Holds member name.now) (map member_of members.now) }
+fn any_holds(members: &[Member], class: &Class) -> bool
+    ensures { IsTrue result ↔ Any (λ member. Holds member (class_of class.now)) (map member_of members.now) }
 {
     for member in members {
-        if holds(member, name) {
+        if holds(member, class) {
             return true;
         }
     }
@@ -41,7 +68,7 @@ fn any_holds(members: &[Member], name: &str) -> bool
 fn refers(from: &Class, to: &Class) -> bool
     ensures { IsTrue result ↔ RefersTo (class_of from.now) (class_of to.now) }
 {
-    any_holds(&from.members, to.name.as_str())
+    any_holds(&from.members, to)
 }
 
 /// The classes of a module, in the order in which they stand.
