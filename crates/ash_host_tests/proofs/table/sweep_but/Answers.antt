@@ -6,7 +6,7 @@ use Rattle.ash_host.specs.Objects.{object_at, Lives}
 use Rattle.ash_objects.specs.Table.{Table, Living, holds_of, held, with_object}
 use Rattle.ash_objects.specs.Sweeping.{Collects}
 use Rattle.ash_slots.proofs.Changing.{object_at-change}
-use Rattle.ash_objects_tests.proofs.table.sweep_but.Goals as goal
+use Rattle.ash_host_tests.proofs.table.sweep_but.Goals as goal
 
 module _ {B : Type 0} where
   -- a hold is counted

@@ -1,0 +1,36 @@
+//! Tests of what the crates below the front end have: integers, kinds of host objects, and the table of objects. They are
+//! in a crate with tests alone, so that the crates with the code are proved once.
+//!
+//! - `rows`: every operator on every type of integers at its extremes, worked out by hand.
+//! - `kinds`: what each kind of host objects answers to rows of calls, what it saves, and what it comes back from.
+//! - `table`, `reporter` and `steps`: a table whose boxes report that they are given up, and its calls as data.
+//! - `sequences`, `marks`, `arrays` and `limits`: sequences of calls with the events that they leave, what is named as
+//!   changed, arrays, and a table at its limits, with memory that is ample.
+//! - `restoring` and `pools`: tables from what a state holds, and the boxes that they take and give up.
+//! - `refusals`: memory that is refused once.
+#![tactic(auto)]
+
+#[cfg(test)]
+mod arrays;
+#[cfg(test)]
+mod kinds;
+#[cfg(test)]
+mod limits;
+#[cfg(test)]
+mod marks;
+#[cfg(test)]
+mod pools;
+#[cfg(test)]
+mod refusals;
+#[cfg(test)]
+mod reporter;
+#[cfg(test)]
+mod restoring;
+#[cfg(test)]
+mod rows;
+#[cfg(test)]
+mod sequences;
+#[cfg(test)]
+mod steps;
+#[cfg(test)]
+mod table;
