@@ -1,12 +1,12 @@
 //! Names, calls and suffixes, once their parts are typed.
 
-ghost use Rattle.std.specs.Prelude.{◌≡◌, length, map, option_map, IfOk};
+ghost use Rattle.std.specs.Prelude.{◌≡◌, [], ◌∷◌, length, map, option_map, IfOk};
 ghost use Rattle.ash_typed.specs.Views.{expr_of};
 ghost use Rattle.ash_typing.specs.Environment as environment;
 ghost use Rattle.ash_typing.specs.Types as definition;
 ghost use Rattle.ash_typing.specs.Expressions as typing;
 ghost use Rattle.ash_expressions.specs.Gives.{Gives};
-ghost use Rattle.ash_expressions.specs.Views.{typed_of, parameters_of, callee_of, invoked_of, environment_of, arguments_of, maybe_invoked, first_and_rest, split_of};
+ghost use Rattle.ash_expressions.specs.Views.{typed_of, parameters_of, callee_of, invoked_of, environment_of, classes_of, arguments_of, maybe_invoked, first_and_rest, split_of};
 
 use crate::environment::{Callee, Environment, Invoked, Parameters};
 use crate::stop::{Checking, broken};
@@ -22,6 +22,8 @@ impl<'a> Parameters<'a> {
         ensures { result ≡ length (parameters_of self.now) }
     {
         match self {
+            Parameters::Nothing => 0,
+            Parameters::One(_) => 1,
             Parameters::Script(types) => types.len(),
             Parameters::Host(types) => types.len(),
         }
@@ -31,6 +33,8 @@ impl<'a> Parameters<'a> {
         ensures { option_map split_of result ≡ first_and_rest (parameters_of self.entry) }
     {
         match self {
+            Parameters::Nothing => None,
+            Parameters::One(of) => Some((of, Parameters::Nothing)),
             Parameters::Script(types) => {
                 let (first, rest) = types.split_first()?;
                 Some((*first, Parameters::Script(rest)))
@@ -47,10 +51,20 @@ impl<'a> Parameters<'a> {
         ensures { IfOk result (λ types. types.items ≡ map definition.var_type (parameters_of self.now)) }
     {
         match self {
+            Parameters::Nothing => Ok(Vec::new(alloc)),
+            Parameters::One(of) => one_type(alloc, *of),
             Parameters::Script(types) => script_types(alloc, types),
             Parameters::Host(types) => host_types(alloc, types),
         }
     }
+}
+
+fn one_type(alloc: Global, of: Ty) -> Result<Vec<VarType>, AllocError>
+    ensures { IfOk result (λ types. types.items ≡ definition.var_type of ∷ []) }
+{
+    let mut types = Vec::with_capacity(alloc, 1)?;
+    types.push(var_type(of))?;
+    Ok(types)
 }
 
 fn script_types(alloc: Global, all: &[Ty]) -> Result<Vec<VarType>, AllocError>
@@ -74,8 +88,13 @@ fn host_types(alloc: Global, primitives: &[Primitive]) -> Result<Vec<VarType>, A
 }
 
 /// Arguments, each as its parameter takes it.
-fn all_fitted(alloc: Global, parameters: &Parameters, arguments: Vec<Typed>) -> Checking<Vec<Expr>>
-    ensures { Gives arguments_of result (typing.all_fitted (parameters_of parameters.now) (map typed_of arguments.items)) }
+fn all_fitted(
+    env: &Environment,
+    alloc: Global,
+    parameters: &Parameters,
+    arguments: Vec<Typed>,
+) -> Checking<Vec<Expr>>
+    ensures { Gives arguments_of result (typing.all_fitted (classes_of env.now) (parameters_of parameters.now) (map typed_of arguments.items)) }
 {
     let mut fitting = Vec::with_capacity(alloc, arguments.len())?;
     let mut rest = *parameters;
@@ -83,7 +102,7 @@ fn all_fitted(alloc: Global, parameters: &Parameters, arguments: Vec<Typed>) -> 
         let Some((of, behind)) = rest.split_first() else {
             return Ok(fitting);
         };
-        fitting.push(fitted(alloc, of, argument)?)?;
+        fitting.push(fitted(env, alloc, of, argument)?)?;
         rest = behind;
     }
     Ok(fitting)
@@ -92,17 +111,18 @@ fn all_fitted(alloc: Global, parameters: &Parameters, arguments: Vec<Typed>) -> 
 /// Arguments of a call by the name at this offset.
 #[tactic(auto, unfolding(ash_typing::specs::Expressions::arguments_at))]
 fn arguments(
+    env: &Environment,
     alloc: Global,
     at: usize,
     parameters: &Parameters,
     arguments: Vec<Typed>,
 ) -> Checking<Vec<Expr>>
-    ensures { Gives arguments_of result (typing.arguments_at at (parameters_of parameters.now) (map typed_of arguments.items)) }
+    ensures { Gives arguments_of result (typing.arguments_at (classes_of env.now) at (parameters_of parameters.now) (map typed_of arguments.items)) }
 {
     if parameters.len() != arguments.len() {
         return Err(broken(Rule::WrongArgumentCount, at));
     }
-    all_fitted(alloc, parameters, arguments)
+    all_fitted(env, alloc, parameters, arguments)
 }
 
 /// The call of what a name before brackets stands for: a method is called on the object that runs.
@@ -133,13 +153,19 @@ fn call_of(
 
 /// A call by the name at this offset.
 #[tactic(auto, unfolding(ash_typing::specs::Expressions::called))]
-pub fn called(alloc: Global, at: usize, callee: &Callee, typed: Vec<Typed>) -> Checking<Typed>
-    ensures { Gives typed_of result (typing.called at (callee_of callee.now) (map typed_of typed.items) (option_map parameters_of callee.now.parameters)) }
+pub fn called(
+    env: &Environment,
+    alloc: Global,
+    at: usize,
+    callee: &Callee,
+    typed: Vec<Typed>,
+) -> Checking<Typed>
+    ensures { Gives typed_of result (typing.called (classes_of env.now) at (callee_of callee.now) (map typed_of typed.items) (option_map parameters_of callee.now.parameters)) }
 {
     let Some(parameters) = callee.parameters else {
         return Err(broken(Rule::NoFactory, at));
     };
-    let arguments = arguments(alloc, at, &parameters, typed)?;
+    let arguments = arguments(env, alloc, at, &parameters, typed)?;
     let types = parameters.types(alloc)?;
     let tree = call_of(alloc, callee.target, types, arguments)?;
     Ok(made(at, callee.result, tree))
@@ -255,18 +281,19 @@ pub(crate) fn method<'a>(
 /// `base.name(..)`, at the name
 #[tactic(auto, unfolding(ash_typing::specs::Expressions::invoked))]
 pub(crate) fn invoked(
+    env: &Environment,
     alloc: Global,
     base: Typed,
     at: usize,
     typed: Vec<Typed>,
     method: Option<Invoked>,
 ) -> Checking<Typed>
-    ensures { Gives typed_of result (typing.invoked (typed_of base) at (map typed_of typed.items) (maybe_invoked method.entry)) }
+    ensures { Gives typed_of result (typing.invoked (classes_of env.now) (typed_of base) at (map typed_of typed.items) (maybe_invoked method.entry)) }
 {
     let Some(method) = method else {
         return Ok(made(base.at, Ty::Unknown, Expr::Null));
     };
-    let arguments = arguments(alloc, at, &method.parameters, typed)?;
+    let arguments = arguments(env, alloc, at, &method.parameters, typed)?;
     let types = method.parameters.types(alloc)?;
     let tree = nodes::invoke(alloc, base.tree, method.method, types, arguments)?;
     Ok(made(base.at, method.result, tree))

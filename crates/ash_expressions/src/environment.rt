@@ -5,8 +5,9 @@ ghost use Rattle.std.specs.Option.{option_copied};
 ghost use Rattle.ash_registrations.specs.Registered.{registered};
 ghost use Rattle.ash_registrations.specs.Calls.{call_of};
 ghost use Rattle.ash_typing.specs.Environment as environment;
-ghost use Rattle.ash_expressions.specs.Views.{declared_of, function_of, class_of, environment_of, placed_type, placed_function, placed_class, known_of, callee_of, parameters_of, invoked_of};
+ghost use Rattle.ash_expressions.specs.Views.{declared_of, function_of, interface_of, class_of, environment_of, placed_type, placed_function, placed_class, known_of, callee_of, parameters_of, invoked_of};
 
+use crate::arrays::method_of_array;
 use crate::tables::Heads;
 use crate::types::{result_type, ty_of, var_type};
 use ash_registrations::{Call, Registrations};
@@ -30,10 +31,19 @@ pub struct Function<'a> {
     pub parameters: Vec<Ty>,
 }
 
-/// A class, with the parameters that its construction takes.
+/// An interface, with the methods that it declares.
+#[derive(Drop)]
+pub struct Interface<'a> {
+    pub name: &'a str,
+    pub methods: Vec<Function<'a>>,
+}
+
+/// A class, with the places of the interfaces that it lists, and the parameters that its construction
+/// takes.
 #[derive(Drop)]
 pub struct Class<'a> {
     pub name: &'a str,
+    pub interfaces: Vec<usize>,
     pub fields: Vec<Declared<'a>>,
     pub methods: Vec<Function<'a>>,
     pub parameters: Vec<Ty>,
@@ -52,6 +62,8 @@ pub struct Environment<'a, 'n> {
 /// What a call takes.
 #[derive(Clone, Copy)]
 pub enum Parameters<'a> {
+    Nothing,
+    One(Ty),
     Script(&'a [Ty]),
     Host(&'a [Primitive]),
 }
@@ -196,6 +208,23 @@ fn method_of<'a>(class: usize, of: &'a Class<'_>, name: &str) -> Option<Invoked<
     Some(Invoked {
         method: Method::Script {
             class,
+            method,
+            result: result_type(result),
+        },
+        result,
+        parameters: Parameters::Script(&function.parameters),
+    })
+}
+
+/// A method of an interface, as it is called.
+fn interface_method<'a>(interface: usize, of: &'a Interface<'_>, name: &str) -> Option<Invoked<'a>>
+    ensures { option_map invoked_of result ≡ environment.interface_method interface name.now (interface_of of.now) }
+{
+    let (method, function) = first_function(&of.methods, name)?;
+    let result = function.result;
+    Some(Invoked {
+        method: Method::Interface {
+            interface,
             method,
             result: result_type(result),
         },
@@ -414,6 +443,7 @@ impl<'a, 'n> Environment<'a, 'n> {
         match of {
             ObjectType::Class(place) => field_of(place, self.heads.classes.get(place)?, name),
             ObjectType::Host(kind) => property(self.host_member(kind, name)?),
+            ObjectType::Interface(_) | ObjectType::Array(_) => None,
         }
     }
 
@@ -423,6 +453,14 @@ impl<'a, 'n> Environment<'a, 'n> {
     {
         let of = self.heads.classes.get(class)?;
         method_of(class, of, name)
+    }
+
+    #[tactic(auto, unfolding(ash_typing::specs::Environment::method_of_interface))]
+    fn interface_method(&self, interface: usize, name: &str) -> Option<Invoked<'a>>
+        ensures { option_map invoked_of result ≡ environment.method_of_interface (map interface_of self.now.heads.now.interfaces.items) interface name.now }
+    {
+        let of = self.heads.interfaces.get(interface)?;
+        interface_method(interface, of, name)
     }
 
     #[tactic(auto, unfolding(ash_typing::specs::Environment::method_of_kind))]
@@ -440,7 +478,9 @@ impl<'a, 'n> Environment<'a, 'n> {
     {
         match of {
             ObjectType::Class(class) => self.class_method(class, name),
+            ObjectType::Interface(interface) => self.interface_method(interface, name),
             ObjectType::Host(kind) => self.kind_method(kind, name),
+            ObjectType::Array(of) => method_of_array(of, name),
         }
     }
 }

@@ -4,25 +4,29 @@ ghost use Rattle.std.specs.Prelude.{false, Ok, map};
 ghost use Rattle.ash_tree.specs.Tree.{exprs, links, suffixes};
 ghost use Rattle.ash_tree.specs.Views as written;
 ghost use Rattle.ash_typing.specs.Checking.{◌>>=◌ as ◌and_then◌};
+ghost use Rattle.ash_typing.specs.Heads.{object_named};
 ghost use Rattle.ash_typing.specs.Expressions as typing;
 ghost use Rattle.ash_expressions.specs.Gives.{Gives};
-ghost use Rattle.ash_expressions.specs.Views.{typed_of, all_typed_of, environment_of};
+ghost use Rattle.ash_expressions.specs.Views.{typed_of, all_typed_of, environment_of, classes_of};
 
+use crate::arrays::{array_built, indexed, known_element};
 use crate::calls::{bracketed, called, callee, field, invoked, known, method, this};
 use crate::environment::Environment;
-use crate::operators::{assigned, choice, converted, counted, operate, unary};
-use crate::stop::{Checking, broken};
+use crate::named::{element_named, object_named};
+use crate::operators::{
+    assigned, cast_at, cast_type, choice, converted, counted, operate, unary,
+};
+use crate::stop::Checking;
 use crate::typed::{Typed, made, numeral};
 use crate::types::is_assign;
-use ash_tree::{AssignOp, Expr, ExprKind, Link, Primitive, Suffix, UnaryOp};
+use ash_tree::{AssignOp, Element, Expr, ExprKind, Link, Primitive, Suffix, TypeName, UnaryOp};
 use ash_typed::{Expr as TypedExpr, Step};
-use ash_typing::{Rule, Ty};
+use ash_typing::Ty;
 use std::alloc::Global;
 
 /// An expression; `left` is whether it stands left of `=`. What has parts stands in a function of its own, so that the
 /// frame of this one, which each level pays for, stays small.
 #[cycle(expressions)]
-#[tactic(auto, using(ash_tree::proofs::Rows::new_array_is))]
 pub fn expression(env: &Environment, alloc: Global, left: bool, source: &Expr) -> Checking<Typed>
     ensures { Gives typed_of result (typing.typed (environment_of env.now) left (written.expr_of source.now)) }
 {
@@ -36,8 +40,8 @@ pub fn expression(env: &Environment, alloc: Global, left: bool, source: &Expr) -
         ExprKind::Call { name, arguments } => call(env, alloc, at, name.as_str(), arguments),
         ExprKind::Brackets(inner) => brackets(env, alloc, at, inner),
         ExprKind::Convert { to, value } => conversion(env, alloc, at, *to, value),
-        ExprKind::NewArray { .. } => Err(broken(Rule::TypeMismatch, at)),
-        ExprKind::Cast { .. } => Err(broken(Rule::TypeMismatch, at)),
+        ExprKind::NewArray { of, arguments } => new_array(env, alloc, at, of, arguments),
+        ExprKind::Cast { to, value } => cast(env, alloc, at, to, value),
         ExprKind::Postfix { operand, suffixes } => suffixed(env, alloc, operand, suffixes),
         ExprKind::Unary { operator, operand } => prefixed(env, alloc, left, at, *operator, operand),
         ExprKind::Binary { first, links } => joined(env, alloc, first, links),
@@ -78,6 +82,43 @@ fn conversion(
 {
     let value = expression(env, alloc, false, value)?;
     converted(alloc, at, to, value)
+}
+
+/// `cast<to>(value)`
+#[cycle(expressions)]
+#[inline(never)]
+fn cast(
+    env: &Environment,
+    alloc: Global,
+    at: usize,
+    to: &TypeName,
+    value: &Expr,
+) -> Checking<Typed>
+    ensures { Gives typed_of result (typing.cast_type to.now.place.at (object_named (environment_of env.now).registered (environment_of env.now).heads (written.type_name_of to.now).name) and_then λ o. typing.typed (environment_of env.now) false (written.expr_of value.now) and_then λ t. typing.cast_at at o t) }
+{
+    let object = object_named(env.registry, env.heads, to.name.as_str());
+    let to = cast_type(to.place.at, object)?;
+    let value = expression(env, alloc, false, value)?;
+    cast_at(alloc, at, to, value)
+}
+
+/// `array<of>(arguments)`
+#[cycle(expressions)]
+#[inline(never)]
+fn new_array(
+    env: &Environment,
+    alloc: Global,
+    at: usize,
+    of: &Element,
+    arguments: &[Expr],
+) -> Checking<Typed>
+    ensures { Gives typed_of result (typing.array_typed (environment_of env.now) at (written.element_of of.now) (typing.all_typed (environment_of env.now) (exprs (map written.expr_of arguments.now)))) }
+{
+    let element = element_named(env.registry, env.heads, of);
+    let element = known_element(of.place.at, element)?;
+    let typed = all_typed(env, alloc, arguments)?;
+    let callee = array_built(element, typed.len());
+    called(env, alloc, at, &callee, typed)
 }
 
 /// An operator before its operand; `left` is whether it stands left of `=`.
@@ -139,11 +180,11 @@ fn assignment(
     operator: AssignOp,
     value: &Expr,
 ) -> Checking<Typed>
-    ensures { Gives typed_of result (typing.typed (environment_of env.now) (typing.is_assign operator) (written.expr_of target.now) and_then λ t. typing.typed (environment_of env.now) false (written.expr_of value.now) and_then λ v. typing.assigned t operator v) }
+    ensures { Gives typed_of result (typing.typed (environment_of env.now) (typing.is_assign operator) (written.expr_of target.now) and_then λ t. typing.typed (environment_of env.now) false (written.expr_of value.now) and_then λ v. typing.assigned (classes_of env.now) t operator v) }
 {
     let target = expression(env, alloc, is_assign(operator), target)?;
     let value = expression(env, alloc, false, value)?;
-    assigned(alloc, target, operator, value)
+    assigned(env, alloc, target, operator, value)
 }
 
 /// `name(arguments)`
@@ -160,7 +201,7 @@ fn call(
 {
     let callee = callee(env, at, name)?;
     let typed = all_typed(env, alloc, arguments)?;
-    called(alloc, at, &callee, typed)
+    called(env, alloc, at, &callee, typed)
 }
 
 /// Arguments, each in its turn.
@@ -199,10 +240,20 @@ fn one_suffix(env: &Environment, alloc: Global, base: Typed, suffix: &Suffix) ->
             name,
             arguments,
         } => invocation(env, alloc, base, place.at, name.as_str(), arguments),
-        Suffix::Index(_) => Err(broken(Rule::TypeMismatch, base.at)),
+        Suffix::Index(value) => index(env, alloc, base, value),
         Suffix::Increment => counted(alloc, base.at, Step::IncrementAfter, base),
         Suffix::Decrement => counted(alloc, base.at, Step::DecrementAfter, base),
     }
+}
+
+/// `base[value]`
+#[cycle(expressions)]
+#[inline(never)]
+fn index(env: &Environment, alloc: Global, base: Typed, value: &Expr) -> Checking<Typed>
+    ensures { Gives typed_of result (typing.typed (environment_of env.now) false (written.expr_of value.now) and_then λ i. typing.indexed (typed_of base) base.ty i) }
+{
+    let value = expression(env, alloc, false, value)?;
+    indexed(alloc, base, value)
 }
 
 /// `base.name(arguments)`
@@ -219,5 +270,5 @@ fn invocation(
 {
     let method = method(env, &base, at, name)?;
     let typed = all_typed(env, alloc, arguments)?;
-    invoked(alloc, base, at, typed, method)
+    invoked(env, alloc, base, at, typed, method)
 }

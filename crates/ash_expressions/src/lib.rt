@@ -8,13 +8,17 @@
 //! on the rules of `ash_typing`.
 //!
 //! In reading order: `expressions`, the walk over an expression; `operators` and `calls`, what comes of a phrase once its
-//! parts are typed; `environment`, what names stand for; `tables` and `places`, where a name is found without a search
-//! through all of them; `typed` and `types`; `stop`, why checking stops.
+//! parts are typed; `arrays`, their construction, indexes and methods; `environment`, what names are, and `named`, what
+//! types name; `tables` and `places`, where a name is found without a search through all of them; `typed`, `types` and
+//! `fitting`; `stop`, why checking stops.
 #![tactic(auto)]
 
+mod arrays;
 mod calls;
 mod environment;
 mod expressions;
+mod fitting;
+mod named;
 mod operators;
 mod places;
 mod stop;
@@ -22,10 +26,14 @@ mod tables;
 mod typed;
 mod types;
 
+pub use arrays::array_built;
 pub use calls::called;
-pub use environment::{Callee, Class, Declared, Environment, Function, Parameters};
+pub use environment::{
+    Callee, Class, Declared, Environment, Function, Interface, Parameters,
+};
 pub use expressions::{all_typed, expression};
+pub use named::{element_named, object_named, result_named, ty_named};
 pub use stop::{Checking, Stop, broken};
 pub use tables::Heads;
 pub use typed::{Typed, fitted, integer, truth};
-pub use types::{holds, is_void, result_type, ty_of, var_type};
+pub use types::{holds, is_same, is_void, result_type, ty_of, ty_of_element, var_type};

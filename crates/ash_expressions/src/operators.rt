@@ -1,12 +1,13 @@
 //! Operators, conversions and assignments, once their operands are typed.
 
-ghost use Rattle.std.specs.Prelude.{◌≡◌, Ok, IfOk};
+ghost use Rattle.std.specs.Prelude.{◌≡◌, None, Ok, IfOk};
 ghost use Rattle.ash_typed.specs.Tree.{Alter, Operate, Lazily};
 ghost use Rattle.ash_typed.specs.Views.{expr_of, place_of};
 ghost use Rattle.ash_typing.specs.Expressions as typing;
 ghost use Rattle.ash_expressions.specs.Gives.{Gives};
-ghost use Rattle.ash_expressions.specs.Views.{typed_of, met_of};
+ghost use Rattle.ash_expressions.specs.Views.{typed_of, met_of, classes_of};
 
+use crate::environment::Environment;
 use crate::stop::{Checking, broken};
 use crate::typed::{Typed, adapt, assignable, brought, fitted, handle, integer, made, truth};
 use crate::types::{
@@ -15,8 +16,8 @@ use crate::types::{
 };
 use ash_tree::{AssignOp, BinaryOp, Primitive, UnaryOp};
 use ash_typed::{
-    Calculation, Calculator, Change, Expr, Kind, Lazy, Operand, Operands, Operation, Place, Step,
-    nodes,
+    Calculation, Calculator, Change, Expr, Kind, Lazy, ObjectType, Operand, Operands, Operation,
+    Place, Step, nodes,
 };
 use ash_typing::{Operator, Rule, Sort, Ty};
 use std::alloc::{AllocError, Global};
@@ -253,6 +254,28 @@ pub(crate) fn converted(alloc: Global, at: usize, to: Primitive, value: Typed) -
     }
 }
 
+/// The class or the interface of a cast, whose name is at this offset.
+pub(crate) fn cast_type(at: usize, object: Option<ObjectType>) -> Checking<ObjectType>
+    ensures { Gives (λ o. o) result (typing.cast_type at object) }
+{
+    match object {
+        Some(ObjectType::Class(class)) => Ok(ObjectType::Class(class)),
+        Some(ObjectType::Interface(interface)) => Ok(ObjectType::Interface(interface)),
+        Some(_) => Err(broken(Rule::TypeMismatch, at)),
+        None => Err(broken(Rule::UnknownType, at)),
+    }
+}
+
+/// `cast<to>(value)`
+#[tactic(auto, unfolding(ash_typing::specs::Expressions::cast_at))]
+pub(crate) fn cast_at(alloc: Global, at: usize, to: ObjectType, value: Typed) -> Checking<Typed>
+    ensures { Gives typed_of result (typing.cast_at at to (typed_of value)) }
+{
+    handle(value.at, value.ty)?;
+    let tree = nodes::cast(alloc, to, value.tree)?;
+    Ok(made(at, Ty::Handle(to), tree))
+}
+
 /// `condition ? then : otherwise`
 #[tactic(auto, unfolding(ash_typing::specs::Expressions::choice))]
 pub(crate) fn choice(
@@ -299,36 +322,36 @@ fn updated(
     Ok(made(at, Ty::Integer(kind), tree))
 }
 
+/// `place = value`
 #[tactic(auto, unfolding(ash_typing::specs::Expressions::stored))]
 fn stored(
+    env: &Environment,
     alloc: Global,
     at: usize,
     of: Ty,
     place: Place,
-    operator: Option<Calculator>,
     value: Typed,
 ) -> Checking<Typed>
-    ensures { Gives typed_of result (typing.stored at of (place_of place) operator (typed_of value)) }
+    ensures { Gives typed_of result (typing.stored (classes_of env.now) at of (place_of place) None (typed_of value)) }
 {
-    match operator {
-        None => {
-            let value = fitted(alloc, of, value)?;
-            let tree = nodes::assign(alloc, place, value)?;
-            Ok(made(at, of, tree))
-        }
-        Some(operator) => updated(alloc, at, of, place, operator, value),
-    }
+    let value = fitted(env, alloc, of, value)?;
+    let tree = nodes::assign(alloc, place, value)?;
+    Ok(made(at, of, tree))
 }
 
 /// An assignment, once both sides are typed.
-#[tactic(auto, unfolding(ash_typing::specs::Expressions::assigned))]
+#[tactic(
+    auto,
+    unfolding(ash_typing::specs::Expressions::assigned, ash_typing::specs::Expressions::stored)
+)]
 pub(crate) fn assigned(
+    env: &Environment,
     alloc: Global,
     target: Typed,
     operator: AssignOp,
     value: Typed,
 ) -> Checking<Typed>
-    ensures { Gives typed_of result (typing.assigned (typed_of target) operator (typed_of value)) }
+    ensures { Gives typed_of result (typing.assigned (classes_of env.now) (typed_of target) operator (typed_of value)) }
 {
     let (at, of, form) = (target.at, target.ty, target.form);
     let Some(place) = assignable(alloc, form, target.tree)? else {
@@ -337,5 +360,8 @@ pub(crate) fn assigned(
     if !is_stored(form, of) {
         return Err(broken(Rule::NotAssignable, at));
     }
-    stored(alloc, at, of, place, operator_of(operator), value)
+    match operator_of(operator) {
+        None => stored(env, alloc, at, of, place, value),
+        Some(operator) => updated(alloc, at, of, place, operator, value),
+    }
 }

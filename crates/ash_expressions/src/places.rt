@@ -4,7 +4,7 @@ ghost use Rattle.std.specs.Prelude.{◌≡◌, map, slice_get, IfOk};
 ghost use Rattle.std.specs.Option.{option_copied};
 ghost use Rattle.ash_expressions.specs.Places.{ArePlaces, texts};
 
-use crate::environment::{Class, Declared, Function};
+use crate::environment::{Class, Declared, Function, Interface};
 use indexmap::IndexMap;
 use std::alloc::{AllocError, Global};
 
@@ -22,6 +22,19 @@ pub(crate) fn places_of<'a>(alloc: Global, names: &[&'a str]) -> Result<Places<'
         }
     }
     Ok(places)
+}
+
+pub(crate) fn interface_names<'a>(
+    alloc: Global,
+    all: &[Interface<'a>],
+) -> Result<Vec<&'a str>, AllocError>
+    ensures { IfOk result (λ names. texts names.items ≡ map (λ i. i.name.now) all.now) }
+{
+    let mut names = Vec::with_capacity(alloc, all.len())?;
+    for interface in all {
+        names.push(interface.name)?;
+    }
+    Ok(names)
 }
 
 pub(crate) fn class_names<'a>(alloc: Global, all: &[Class<'a>]) -> Result<Vec<&'a str>, AllocError>

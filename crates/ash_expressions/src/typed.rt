@@ -5,10 +5,12 @@ ghost use Rattle.ash_typed.specs.Tree.{converted};
 ghost use Rattle.ash_typed.specs.Views.{expr_of, place_of};
 ghost use Rattle.ash_typing.specs.Expressions as typing;
 ghost use Rattle.ash_expressions.specs.Gives.{Gives};
-ghost use Rattle.ash_expressions.specs.Views.{typed_of};
+ghost use Rattle.ash_expressions.specs.Views.{typed_of, classes_of};
 
+use crate::environment::Environment;
+use crate::fitting::fits;
 use crate::stop::{Checking, broken};
-use crate::types::{conversion, fits, holds, kind_of};
+use crate::types::{conversion, holds, kind_of};
 use ash_typed::{Expr, Kind, Place, nodes};
 use ash_typing::{Form, Rule, Sort, Ty};
 use std::alloc::{AllocError, Global};
@@ -81,10 +83,10 @@ pub(crate) fn brought(alloc: Global, to: Ty, typed: Typed) -> Result<Expr, Alloc
 
 /// The value, as a variable of this type takes it.
 #[tactic(auto, unfolding(ash_typing::specs::Expressions::fitted))]
-pub fn fitted(alloc: Global, to: Ty, typed: Typed) -> Checking<Expr>
-    ensures { Gives expr_of result (typing.fitted to (typed_of typed)) }
+pub fn fitted(env: &Environment, alloc: Global, to: Ty, typed: Typed) -> Checking<Expr>
+    ensures { Gives expr_of result (typing.fitted (classes_of env.now) to (typed_of typed)) }
 {
-    if !fits(to, typed.ty) {
+    if !fits(&env.heads.classes, to, typed.ty) {
         return Err(broken(Rule::TypeMismatch, typed.at));
     }
     Ok(brought(alloc, to, typed)?)

@@ -5,7 +5,9 @@ ghost use Rattle.ash_typing.specs.Types as types;
 ghost use Rattle.ash_typing.specs.Expressions as typing;
 
 use ash_tree::{AssignOp, BinaryOp, Primitive};
-use ash_typed::{Calculator, Comparator, Conversion, Kind, Lazy, ObjectType, Operands, VarType};
+use ash_typed::{
+    Calculator, Comparator, Conversion, Element, Kind, Lazy, ObjectType, Operands, VarType,
+};
 use ash_typing::{Form, Operator, Sort, Ty};
 
 pub(crate) fn is_signed(kind: Kind) -> bool
@@ -86,13 +88,67 @@ pub(crate) fn kind_of(number: u64) -> Kind
     }
 }
 
-fn is_same_object(one: ObjectType, other: ObjectType) -> bool
+fn is_same_element(one: Element, other: Element) -> bool
+    ensures { result ≡ types.is_same_element one other }
+{
+    match (one, other) {
+        (Element::Bool, Element::Bool) => true,
+        (Element::Integer(j), Element::Integer(k)) => is_same_kind(j, k),
+        (Element::Class(a), Element::Class(b)) => a == b,
+        (Element::Interface(a), Element::Interface(b)) => a == b,
+        (Element::Host(a), Element::Host(b)) => a == b,
+        _ => false,
+    }
+}
+
+pub(crate) fn is_same_object(one: ObjectType, other: ObjectType) -> bool
     ensures { result ≡ types.is_same_object one other }
 {
     match (one, other) {
         (ObjectType::Class(a), ObjectType::Class(b)) => a == b,
+        (ObjectType::Interface(a), ObjectType::Interface(b)) => a == b,
         (ObjectType::Host(a), ObjectType::Host(b)) => a == b,
+        (ObjectType::Array(e), ObjectType::Array(f)) => is_same_element(e, f),
         _ => false,
+    }
+}
+
+fn is_interface(object: ObjectType) -> bool
+    ensures { result ≡ types.is_interface object }
+{
+    matches!(object, ObjectType::Interface(_))
+}
+
+/// Whether objects of two types can be compared.
+fn is_comparable(one: ObjectType, other: ObjectType) -> bool
+    ensures { result ≡ types.is_comparable one other }
+{
+    is_same_object(one, other) || is_interface(one) || is_interface(other)
+}
+
+/// Whether a type is the same as another, as far as both are known.
+pub fn is_same(one: Ty, other: Ty) -> bool
+    ensures { result ≡ types.is_same one other }
+{
+    match (one, other) {
+        (Ty::Unknown, _) | (_, Ty::Unknown) => true,
+        (Ty::Bool, Ty::Bool) | (Ty::Null, Ty::Null) | (Ty::Void, Ty::Void) => true,
+        (Ty::Integer(j), Ty::Integer(k)) => is_same_kind(j, k),
+        (Ty::Object(a), Ty::Object(b)) | (Ty::Handle(a), Ty::Handle(b)) => is_same_object(a, b),
+        _ => false,
+    }
+}
+
+/// The type of an array's elements.
+pub fn ty_of_element(of: Element) -> Ty
+    ensures { result ≡ types.ty_of_element of }
+{
+    match of {
+        Element::Bool => Ty::Bool,
+        Element::Integer(kind) => Ty::Integer(kind),
+        Element::Class(class) => Ty::Handle(ObjectType::Class(class)),
+        Element::Interface(interface) => Ty::Handle(ObjectType::Interface(interface)),
+        Element::Host(kind) => Ty::Handle(ObjectType::Host(kind)),
     }
 }
 
@@ -131,25 +187,13 @@ pub fn result_type(of: Ty) -> Option<VarType>
     }
 }
 
-fn fits_object(object: ObjectType, of: Ty) -> bool
-    ensures { result ≡ types.fits_object object of }
+/// Whether an expression gives an object that can be compared with one of a type.
+fn agrees_object(object: ObjectType, of: Ty) -> bool
+    ensures { result ≡ types.agrees_object object of }
 {
     match of {
-        Ty::Object(other) | Ty::Handle(other) => is_same_object(object, other),
+        Ty::Object(other) | Ty::Handle(other) => is_comparable(object, other),
         Ty::Null | Ty::Unknown => true,
-        _ => false,
-    }
-}
-
-/// Whether a value of the second type may be stored in a variable of the first.
-pub(crate) fn fits(to: Ty, of: Ty) -> bool
-    ensures { result ≡ types.fits to of }
-{
-    match to {
-        Ty::Unknown => !matches!(of, Ty::Void),
-        Ty::Bool => matches!(of, Ty::Bool | Ty::Unknown),
-        Ty::Integer(_) => matches!(of, Ty::Integer(_) | Ty::Unknown),
-        Ty::Object(object) | Ty::Handle(object) => fits_object(object, of),
         _ => false,
     }
 }
@@ -158,7 +202,7 @@ fn agrees(one: Ty, other: Ty) -> bool
     ensures { result ≡ types.agrees one other }
 {
     match one {
-        Ty::Object(object) | Ty::Handle(object) => fits_object(object, other),
+        Ty::Object(object) | Ty::Handle(object) => agrees_object(object, other),
         Ty::Null | Ty::Unknown => matches!(
             other,
             Ty::Object(_) | Ty::Handle(_) | Ty::Null | Ty::Unknown
@@ -167,10 +211,21 @@ fn agrees(one: Ty, other: Ty) -> bool
     }
 }
 
+/// Whether an expression of a type gives an object of this one, or null.
+fn gives_object(object: ObjectType, of: Ty) -> bool
+    ensures { result ≡ types.gives_object object of }
+{
+    match of {
+        Ty::Object(other) | Ty::Handle(other) => is_same_object(object, other),
+        Ty::Null | Ty::Unknown => true,
+        _ => false,
+    }
+}
+
 fn common_object(object: ObjectType, of: Ty) -> Option<Ty>
     ensures { result ≡ types.common_object object of }
 {
-    if fits_object(object, of) {
+    if gives_object(object, of) {
         Some(Ty::Handle(object))
     } else {
         None

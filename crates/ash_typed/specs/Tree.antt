@@ -2,6 +2,8 @@
 -- applied to what stands before it.
 use Rattle.std.specs.Prelude.{ℕ, List, [], ◌∷◌, Bool, Option, Some, None}
 use Rattle.ash_typed.specs.declared.types.Kind.{Kind}
+use Rattle.ash_typed.specs.declared.types.Element.{Element}
+use Rattle.ash_typed.specs.declared.types.ObjectType.{ObjectType}
 use Rattle.ash_typed.specs.declared.types.VarType.{VarType}
 use Rattle.ash_typed.specs.declared.tree.operations.Variable.{Variable}
 use Rattle.ash_typed.specs.declared.tree.operations.Member.{Member}
@@ -24,6 +26,8 @@ mutual
     -- a method and a call say the types of their arguments, in order
     Invoke : Expr → Method → List VarType → Exprs → Expr
     Convert : Conversion → Expr → Expr
+    -- null where the object is not of the type
+    Cast : ObjectType → Expr → Expr
     Alter : Change → Expr → Expr
     Operate : Operation → Expr → Expr → Expr
     Lazily : Lazy → Expr → Expr → Expr
@@ -37,6 +41,8 @@ mutual
   pub data Place : Type 0 where
     Stored : Variable → Place
     Held : Expr → Member → Place
+    -- an array, an index of type `uint`, and what the elements are of
+    Indexed : Expr → Expr → Element → Place
 
   pub data Exprs : Type 0 where
     no_expr : Exprs

@@ -1,5 +1,8 @@
 -- What a typed expression gives, which its tree alone says.
 use Rattle.std.specs.Prelude.{Option, Some, None}
+use Rattle.ash_typed.specs.declared.types.Kind.TheVariants as kinds
+use Rattle.ash_typed.specs.declared.types.Element.{Element}
+use Rattle.ash_typed.specs.declared.types.Element.TheVariants as elements
 use Rattle.ash_typed.specs.declared.types.ObjectType.TheVariants as objects
 use Rattle.ash_typed.specs.declared.types.VarType.{VarType}
 use Rattle.ash_typed.specs.declared.types.VarType.TheVariants as vars
@@ -9,13 +12,15 @@ use Rattle.ash_typed.specs.declared.tree.operations.Member.{Member}
 use Rattle.ash_typed.specs.declared.tree.operations.Member.TheVariants as members
 use Rattle.ash_typed.specs.declared.tree.operations.Method.{Method}
 use Rattle.ash_typed.specs.declared.tree.operations.Method.TheVariants as methods
+use Rattle.ash_typed.specs.declared.tree.operations.ArrayMethod.{ArrayMethod}
+use Rattle.ash_typed.specs.declared.tree.operations.ArrayMethod.TheVariants as arrays
 use Rattle.ash_typed.specs.declared.tree.operations.Target.{Target}
 use Rattle.ash_typed.specs.declared.tree.operations.Target.TheVariants as targets
 use Rattle.ash_typed.specs.declared.tree.operations.Operation.{Operation}
 use Rattle.ash_typed.specs.declared.tree.operations.Operation.TheVariants as operations
 use Rattle.ash_typed.specs.declared.tree.operations.Change.{Change}
 use Rattle.ash_typed.specs.declared.tree.operations.Change.TheVariants as changes
-use Rattle.ash_typed.specs.Tree.{Expr, Number, Truth, Null, This, Read, Invoke, Convert, Alter, Operate, Lazily, Conditional, Assign, Update, Count, Call, Place, Stored, Held}
+use Rattle.ash_typed.specs.Tree.{Expr, Number, Truth, Null, This, Read, Invoke, Convert, Cast, Alter, Operate, Lazily, Conditional, Assign, Update, Count, Call, Place, Stored, Held, Indexed}
 
 abbrev pub type_of_variable : Variable → VarType
 type_of_variable (variables.Local slot of) = of
@@ -25,14 +30,32 @@ abbrev pub type_of_member : Member → VarType
 type_of_member (members.Field class place of) = of
 type_of_member (members.Property id of) = of
 
+abbrev pub type_of_element : Element → VarType
+type_of_element elements.Bool = vars.Bool
+type_of_element (elements.Integer kind) = vars.Integer kind
+type_of_element (elements.Class class) = vars.Handle (objects.Class class)
+type_of_element (elements.Interface interface) = vars.Handle (objects.Interface interface)
+type_of_element (elements.Host kind) = vars.Handle (objects.Host kind)
+
 abbrev pub type_of_place : Place → VarType
 type_of_place (Stored variable) = type_of_variable variable
 type_of_place (Held object member) = type_of_member member
+type_of_place (Indexed array index of) = type_of_element of
+
+-- what a method of arrays gives
+abbrev pub result_of_array_method : ArrayMethod → Option VarType
+result_of_array_method arrays.Length = Some (vars.Integer kinds.Uint)
+result_of_array_method arrays.Resize = None
+result_of_array_method arrays.InsertLast = None
+result_of_array_method arrays.RemoveLast = None
+result_of_array_method arrays.IsEmpty = Some vars.Bool
 
 -- what a method gives
 abbrev pub result_of_method : Method → Option VarType
 result_of_method (methods.Script class method result) = result
+result_of_method (methods.Interface interface method result) = result
 result_of_method (methods.Host id result) = result
+result_of_method (methods.Array method) = result_of_array_method method
 
 -- what a call gives: a construction gives a handle
 abbrev pub result_of_target : Target → Option VarType
@@ -40,6 +63,7 @@ result_of_target (targets.Function function result) = result
 result_of_target (targets.Service service id result) = result
 result_of_target (targets.Class class) = Some (vars.Handle (objects.Class class))
 result_of_target (targets.Host kind) = Some (vars.Handle (objects.Host kind))
+result_of_target (targets.Array of) = Some (vars.Handle (objects.Array of))
 
 -- an integer of the type that is calculated with, or a truth value
 abbrev pub result_of_operation : Operation → VarType
@@ -80,6 +104,7 @@ type_of (This class) = value (vars.Handle (objects.Class class))
 type_of (Read place) = value (kept (type_of_place place))
 type_of (Invoke object method parameters es) = given (result_of_method method)
 type_of (Convert conversion e) = value (vars.Integer conversion.to)
+type_of (Cast to e) = value (vars.Handle to)
 type_of (Alter change e) = value (altered_type change)
 type_of (Operate operation a b) = value (result_of_operation operation)
 type_of (Lazily operator a b) = value vars.Bool

@@ -8,7 +8,7 @@ use Rattle.ash_typed.specs.declared.tree.expressions.Link as link
 use Rattle.ash_typed.specs.declared.tree.expressions.Link.TheVariants as links
 use Rattle.ash_typed.specs.declared.tree.expressions.Operand as operand
 use Rattle.ash_typed.specs.declared.tree.operations.Lazy.{Lazy}
-use Rattle.ash_typed.specs.Tree.{Expr, Number, Truth, Null, This, Read, Invoke, Convert, Alter, Operate, Lazily, Conditional, Assign, Update, Count, Call, Place, Stored, Held, Exprs, no_expr, expr, converted}
+use Rattle.ash_typed.specs.Tree.{Expr, Number, Truth, Null, This, Read, Invoke, Convert, Cast, Alter, Operate, Lazily, Conditional, Assign, Update, Count, Call, Place, Stored, Held, Indexed, Exprs, no_expr, expr, converted}
 
 abbrev mutual
   pub expr_of : code.Expr → Expr
@@ -19,6 +19,7 @@ abbrev mutual
   expr_of (variants.Variable v) = Read (Stored v)
   expr_of (variants.Path' a base shape row) = linked_by (expr_of base) row
   expr_of (variants.Convert' conversion a value) = Convert conversion (expr_of value)
+  expr_of (variants.Cast' to a e) = Cast to (expr_of e)
   expr_of (variants.Change' change a e) = Alter change (expr_of e)
   expr_of (variants.Chain' a first shape row) = chained_by (expr_of first) row
   expr_of (variants.Lazy' op a first shape row) = lazies_by op (expr_of first) row
@@ -31,6 +32,7 @@ abbrev mutual
   pub place_of : place.Place → Place
   place_of (places.Variable v) = Stored v
   place_of (places.Member' a object member) = Held (expr_of object) member
+  place_of (places.Element' a array b index of) = Indexed (expr_of array) (expr_of index) of
 
   pub linked_by : {n : _} → Expr → code.Row_of-Link n → Expr
   linked_by e code.end_of-Link = e
@@ -38,6 +40,7 @@ abbrev mutual
 
   pub linked : Expr → link.Link → Expr
   linked e (links.Member member) = Read (Held e member)
+  linked e (links.Index index of) = Read (Indexed e (expr_of index) of)
   linked e (links.Invoke' method parameters shape row) = Invoke e method parameters.items (exprs_of row)
 
   pub chained_by : {n : _} → Expr → code.Row_of-Operand n → Expr

@@ -1,7 +1,7 @@
 //! Nodes of typed trees.
 
 ghost use Rattle.std.specs.Prelude.{◌≡◌, [], ◌∷◌, ◌++◌, map, option_map, IfOk};
-ghost use Rattle.ash_typed.specs.Tree.{Read, Held, Invoke, Alter, Lazily, Conditional, Assign, Update, Count, Call, exprs, place_in, converted};
+ghost use Rattle.ash_typed.specs.Tree.{Read, Held, Indexed, Invoke, Cast, Alter, Lazily, Conditional, Assign, Update, Count, Call, exprs, place_in, converted};
 ghost use Rattle.ash_typed.specs.StatementTree.{Block, Repeat, For, repeated, Switch, labelled, cases};
 ghost use Rattle.ash_typed.specs.Views.{expr_of, place_of, linked, chained, all_linked, all_chained, all_lazies};
 ghost use Rattle.ash_typed.specs.BodyViews.{stmt_of, head_of, loop_of, case_of, body_of};
@@ -12,7 +12,7 @@ use crate::tree::operations::{
     Calculation, Change, Conversion, Lazy, Member, Method, Step, Target,
 };
 use crate::tree::statements::{Case, Head, Loop, Stmt, StmtKind, Test};
-use crate::types::{Kind, VarType};
+use crate::types::{Element, Kind, ObjectType, VarType};
 use ash_tree::Label;
 use std::alloc::{AllocError, Global};
 
@@ -39,13 +39,21 @@ pub fn link(alloc: Global, base: Expr, next: Link) -> Result<Expr, AllocError>
             links.push(next)?;
             Ok(Expr::Path { base, links })
         }
-        base => {
-            let mut links = Vec::with_capacity(alloc, 1)?;
-            links.push(next)?;
-            let base = Box::new(alloc, base)?;
-            Ok(Expr::Path { base, links })
-        }
+        base => first_link(alloc, base, next),
     }
+}
+
+/// A path of one link.
+#[tactic(auto, using(crate::proofs::Rows::path_is))]
+fn first_link(alloc: Global, base: Expr, next: Link) -> Result<Expr, AllocError>
+    ensures value { IfOk result (λ e. expr_of e ≡ linked (expr_of base) next) }
+    ensures same_base { IfOk result (λ e. base_of e ≡ base) }
+    ensures one_link { IfOk result (λ e. links_of e ≡ next ∷ []) }
+{
+    let mut links = Vec::with_capacity(alloc, 1)?;
+    links.push(next)?;
+    let base = Box::new(alloc, base)?;
+    Ok(Expr::Path { base, links })
 }
 
 /// What an object holds.
@@ -55,6 +63,15 @@ pub fn member(alloc: Global, object: Expr, member: Member) -> Result<Expr, Alloc
     ensures one_path { IfOk result (λ e. links_of e ≡ links_of object ++ Link.Member member ∷ []) }
 {
     link(alloc, object, Link::Member(member))
+}
+
+/// What an array has at an index of type `uint`.
+pub fn element(alloc: Global, array: Expr, index: Expr, of: Element) -> Result<Expr, AllocError>
+    ensures value { IfOk result (λ e. expr_of e ≡ Read (Indexed (expr_of array) (expr_of index) of)) }
+    ensures same_base { IfOk result (λ e. base_of e ≡ base_of array) }
+    ensures one_path { IfOk result (λ e. links_of e ≡ links_of array ++ Link.Index index of ∷ []) }
+{
+    link(alloc, array, Link::Index { index, of })
 }
 
 /// What a method of an object gives.
@@ -93,13 +110,21 @@ pub fn operate(alloc: Global, first: Expr, next: Operand) -> Result<Expr, AllocE
             operands.push(next)?;
             Ok(Expr::Chain { first, operands })
         }
-        first => {
-            let mut operands = Vec::with_capacity(alloc, 1)?;
-            operands.push(next)?;
-            let first = Box::new(alloc, first)?;
-            Ok(Expr::Chain { first, operands })
-        }
+        first => first_operator(alloc, first, next),
     }
+}
+
+/// A chain of one operator.
+#[tactic(auto, using(crate::proofs::Rows::chain_is))]
+fn first_operator(alloc: Global, first: Expr, next: Operand) -> Result<Expr, AllocError>
+    ensures value { IfOk result (λ e. expr_of e ≡ chained (expr_of first) next) }
+    ensures same_first { IfOk result (λ e. first_of e ≡ first) }
+    ensures one_operator { IfOk result (λ e. operands_of e ≡ next ∷ []) }
+{
+    let mut operands = Vec::with_capacity(alloc, 1)?;
+    operands.push(next)?;
+    let first = Box::new(alloc, first)?;
+    Ok(Expr::Chain { first, operands })
 }
 
 /// `&&` or `||` between two operands. A row of operands of the same operator takes one more, so that it nests no deeper.
@@ -164,6 +189,14 @@ pub fn convert(
             Ok(Expr::Convert { conversion, value })
         }
     }
+}
+
+/// `cast<T>(value)`, with the type
+pub fn cast(alloc: Global, to: ObjectType, value: Expr) -> Result<Expr, AllocError>
+    ensures { IfOk result (λ e. expr_of e ≡ Cast to (expr_of value)) }
+{
+    let value = Box::new(alloc, value)?;
+    Ok(Expr::Cast { to, value })
 }
 
 pub fn alter(alloc: Global, change: Change, operand: Expr) -> Result<Expr, AllocError>
@@ -241,7 +274,7 @@ pub fn place(alloc: Global, expr: Expr) -> Result<Option<Place>, AllocError>
             first,
             others,
         } => lazy_place(alloc, operator, first, others),
-        Expr::Convert { .. } | Expr::Change { .. } => Ok(None),
+        Expr::Convert { .. } | Expr::Cast { .. } | Expr::Change { .. } => Ok(None),
         Expr::Conditional { .. } | Expr::Assign { .. } | Expr::Update { .. } => Ok(None),
         Expr::Step { .. } | Expr::Call { .. } => Ok(None),
     }
@@ -261,6 +294,11 @@ fn member_of(
         Some(Link::Member(member)) => {
             let object = Box::new(alloc, Expr::Path { base, links })?;
             Ok(Some(Place::Member { object, member }))
+        }
+        Some(Link::Index { index, of }) => {
+            let array = Box::new(alloc, Expr::Path { base, links })?;
+            let index = Box::new(alloc, index)?;
+            Ok(Some(Place::Element { array, index, of }))
         }
         Some(Link::Invoke { .. }) => Ok(None),
         None => place(alloc, Box::into_inner(base)),

@@ -13,13 +13,30 @@ pub enum Kind {
     Uint64,
 }
 
+/// What the elements of an array are of.
+#[derive(Clone, Copy, Debug, PartialEq, Eq)]
+pub enum Element {
+    Bool,
+    Integer(Kind),
+    /// Handles of objects of a class, by its place.
+    Class(usize),
+    /// Handles of objects of the classes that list an interface, by its place.
+    Interface(usize),
+    /// Handles of objects of a registered type, by its kind.
+    Host(u16),
+}
+
 /// What an object is of.
 #[derive(Clone, Copy, Debug, PartialEq, Eq)]
 pub enum ObjectType {
     /// A class of the module, by its place among its classes.
     Class(usize),
+    /// An interface of the module, by its place among its interfaces: the object is of a class that lists it.
+    Interface(usize),
     /// A registered type, by its kind.
     Host(u16),
+    /// `array<T>`
+    Array(Element),
 }
 
 /// The type of a variable, a parameter or a field, and of what a function gives.

@@ -108,5 +108,5 @@ mutual
   primary_in script (call a) h = let x = args_in script a h.1 in ((h.0, x.0), x.1)
   primary_in script (brackets a) h = let x = inner_in script a h.1 in (((sign signs.OpenParenthesis, h.0, refl), x.0), x.1.1)
   primary_in script (convert {m = m} {to = to} k a) h = let x = inner_in script a h.1.1 in (((m, h.0, converts m to k), x.0), x.1.1)
-  primary_in script (new_array a b) h = let x = element_in script a h.1 in let y = args_in script b x.1 in (((reserved words.Array, h.0, refl), x.0, y.0), y.1)
+  primary_in script (new_array a b) h = let x = element_in script a h.1 in let y = args_in script b x.1 in ((h.0, x.0, y.0), y.1)
   primary_in script (cast a) h = let x = inner_in script a h.1.1.1.1.1 in (((reserved words.Cast, h.0, refl), h.1.1.0, x.0), x.1.1)

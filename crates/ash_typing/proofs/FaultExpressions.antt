@@ -1,8 +1,10 @@
 -- The walk over an expression answers a fault at a token.
-use Rattle.std.proofs.Common.{ℕ, List, [], ◌∷◌, Bool, true, false, Option, Some, None, refl, length, nat_eq}
+use Rattle.std.proofs.Common.{◌≡◌, ℕ, List, [], ◌∷◌, Bool, true, false, Option, Some, None, refl, length, nat_eq}
 use Rattle.std.specs.Prelude.{if◌then◌else◌}
 use Rattle.std.specs.List.{AllByRecursion}
-use Rattle.ash_lex.specs.Tokens.{name, number, reserved}
+use Rattle.std.specs.Option.{option_and_then}
+use Rattle.ash_registrations.specs.Calls as host
+use Rattle.ash_lex.specs.Tokens.{Meaning, name, number, reserved}
 use Rattle.ash_lex.specs.declared.words.ReservedWord.TheVariants as words
 use Rattle.ash_tree.specs.Tree as written
 use Rattle.ash_tree.specs.Tokens.{Tokens}
@@ -11,6 +13,10 @@ use Rattle.ash_tree.specs.declared.tree.operators.UnaryOp.{UnaryOp}
 use Rattle.ash_tree.specs.declared.tree.operators.UnaryOp.TheVariants as unary
 use Rattle.ash_tree.specs.declared.tree.operators.BinaryOp.{BinaryOp}
 use Rattle.ash_tree.specs.declared.tree.operators.AssignOp.{AssignOp}
+use Rattle.ash_typed.specs.declared.types.Element.{Element}
+use Rattle.ash_typed.specs.declared.types.Element.TheVariants as elements
+use Rattle.ash_typed.specs.declared.types.ObjectType.{ObjectType}
+use Rattle.ash_typed.specs.declared.types.ObjectType.TheVariants as objects
 use Rattle.ash_typing.specs.declared.types.Ty.{Ty}
 use Rattle.ash_typing.specs.declared.types.Ty.TheVariants as ty
 use Rattle.ash_typing.specs.declared.forms.Sort.{Sort}
@@ -24,10 +30,13 @@ use Rattle.ash_typed.specs.declared.tree.operations.Step.{Step}
 use Rattle.ash_typed.specs.declared.tree.operations.Step.TheVariants as steps
 use Rattle.ash_typed.specs.Tree.{Place}
 use Rattle.ash_typing.specs.Checking.{Checking}
-use Rattle.ash_typing.specs.Types.{holds, fits, common, takes, assumed, meets, sort_of, binary_of, ty_of}
-use Rattle.ash_typing.specs.Environment.{Environment, Known, Callee, Invoked, variable_in, callee_in, member_in, method_in}
-use Rattle.ash_typing.specs.Expressions.{assignable, Typed, Met, made, fitted, integer_of, bool_of, handle_of, adapted_to, adapted, met_as, met, operate, counted, handle_at, unary_at, converting, convert_at, is_void, chosen, choice, operator_of, is_stored, updated, stored, assigned_to, assigned, is_assign, all_fitted, arguments_at, called, callee_at, known_at, this_at, member_at, field_of, invoked_at, method_of, invoked, call_typed, invocation_typed, typed, all_typed, links_typed, suffixes_typed, suffix_typed}
-use Rattle.ash_typing.proofs.FaultTokens.{HasToken, HasStart, ExprIn, ExprsIn, LinksIn, SuffixesIn, SuffixIn}
+use Rattle.ash_typing.specs.Types.{holds, common, takes, assumed, meets, sort_of, binary_of, ty_of, ty_of_element}
+use Rattle.ash_typing.specs.Fitting.{fits}
+use Rattle.ash_typing.specs.Heads.{object_named, element_named, element_by}
+use Rattle.ash_typing.specs.Environment.{Environment, Heads, Class, Known, Callee, Invoked, variable_in, callee_in, member_in, method_in}
+use Rattle.ash_typing.specs.Expressions.{assignable, Typed, Met, made, fitted, integer_of, bool_of, handle_of, adapted_to, adapted, met_as, met, operate, counted, handle_at, unary_at, converting, convert_at, is_void, chosen, choice, operator_of, is_stored, updated, stored, assigned_to, assigned, is_assign, all_fitted, arguments_at, called, callee_at, known_at, this_at, member_at, field_of, invoked_at, method_of, invoked, call_typed, invocation_typed, index_in, indexed_at, indexed_object, indexed, at_element, known_element, array_parameters, array_built, array_typed, cast_type, cast_at, typed, all_typed, links_typed, suffixes_typed, suffix_typed}
+use Rattle.ash_typing.specs.FaultPlaces.{begins_call, begins_expression}
+use Rattle.ash_typing.proofs.FaultTokens.{HasToken, HasStart, ElementIn, ExprIn, ExprsIn, LinksIn, SuffixesIn, SuffixIn}
 use Rattle.ash_typing.proofs.FaultAnswers.{Answers, fine, faulty, Fine, At, mismatch, no_place, bind, either, choose_start}
 
 -- typed expressions, each at a token
@@ -39,9 +48,9 @@ ListAt script r = Answers script (λ (ts : List Typed). AllAt script ts) r
 
 -- what an operand has to be
 
-pub fitted_in : (script : Tokens) (of : Ty) (t : Typed) → HasStart script t.at → Fine script (fitted of t)
+pub fitted_in : (script : Tokens) (classes : List Class) (of : Ty) (t : Typed) → HasStart script t.at → Fine script (fitted classes of t)
 unfolding fitted
-fitted_in script of t h = either (fits of t.ty) (fine tt) (mismatch h)
+fitted_in script classes of t h = either (fits classes of t.ty) (fine tt) (mismatch h)
 
 pub integer_in : (script : Tokens) (at : ℕ) (of : Ty) → HasStart script at → Fine script (integer_of at of)
 integer_in script at (ty.Integer k) h = fine tt
@@ -133,41 +142,46 @@ choice_in script c a b h k l = bind (bool_in script c.at c.ty h) (λ yes u. chos
 updated_in : (script : Tokens) (at : ℕ) (of : Ty) (p : Place) (c : Calculator) (v : Typed) → HasStart script at → HasStart script v.at → At script (updated at of p c v)
 updated_in script at of p c v h k = bind (met_in script (binary_of c) (made at of _) v h k) (λ m left. bind (integer_in script at of h) (λ kind u. fine h))
 
-stored_in : (script : Tokens) (at : ℕ) (of : Ty) (p : Place) (c : Option Calculator) (v : Typed) → HasStart script at → HasStart script v.at → At script (stored at of p c v)
+stored_in : (script : Tokens) (classes : List Class) (at : ℕ) (of : Ty) (p : Place) (c : Option Calculator) (v : Typed) → HasStart script at → HasStart script v.at → At script (stored classes at of p c v)
 unfolding stored
-stored_in script at of p None v h k = bind (fitted_in script of v k) (λ e u. fine h)
-stored_in script at of p (Some c) v h k = updated_in script at of p c v h k
+stored_in script classes at of p None v h k = bind (fitted_in script classes of v k) (λ e u. fine h)
+stored_in script classes at of p (Some c) v h k = updated_in script at of p c v h k
 
-assigned_to_in : (script : Tokens) (t : Typed) (op : AssignOp) (v : Typed) (p : Option Place) → HasStart script t.at → HasStart script v.at → At script (assigned_to t op v p)
-assigned_to_in script t op v None h k = no_place h
-assigned_to_in script t op v (Some p) h k = either (is_stored t.form t.ty) (stored_in script t.at t.ty p (operator_of op) v h k) (no_place h)
+assigned_to_in : (script : Tokens) (classes : List Class) (t : Typed) (op : AssignOp) (v : Typed) (p : Option Place) → HasStart script t.at → HasStart script v.at → At script (assigned_to classes t op v p)
+assigned_to_in script classes t op v None h k = no_place h
+assigned_to_in script classes t op v (Some p) h k = either (is_stored t.form t.ty) (stored_in script classes t.at t.ty p (operator_of op) v h k) (no_place h)
 
-assigned_in : (script : Tokens) (t : Typed) (op : AssignOp) (v : Typed) → HasStart script t.at → HasStart script v.at → At script (assigned t op v)
+assigned_in : (script : Tokens) (classes : List Class) (t : Typed) (op : AssignOp) (v : Typed) → HasStart script t.at → HasStart script v.at → At script (assigned classes t op v)
 unfolding assigned
-assigned_in script t op v h k = assigned_to_in script t op v (assignable t.form t.tree) h k
+assigned_in script classes t op v h k = assigned_to_in script classes t op v (assignable t.form t.tree) h k
 
 -- calls
 
-all_fitted_in : (script : Tokens) (ps : List Ty) (ts : List Typed) → AllAt script ts → Fine script (all_fitted ps ts)
-all_fitted_in script [] ts h = fine tt
-all_fitted_in script (p ∷ ps) [] h = fine tt
-all_fitted_in script (p ∷ ps) (t ∷ ts) h = bind (fitted_in script p t h.0) (λ e u. bind (all_fitted_in script ps ts h.1) (λ es v. fine tt))
+all_fitted_in : (script : Tokens) (classes : List Class) (ps : List Ty) (ts : List Typed) → AllAt script ts → Fine script (all_fitted classes ps ts)
+all_fitted_in script classes [] ts h = fine tt
+all_fitted_in script classes (p ∷ ps) [] h = fine tt
+all_fitted_in script classes (p ∷ ps) (t ∷ ts) h = bind (fitted_in script classes p t h.0) (λ e u. bind (all_fitted_in script classes ps ts h.1) (λ es v. fine tt))
 
-arguments_in : (script : Tokens) (at : ℕ) (text : List ℕ) (ps : List Ty) (ts : List Typed) → HasToken script (name text) at → AllAt script ts → Fine script (arguments_at at ps ts)
+arguments_in : (script : Tokens) (classes : List Class) (at : ℕ) (m : Meaning) (ps : List Ty) (ts : List Typed) → HasToken script m at → begins_call m ≡ true → AllAt script ts → Fine script (arguments_at classes at ps ts)
 unfolding arguments_at
-arguments_in script at text ps ts h k = either (nat_eq (length ps) (length ts)) (all_fitted_in script ps ts k) (faulty (name text, h, refl))
+arguments_in script classes at m ps ts h calls k = either (nat_eq (length ps) (length ts)) (all_fitted_in script classes ps ts k) (faulty (m, h, calls))
 
-pub called_in : (script : Tokens) (at : ℕ) (text : List ℕ) (callee : Callee) (ts : List Typed) (ps : Option (List Ty)) → HasToken script (name text) at → AllAt script ts → At script (called at callee ts ps)
+-- what is called takes these parameters
+pub called_with_in : (script : Tokens) (classes : List Class) (at : ℕ) (m : Meaning) (callee : Callee) (ts : List Typed) (ps : List Ty) → HasToken script m at → begins_call m ≡ true → begins_expression m ≡ true → AllAt script ts → At script (called classes at callee ts (Some ps))
 unfolding called
-called_in script at text callee ts None h k = faulty (name text, h, refl)
-called_in script at text callee ts (Some ps) h k = bind (arguments_in script at text ps ts h k) (λ es u. fine (name text, h, refl))
+called_with_in script classes at m callee ts ps h calls begins k = bind (arguments_in script classes at m ps ts h calls k) (λ es u. fine (m, h, begins))
+
+pub called_in : (script : Tokens) (classes : List Class) (at : ℕ) (text : List ℕ) (callee : Callee) (ts : List Typed) (ps : Option (List Ty)) → HasToken script (name text) at → AllAt script ts → At script (called classes at callee ts ps)
+unfolding called
+called_in script classes at text callee ts None h k = faulty (name text, h, refl)
+called_in script classes at text callee ts (Some ps) h k = called_with_in script classes at (name text) callee ts ps h refl refl k
 
 callee_at_in : (script : Tokens) (at : ℕ) (text : List ℕ) (found : Option Callee) → HasToken script (name text) at → Fine script (callee_at at found)
 callee_at_in script at text None h = faulty (name text, h, refl)
 callee_at_in script at text (Some callee) h = fine tt
 
 call_in : (script : Tokens) (env : Environment) (at : ℕ) (text : List ℕ) (arguments : Checking (List Typed)) → HasToken script (name text) at → ListAt script arguments → At script (call_typed env at text arguments)
-call_in script env at text arguments h k = bind (callee_at_in script at text (callee_in env text) h) (λ callee u. bind k (λ ts all. called_in script at text callee ts callee.parameters h all))
+call_in script env at text arguments h k = bind (callee_at_in script at text (callee_in env text) h) (λ callee u. bind k (λ ts all. called_in script env.heads.classes at text callee ts callee.parameters h all))
 
 -- names
 
@@ -203,13 +217,54 @@ method_of_in script env t (ty.Handle o) at text h k = invoked_at_in script at te
 method_of_in script env t ty.Unknown at text h k = fine tt
 method_of_in script env t _ at text h k = mismatch k
 
-invoked_in : (script : Tokens) (t : Typed) (at : ℕ) (text : List ℕ) (ts : List Typed) (m : Option Invoked) → HasToken script (name text) at → HasStart script t.at → AllAt script ts → At script (invoked t at ts m)
+invoked_in : (script : Tokens) (classes : List Class) (t : Typed) (at : ℕ) (text : List ℕ) (ts : List Typed) (m : Option Invoked) → HasToken script (name text) at → HasStart script t.at → AllAt script ts → At script (invoked classes t at ts m)
 unfolding invoked
-invoked_in script t at text ts None h k all = fine k
-invoked_in script t at text ts (Some m) h k all = bind (arguments_in script at text m.parameters ts h all) (λ es u. fine k)
+invoked_in script classes t at text ts None h k all = fine k
+invoked_in script classes t at text ts (Some m) h k all = bind (arguments_in script classes at (name text) m.parameters ts h refl all) (λ es u. fine k)
 
 invocation_in : (script : Tokens) (env : Environment) (t : Typed) (at : ℕ) (text : List ℕ) (arguments : Checking (List Typed)) → HasToken script (name text) at → HasStart script t.at → ListAt script arguments → At script (invocation_typed env t at text arguments)
-invocation_in script env t at text arguments h k all = bind (method_of_in script env t t.ty at text h k) (λ m u. bind all (λ ts each. invoked_in script t at text ts m h k each))
+invocation_in script env t at text arguments h k all = bind (method_of_in script env t t.ty at text h k) (λ m u. bind all (λ ts each. invoked_in script env.heads.classes t at text ts m h k each))
+
+-- arrays and handles
+
+element_by_in : (script : Tokens) (at : ℕ) (text : List ℕ) (found : Option Element) → HasToken script (name text) at → Fine script (known_element at found)
+element_by_in script at text None h = faulty (name text, h, refl)
+element_by_in script at text (Some e) h = fine tt
+
+known_element_in : (script : Tokens) (calls : List host.Call) (named : Heads) (of : written.Element) → ElementIn script of → Fine script (known_element (at_element of) (element_named calls named of))
+unfolding element_named
+known_element_in script calls named (written.PrimElement p k) h = fine tt
+known_element_in script calls named (written.HandleElement p text) h = element_by_in script p.at text (option_and_then element_by (object_named calls named text)) h
+
+array_in : (script : Tokens) (env : Environment) (at : ℕ) (of : written.Element) (arguments : Checking (List Typed)) → HasToken script (reserved words.Array) at → ElementIn script of → ListAt script arguments → At script (array_typed env at of arguments)
+array_in script env at of arguments h e k = bind (known_element_in script env.registered env.heads of e) (λ x u. bind k (λ ts all. called_with_in script env.heads.classes at (reserved words.Array) (array_built x (length ts)) ts (array_parameters (length ts)) h refl refl all))
+
+cast_type_in : (script : Tokens) (at : ℕ) (text : List ℕ) (found : Option ObjectType) → HasToken script (name text) at → Fine script (cast_type at found)
+cast_type_in script at text None h = faulty (name text, h, refl)
+cast_type_in script at text (Some (objects.Class class)) h = fine tt
+cast_type_in script at text (Some (objects.Interface interface)) h = fine tt
+cast_type_in script at text (Some _) h = mismatch (name text, h, refl)
+
+cast_in : (script : Tokens) (at : ℕ) (to : ObjectType) (t : Typed) → HasStart script at → HasStart script t.at → At script (cast_at at to t)
+unfolding cast_at
+cast_in script at to t h k = bind (handle_in script t.at t.ty k) (λ of u. fine h)
+
+index_at_in : (script : Tokens) (i : Typed) → HasStart script i.at → Fine script (index_in i)
+index_at_in script i h = bind (integer_in script i.at i.ty h) (λ kind u. fine tt)
+
+indexed_at_in : (script : Tokens) (t i : Typed) (of : Ty) (e : Element) → HasStart script t.at → HasStart script i.at → At script (indexed_at t i of e)
+indexed_at_in script t i of e h k = bind (index_at_in script i k) (λ index u. fine h)
+
+indexed_object_in : (script : Tokens) (t i : Typed) (o : ObjectType) → HasStart script t.at → HasStart script i.at → At script (indexed_object t i o)
+indexed_object_in script t i (objects.Array e) h k = indexed_at_in script t i (ty_of_element e) e h k
+indexed_object_in script t i _ h k = mismatch h
+
+indexed_in : (script : Tokens) (t : Typed) (of : Ty) (i : Typed) → HasStart script t.at → HasStart script i.at → At script (indexed t of i)
+unfolding indexed
+indexed_in script t (ty.Object o) i h k = indexed_object_in script t i o h k
+indexed_in script t (ty.Handle o) i h k = indexed_object_in script t i o h k
+indexed_in script t ty.Unknown i h k = indexed_at_in script t i ty.Unknown elements.Bool h k
+indexed_in script t _ i h k = mismatch h
 
 -- the walk
 
@@ -223,13 +278,13 @@ mutual
   typed_in script env left (written.Call p text es) h = call_in script env p.at text (all_typed env es) h.0 (all_in script env es h.1)
   typed_in script env left (written.Brackets p e) h = bind (typed_in script env false e h.1) (λ t k. fine h.0)
   typed_in script env left (written.Convert p to e) h = bind (typed_in script env false e h.1) (λ t k. convert_in script p.at to t h.0 k)
-  typed_in script env left (written.NewArray p of es) h = mismatch h.0
-  typed_in script env left (written.Cast p to e) h = mismatch h.0
+  typed_in script env left (written.NewArray p of es) h = array_in script env p.at of (all_typed env es) h.0 h.1 (all_in script env es h.2)
+  typed_in script env left (written.Cast p to e) h = bind (cast_type_in script to.place.at to.name (object_named env.registered env.heads to.name) h.1) (λ o u. bind (typed_in script env false e h.2) (λ t k. cast_in script p.at o t h.0 k))
   typed_in script env left (written.Postfix p e ss) h = bind (typed_in script env false e h.1) (λ t k. suffixes_in script env t ss h.2 k)
   typed_in script env left (written.Unary p op e) h = bind (typed_in script env false e h.1) (λ t k. unary_in script left p.at op t h.0 k)
   typed_in script env left (written.Binary p e ls) h = bind (typed_in script env false e h.1) (λ t k. links_in script env t ls h.2 k)
   typed_in script env left (written.Conditional p c a b) h = bind (typed_in script env false c h.1) (λ t k. bind (typed_in script env false a h.2) (λ x l. bind (typed_in script env false b h.3) (λ y m. choice_in script t x y k l m)))
-  typed_in script env left (written.Assign p e op v) h = bind (typed_in script env (is_assign op) e h.1) (λ t k. bind (typed_in script env false v h.2) (λ u l. assigned_in script t op u k l))
+  typed_in script env left (written.Assign p e op v) h = bind (typed_in script env (is_assign op) e h.1) (λ t k. bind (typed_in script env false v h.2) (λ u l. assigned_in script env.heads.classes t op u k l))
 
   pub all_in : (script : Tokens) (env : Environment) (es : written.Exprs) → ExprsIn script es → ListAt script (all_typed env es)
   all_in script env written.no_expr h = fine tt
@@ -246,6 +301,6 @@ mutual
   suffix_in : (script : Tokens) (env : Environment) (t : Typed) (s : written.Suffix) → SuffixIn script s → HasStart script t.at → At script (suffix_typed env t s)
   suffix_in script env t (written.Field p text) h k = field_in script env t t.ty p.at text h k
   suffix_in script env t (written.Method p text es) h k = invocation_in script env t p.at text (all_typed env es) h.0 k (all_in script env es h.1)
-  suffix_in script env t (written.Index e) h k = mismatch k
+  suffix_in script env t (written.Index e) h k = bind (typed_in script env false e h) (λ i l. indexed_in script t t.ty i k l)
   suffix_in script env t written.Increment h k = counted_in script t.at steps.IncrementAfter t (assignable t.form t.tree) k k
   suffix_in script env t written.Decrement h k = counted_in script t.at steps.DecrementAfter t (assignable t.form t.tree) k k

@@ -8,12 +8,12 @@ use Rattle.ash_tree.specs.Tree as written
 use Rattle.ash_typed.specs.declared.types.Kind.{Kind}
 use Rattle.ash_typing.specs.declared.types.Ty.{Ty}
 use Rattle.ash_typing.specs.declared.types.Ty.TheVariants as ty
-use Rattle.ash_typing.specs.Types.{fits}
+use Rattle.ash_typing.specs.Fitting.{fits}
 use Rattle.ash_typing.specs.Checking.{Checking}
 use Rattle.ash_typed.specs.declared.tree.statements.Test.TheVariants.{First, Last}
 use Rattle.ash_typed.specs.Tree.{Expr}
 use Rattle.ash_typed.specs.StatementTree.{Initialization, Stmt, If, no_branch, branch, Head, no_head, declared_head, evaluated_head, Repeat, For, repeated, Switch, Break, Continue, Return, Stmts, Cases}
-use Rattle.ash_typing.specs.Environment.{Environment}
+use Rattle.ash_typing.specs.Environment.{Environment, Class}
 use Rattle.ash_typing.specs.Expressions.{Typed, typed, all_typed, integer_of, bool_of, is_void}
 use Rattle.ash_typing.specs.Heads.{declared}
 use Rattle.ash_typing.specs.Declarations.{ty_in, at_type, known_ty, decl_typed}
@@ -40,9 +40,9 @@ decls_complete (and_declared {scope = scope} {of = of} {d = d} {ds = ds} {value 
     (bind_is (decl_typed scope.env at of d) _ value _ (declared_complete is at)
     (bind_is (decls_typed (with_variables scope (declared of d ∷ [])) at of ds) _ values _ (decls_complete rest at) refl))
 
-vars_complete : (scope : Scope) (v : written.Vars) (values : List Initialization) → known_ty (at_type v.of) (ty_in scope.env v.of) ≡ Ok (ty_in scope.env v.of) → AreDeclared scope (ty_in scope.env v.of) v.decls values → vars_typed scope v ≡ Ok values
+vars_complete : (scope : Scope) (v : written.Vars) (values : List Initialization) → known_ty v.of (ty_in scope.env v.of) ≡ Ok (ty_in scope.env v.of) → AreDeclared scope (ty_in scope.env v.of) v.decls values → vars_typed scope v ≡ Ok values
 unfolding vars_typed
-vars_complete scope v values known h = bind_is (known_ty (at_type v.of) (ty_in scope.env v.of)) _ (ty_in scope.env v.of) _ known (decls_complete h (at_type v.of))
+vars_complete scope v values known h = bind_is (known_ty v.of (ty_in scope.env v.of)) _ (ty_in scope.env v.of) _ known (decls_complete h (at_type v.of))
 
 -- conditions
 
@@ -79,7 +79,7 @@ trees_of (t ∷ ts) = ap (λ (es : List Expr). t.tree ∷ es) (trees_of ts)
 head_complete : {scope : Scope} {f : written.Stmt} {g : Head} → IsHead scope f g → head_typed scope f ≡ Ok g
 unfolding head_typed
 head_complete heads_nothing = refl
-head_complete (heads_variables {scope = scope} {v = v} {values = values} known h) = bind_is (vars_typed scope v) _ values _ (vars_complete scope v values (known_complete (at_type v.of) (ty_in scope.env v.of) known) h) refl
+head_complete (heads_variables {scope = scope} {v = v} {values = values} known h) = bind_is (vars_typed scope v) _ values _ (vars_complete scope v values (known_complete v.of (ty_in scope.env v.of) known) h) refl
 head_complete (heads_expression {scope = scope} {e = e} {t = t} h) = bind_is (typed scope.env false e) _ (placed (first_at e) t) _ (complete h) refl
 
 -- statements of which the parts are typed
@@ -116,22 +116,22 @@ nothing_is : (scope : Scope) (p : Place) → scope.gives ≡ ty.Void → return_
 unfolding return_typed
 nothing_is scope p h = rw h refl
 
-no_void : (of t : Ty) → fits of t ≡ true → is_void of ≡ false
-no_void ty.Void t h = absurd (cc)
-no_void ty.Unknown t h = refl
-no_void ty.Bool t h = refl
-no_void (ty.Integer k) t h = refl
-no_void (ty.Object o) t h = refl
-no_void (ty.Handle o) t h = refl
-no_void ty.Null t h = refl
+no_void : (classes : List Class) (of t : Ty) → fits classes of t ≡ true → is_void of ≡ false
+no_void classes ty.Void t h = absurd (cc)
+no_void classes ty.Unknown t h = refl
+no_void classes ty.Bool t h = refl
+no_void classes (ty.Integer k) t h = refl
+no_void classes (ty.Object o) t h = refl
+no_void classes (ty.Handle o) t h = refl
+no_void classes ty.Null t h = refl
 
-returned_is : (of : Ty) (at a : ℕ) (t : Term) → fits of t.ty ≡ true → returned of at (placed a t) ≡ Ok (converted_to of t)
+returned_is : (classes : List Class) (of : Ty) (at a : ℕ) (t : Term) → fits classes of t.ty ≡ true → returned classes of at (placed a t) ≡ Ok (converted_to of t)
 unfolding returned
-returned_is of at a t h = rw (no_void of t.ty h) (fitted_is of a t h)
+returned_is classes of at a t h = rw (no_void classes of t.ty h) (fitted_is classes of a t h)
 
-value_is : (scope : Scope) (p : Place) (e : written.Expr) (t : Term) → typed scope.env false e ≡ Ok (placed (first_at e) t) → fits scope.gives t.ty ≡ true → return_typed scope p (Some e) ≡ Ok (Return p.line (Some (converted_to scope.gives t)))
+value_is : (scope : Scope) (p : Place) (e : written.Expr) (t : Term) → typed scope.env false e ≡ Ok (placed (first_at e) t) → fits scope.env.heads.classes scope.gives t.ty ≡ true → return_typed scope p (Some e) ≡ Ok (Return p.line (Some (converted_to scope.gives t)))
 unfolding return_typed
-value_is scope p e t h fit = rw (h, returned_is scope.gives p.at (first_at e) t fit) refl
+value_is scope p e t h fit = rw (h, returned_is scope.env.heads.classes scope.gives p.at (first_at e) t fit) refl
 
 -- labels
 
@@ -171,7 +171,7 @@ switch_is scope p e cs t k rows h is i =
 mutual
   pub stmt_complete : {scope : Scope} {s : written.Stmt} {t : Stmt} → IsStmt scope s t → stmt_typed scope s ≡ Ok t
   stmt_complete empty = refl
-  stmt_complete (declare {scope = scope} {v = v} {values = values} known h) = bind_is (vars_typed scope v) _ values _ (vars_complete scope v values (known_complete (at_type v.of) (ty_in scope.env v.of) known) h) refl
+  stmt_complete (declare {scope = scope} {v = v} {values = values} known h) = bind_is (vars_typed scope v) _ values _ (vars_complete scope v values (known_complete v.of (ty_in scope.env v.of) known) h) refl
   stmt_complete (evaluate {scope = scope} {e = e} {t = t} h) = bind_is (typed scope.env false e) _ (placed (first_at e) t) _ (complete h) refl
   stmt_complete (block {scope = scope} {ss = ss} {ts = ts} h) = bind_is (stmts_typed (block_of scope) ss) _ ts _ (stmts_complete h) refl
   stmt_complete (if_only {scope = scope} {p = p} {c = c} {s = s} {tree = tree} {t = t} h i) =

@@ -8,12 +8,12 @@ use Rattle.ash_tree.specs.Tree as written
 use Rattle.ash_typed.specs.declared.types.Kind.{Kind}
 use Rattle.ash_typing.specs.declared.types.Ty.{Ty}
 use Rattle.ash_typing.specs.declared.types.Ty.TheVariants as ty
-use Rattle.ash_typing.specs.Types.{fits}
+use Rattle.ash_typing.specs.Fitting.{fits}
 use Rattle.ash_typing.specs.Checking.{Checking}
 use Rattle.ash_typed.specs.declared.tree.statements.Test.TheVariants.{First, Last}
 use Rattle.ash_typed.specs.Tree.{Expr}
 use Rattle.ash_typed.specs.StatementTree.{Initialization, Stmt, Declare, If, no_branch, branch, Head, no_head, declared_head, evaluated_head, Repeat, For, repeated, Return, Stmts, labelled, Cases, next_case}
-use Rattle.ash_typing.specs.Environment.{Environment, Declared}
+use Rattle.ash_typing.specs.Environment.{Environment, Declared, Class}
 use Rattle.ash_typing.specs.Expressions.{Typed, typed, all_typed, integer_of, bool_of, is_void}
 use Rattle.ash_typing.specs.Heads.{declared}
 use Rattle.ash_typing.specs.Declarations.{ty_in, at_type, known_ty, decl_typed}
@@ -24,7 +24,7 @@ use Rattle.ash_typing.specs.Statements.{Scope, behind, block_of, loop_of, switch
 use Rattle.ash_typing.specs.TypedStatements.{IsKnownScope, AreDeclared, none_declared, and_declared, IsCondition, condition, MayBeCondition, endless, until, IsHead, heads_nothing, heads_variables, heads_expression, IsLabel, constant, otherwise, IsStmt, empty, declare, evaluate, block, if_only, if_else, while_loop, do_loop, for_loop, switch, break_out, continue_on, return_nothing, return_value, AreStmts, no_more_stmts, more_stmts, AreCases, no_more_cases, more_cases}
 use Rattle.ash_typing.proofs.Bindings.{no_err, ok_is, bind_ok, if_ok}
 use Rattle.ash_typing.proofs.TakenNames.{all_append}
-use Rattle.ash_typing.proofs.TypedVariables.{known_sound, named_variable}
+use Rattle.ash_typing.proofs.TypedVariables.{known_sound}
 use Rattle.ash_typing.proofs.TypingKnown.{known_type}
 use Rattle.ash_typing.proofs.TypingComplete.{terms}
 use Rattle.ash_typing.proofs.TypingSound.{sound, all_sound, fitted_ok}
@@ -39,7 +39,7 @@ decls_known of (d ∷ ds) h = (h, decls_known of ds h)
 
 more_known : (scope : Scope) (vs : List Declared) → IsKnownScope scope → AllByRecursion IsKnownVariable vs → IsKnownScope (with_variables scope vs)
 more_known scope vs k h = record {
-  env = record { classes = k.env.classes; functions = k.env.functions; globals = k.env.globals; locals = all_append IsKnownVariable scope.env.locals vs k.env.locals h };
+  env = record { interfaces = k.env.interfaces; classes = k.env.classes; functions = k.env.functions; globals = k.env.globals; locals = all_append IsKnownVariable scope.env.locals vs k.env.locals h };
   gives = k.gives;
 }
 
@@ -56,16 +56,16 @@ behind_known : (scope : Scope) (s : written.Stmt) (t : Stmt) → IsKnownScope sc
 unfolding vars_typed
 behind_known scope (written.Declare p v) t k h =
     let v_is = bind_ok (vars_typed scope v) _ t h in
-    let known = bind_ok (known_ty (at_type v.of) (ty_in scope.env v.of)) _ v_is.0 v_is.1 in
-    more_known scope (map (declared (ty_in scope.env v.of)) v.decls) k (decls_known (ty_in scope.env v.of) v.decls (named_variable scope.env.registered scope.env.heads.classes v.of (known_sound (at_type v.of) (ty_in scope.env v.of) known.0 known.1).0))
+    let known = bind_ok (known_ty v.of (ty_in scope.env v.of)) _ v_is.0 v_is.1 in
+    more_known scope (map (declared (ty_in scope.env v.of)) v.decls) k (decls_known (ty_in scope.env v.of) v.decls (known_sound scope.env v.of v.of known.0 known.1).0)
 behind_known scope _ t k h = k
 
 head_known : (scope : Scope) (f : written.Stmt) (g : Head) → IsKnownScope scope → head_typed scope f ≡ Ok g → IsKnownScope (behind scope f)
 unfolding head_typed vars_typed
 head_known scope (written.Declare p v) g k h =
     let v_is = bind_ok (vars_typed scope v) _ g h in
-    let known = bind_ok (known_ty (at_type v.of) (ty_in scope.env v.of)) _ v_is.0 v_is.1 in
-    more_known scope (map (declared (ty_in scope.env v.of)) v.decls) k (decls_known (ty_in scope.env v.of) v.decls (named_variable scope.env.registered scope.env.heads.classes v.of (known_sound (at_type v.of) (ty_in scope.env v.of) known.0 known.1).0))
+    let known = bind_ok (known_ty v.of (ty_in scope.env v.of)) _ v_is.0 v_is.1 in
+    more_known scope (map (declared (ty_in scope.env v.of)) v.decls) k (decls_known (ty_in scope.env v.of) v.decls (known_sound scope.env v.of v.of known.0 known.1).0)
 head_known scope _ g k h = k
 
 -- variables
@@ -85,12 +85,12 @@ decls_sound scope k at of known (d ∷ ds) values h =
     subst (AreDeclared scope of (d ∷ ds)) (ok_is (v.0 ∷ r.0) values r.2)
     (and_declared s.0 (declared_sound scope.env k.env at of d v.0 v.1) (decls_sound (with_variables scope (declared of d ∷ [])) (more_known scope (declared of d ∷ []) k (known, tt)) at of known ds r.0 rest))
 
-vars_declared : (scope : Scope) → IsKnownScope scope → (v : written.Vars) (values : List Initialization) → vars_typed scope v ≡ Ok values → IsKnownType (ty_in scope.env v.of) × AreDeclared scope (ty_in scope.env v.of) v.decls values
+vars_declared : (scope : Scope) → IsKnownScope scope → (v : written.Vars) (values : List Initialization) → vars_typed scope v ≡ Ok values → IsVariableType (ty_in scope.env v.of) × AreDeclared scope (ty_in scope.env v.of) v.decls values
 unfolding vars_typed
 vars_declared scope k v values h =
-    let o = bind_ok (known_ty (at_type v.of) (ty_in scope.env v.of)) _ values h in
-    let s = known_sound (at_type v.of) (ty_in scope.env v.of) o.0 o.1 in
-    (s.0, decls_sound scope k (at_type v.of) (ty_in scope.env v.of) (named_variable scope.env.registered scope.env.heads.classes v.of s.0) v.decls values (subst (λ (of : Ty). decls_typed scope (at_type v.of) of v.decls ≡ Ok values) s.1 o.2))
+    let o = bind_ok (known_ty v.of (ty_in scope.env v.of)) _ values h in
+    let s = known_sound scope.env v.of v.of o.0 o.1 in
+    (s.0, decls_sound scope k (at_type v.of) (ty_in scope.env v.of) s.0 v.decls values (subst (λ (of : Ty). decls_typed scope (at_type v.of) of v.decls ≡ Ok values) s.1 o.2))
 
 vars_sound : (scope : Scope) → IsKnownScope scope → (p : Place) (v : written.Vars) (values : List Initialization) → vars_typed scope v ≡ Ok values → IsStmt scope (written.Declare p v) (Declare p.line values)
 vars_sound scope k p v values h =
@@ -212,17 +212,17 @@ nothing_given ty.Void k h = refl
 nothing_given ty.Unknown k h = absurd (cc)
 nothing_given _ k h = absurd (cc)
 
-returned_sound : (of : Ty) (at : ℕ) (t : Typed) (e : Expr) → returned of at t ≡ Ok e → (fits of t.ty ≡ true) × (converted_to of (term_of t) ≡ e)
+returned_sound : (classes : List Class) (of : Ty) (at : ℕ) (t : Typed) (e : Expr) → returned classes of at t ≡ Ok e → (fits classes of t.ty ≡ true) × (converted_to of (term_of t) ≡ e)
 unfolding returned
-returned_sound of at t e h = if_ok (is_void of) _ _ (Ok e) h (λ b k. absurd (no_err _ e k)) (λ b k. fitted_ok of t e k)
+returned_sound classes of at t e h = if_ok (is_void of) _ _ (Ok e) h (λ b k. absurd (no_err _ e k)) (λ b k. fitted_ok classes of t e k)
 
 return_sound : (scope : Scope) → IsKnownScope scope → (p : Place) (e : Option written.Expr) (t : Stmt) → return_typed scope p e ≡ Ok t → IsStmt scope (written.Return p e) t
 unfolding return_typed
 return_sound scope k p None t h = if_ok (gives_nothing scope.gives) _ _ (Ok t) h (λ b e. subst (IsStmt scope (written.Return p None)) (ok_is _ t e) (return_nothing (nothing_given scope.gives k.gives b))) (λ b e. absurd (no_err _ t e))
 return_sound scope k p (Some e) t h =
     let v = bind_ok (typed scope.env false e) _ t h in
-    let r = bind_ok (returned scope.gives p.at v.0) _ t v.2 in
-    let s = returned_sound scope.gives p.at v.0 r.0 r.1 in
+    let r = bind_ok (returned scope.env.heads.classes scope.gives p.at v.0) _ t v.2 in
+    let s = returned_sound scope.env.heads.classes scope.gives p.at v.0 r.0 r.1 in
     subst (IsStmt scope (written.Return p (Some e))) (ap (λ (x : Expr). Return p.line (Some x)) s.1 ∙ ok_is _ t r.2) (return_value (sound scope.env k.env false e v.0 v.1) s.0)
 
 -- labels

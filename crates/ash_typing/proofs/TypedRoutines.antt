@@ -13,10 +13,10 @@ use Rattle.ash_typing.specs.declared.types.Ty.TheVariants as ty
 use Rattle.ash_typing.specs.Types.{ty_of, var_type}
 use Rattle.ash_typing.specs.Environment.{Environment, Declared, declares}
 use Rattle.ash_typing.specs.Expressions.{is_void}
-use Rattle.ash_typing.specs.Heads.{object_named, object_ty, handle_ty, ty_named}
+use Rattle.ash_typing.specs.Heads.{object_named, array_named, object_ty, handle_ty, ty_named}
 use Rattle.ash_typing.specs.Typing.{IsKnown, IsKnownType, IsVariableType, IsKnownVariable}
 use Rattle.ash_typing.specs.Bodies.{Body, body_scope, body_typed, returns_in, with_locals}
-use Rattle.ash_typing.specs.Declarations.{ty_in, at_type}
+use Rattle.ash_typing.specs.Declarations.{ty_in}
 use Rattle.ash_typed.specs.Modules.{Function}
 use Rattle.ash_typing.specs.Items.{passed_ty, result_typed, parameters_typed, Routine, routine_of, returning, type_of, routine_typed}
 use Rattle.ash_typing.specs.TypedModules.{parameter_name, IsPassed, type_of_parameter, parameter_of, IsPassedParameter, IsBody, IsRoutine, IsResult, result_in, IsFunction}
@@ -36,23 +36,23 @@ passed_known (ty.Object o) h = refl
 passed_known (ty.Handle o) h = refl
 passed_known ty.Null h = refl
 
-passed_variable : (of : Ty) → IsPassed of → IsVariableType of
+pub passed_variable : (of : Ty) → IsPassed of → IsVariableType of
 passed_variable ty.Unknown h = h
 passed_variable ty.Void h = h
 passed_variable ty.Bool h = refl
 passed_variable (ty.Integer k) h = refl
-passed_variable (ty.Object o) h = refl
+passed_variable (ty.Object o) h = absurd (cc)
 passed_variable (ty.Handle o) h = refl
 passed_variable ty.Null h = h
 
-pub passed_complete : (at : ℕ) (of : Ty) → IsPassed of → passed_ty at of ≡ Ok of
+pub passed_complete : (at : written.Named) (of : Ty) → IsPassed of → passed_ty at of ≡ Ok of
 unfolding passed_ty
 passed_complete at ty.Bool h = refl
 passed_complete at (ty.Integer k) h = refl
 passed_complete at (ty.Handle o) h = refl
 passed_complete at _ h = absurd (cc)
 
-primitive_passed : (at : ℕ) (p : Primitive) (t : Ty) → passed_ty at (ty_of p) ≡ Ok t → IsPassed (ty_of p) × (t ≡ ty_of p)
+primitive_passed : (at : written.Named) (p : Primitive) (t : Ty) → passed_ty at (ty_of p) ≡ Ok t → IsPassed (ty_of p) × (t ≡ ty_of p)
 unfolding passed_ty
 primitive_passed at primitives.Bool t h = (refl, sym (ok_is _ t h))
 primitive_passed at primitives.Int t h = (refl, sym (ok_is _ t h))
@@ -60,23 +60,23 @@ primitive_passed at primitives.Int64 t h = (refl, sym (ok_is _ t h))
 primitive_passed at primitives.Uint t h = (refl, sym (ok_is _ t h))
 primitive_passed at primitives.Uint64 t h = (refl, sym (ok_is _ t h))
 
-object_passed : {P : Type 0} (at : ℕ) (o : Option ObjectType) (t : Ty) → passed_ty at (object_ty o) ≡ Ok t → P
+object_passed : {P : Type 0} (at : written.Named) (o : Option ObjectType) (t : Ty) → passed_ty at (object_ty o) ≡ Ok t → P
 unfolding passed_ty
 object_passed at None t h = absurd (no_err _ t h)
 object_passed at (Some o) t h = absurd (no_err _ t h)
 
-handle_passed : (at : ℕ) (o : Option ObjectType) (t : Ty) → passed_ty at (handle_ty o) ≡ Ok t → IsPassed (handle_ty o) × (t ≡ handle_ty o)
+handle_passed : (at : written.Named) (o : Option ObjectType) (t : Ty) → passed_ty at (handle_ty o) ≡ Ok t → IsPassed (handle_ty o) × (t ≡ handle_ty o)
 unfolding passed_ty
 handle_passed at None t h = absurd (no_err _ t h)
 handle_passed at (Some o) t h = (refl, sym (ok_is _ t h))
 
-pub passed_sound : (env : Environment) (at : ℕ) (of : written.Named) (t : Ty) → passed_ty at (ty_in env of) ≡ Ok t → IsPassed (ty_in env of) × (t ≡ ty_in env of)
+pub passed_sound : (env : Environment) (at of : written.Named) (t : Ty) → passed_ty at (ty_in env of) ≡ Ok t → IsPassed (ty_in env of) × (t ≡ ty_in env of)
 unfolding ty_named
 passed_sound env at (written.Prim p k) t h = primitive_passed at k t h
-passed_sound env at (written.Object p name) t h = object_passed at (object_named env.registered env.heads.classes name) t h
-passed_sound env at (written.Handle p name) t h = handle_passed at (object_named env.registered env.heads.classes name) t h
-passed_sound env at (written.Array p of) t h = handle_passed at None t h
-passed_sound env at (written.ArrayHandle p of) t h = handle_passed at None t h
+passed_sound env at (written.Object p name) t h = object_passed at (object_named env.registered env.heads name) t h
+passed_sound env at (written.Handle p name) t h = handle_passed at (object_named env.registered env.heads name) t h
+passed_sound env at (written.Array p of) t h = object_passed at (array_named env.registered env.heads of) t h
+passed_sound env at (written.ArrayHandle p of) t h = handle_passed at (array_named env.registered env.heads of) t h
 
 -- parameters
 
@@ -99,8 +99,8 @@ pub record Passed (env : Environment) (before : List Declared) (ps : List writte
 pub parameters_sound : (env : Environment) (ps : List written.Parameter) (before after : List Declared) → Distinct (map declared_name before) → parameters_typed env before ps ≡ Ok after → Passed env before ps after
 parameters_sound env [] before after d h = record { passed = tt; differ = subst Distinct (sym (append-nil (map declared_name before))) d; is = sym (ok_is before after h) ∙ sym (append-nil before) }
 parameters_sound env (p ∷ ps) before after d h =
-    let t = bind_ok (passed_ty (at_type p.of) (ty_in env p.of)) _ after h in
-    let s = passed_sound env (at_type p.of) p.of t.0 t.1 in
+    let t = bind_ok (passed_ty p.of (ty_in env p.of)) _ after h in
+    let s = passed_sound env p.of p.of t.0 t.1 in
     let v : Declared = parameter_of env p in
     if_ok (list_any (declares p.name) before) _ _ (Ok after) t.2
     (λ b e. absurd (no_err _ after e))
@@ -120,10 +120,10 @@ parameters_complete env (p ∷ ps) before h d =
     let v : Declared = parameter_of env p in
     let new : list_any (declares p.name) before ≡ false = any_named p.name before ∙ distinct_new (map declared_name before) (map parameter_name ps) p.name d in
     let there : Distinct (map declared_name (before ++ v ∷ []) ++ map parameter_name ps) = subst (λ ns. Distinct (ns ++ map parameter_name ps)) (sym (one_more_name before v)) (subst Distinct (sym (append_assoc (map declared_name before) (p.name ∷ []) (map parameter_name ps))) d) in
-    bind_is (passed_ty (at_type p.of) (ty_in env p.of)) _ (ty_in env p.of) _ (passed_complete (at_type p.of) (ty_in env p.of) h.0)
+    bind_is (passed_ty p.of (ty_in env p.of)) _ (ty_in env p.of) _ (passed_complete p.of (ty_in env p.of) h.0)
     (rw new (parameters_complete env ps (before ++ v ∷ []) h.1 there ∙ ap (λ (vs : List Declared). Ok vs) (append_assoc before (v ∷ []) (map (parameter_of env) ps))))
 
-types_of : (env : Environment) (ps : List written.Parameter) → map type_of (map (parameter_of env) ps) ≡ map (type_of_parameter env) ps
+pub types_of : (env : Environment) (ps : List written.Parameter) → map type_of (map (parameter_of env) ps) ≡ map (type_of_parameter env) ps
 types_of env [] = refl
 types_of env (p ∷ ps) = ap (λ ts. var_type (ty_in env p.of) ∷ ts) (types_of env ps)
 
@@ -132,7 +132,7 @@ locals_known env [] h = tt
 locals_known env (p ∷ ps) h = (passed_variable (ty_in env p.of) h.0, locals_known env ps h.1)
 
 inside_known : (env : Environment) (ps : List written.Parameter) → IsKnown env → AllByRecursion (IsPassedParameter env) ps → IsKnown (with_locals env (map (parameter_of env) ps))
-inside_known env ps k h = record { classes = k.classes; functions = k.functions; globals = k.globals; locals = locals_known env ps h }
+inside_known env ps k h = record { interfaces = k.interfaces; classes = k.classes; functions = k.functions; globals = k.globals; locals = locals_known env ps h }
 
 -- bodies
 
@@ -205,11 +205,11 @@ routine_complete env of r typed is =
 
 pub result_sound : (env : Environment) (of : Option written.Named) (t : Ty) → result_typed env of ≡ Ok t → IsResult env of × (t ≡ result_in env of)
 result_sound env None t h = (tt, sym (ok_is _ t h))
-result_sound env (Some of) t h = passed_sound env (at_type of) of t h
+result_sound env (Some of) t h = passed_sound env of of t h
 
 pub result_complete : (env : Environment) (of : Option written.Named) → IsResult env of → result_typed env of ≡ Ok (result_in env of)
 result_complete env None h = refl
-result_complete env (Some of) h = passed_complete (at_type of) (ty_in env of) h
+result_complete env (Some of) h = passed_complete of (ty_in env of) h
 
 result_is_known : (env : Environment) (of : Option written.Named) → IsResult env of → IsKnownType (result_in env of)
 result_is_known env None h = refl

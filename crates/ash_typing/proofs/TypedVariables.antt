@@ -2,62 +2,78 @@
 use Rattle.std.proofs.Common.{◌≡◌, ℕ, suc, List, [], ◌∷◌, ◌++◌, map, length, Option, Some, None, Ok, refl, sym, ◌∙◌, ap, subst, arith}
 use Rattle.std.specs.List.{AllZip}
 use Rattle.std.proofs.lemmas.List.{append_assoc, append-nil}
-use Rattle.ash_registrations.specs.Calls as host
 use Rattle.ash_tree.specs.Tree as written
+use Rattle.ash_tree.specs.declared.tree.types.Primitive.{Primitive}
+use Rattle.ash_tree.specs.declared.tree.types.Primitive.TheVariants as primitives
 use Rattle.ash_typed.specs.declared.types.ObjectType.{ObjectType}
+use Rattle.ash_typed.specs.declared.types.ObjectType.TheVariants as objects
 use Rattle.ash_typing.specs.declared.types.Ty.{Ty}
 use Rattle.ash_typing.specs.declared.types.Ty.TheVariants as ty
-use Rattle.ash_typing.specs.Environment.{Environment, Class}
-use Rattle.ash_typing.specs.Heads.{object_named, object_ty, handle_ty, ty_named}
-use Rattle.ash_typing.specs.Typing.{IsKnown, IsKnownType, IsVariableType, IsDeclared}
+use Rattle.ash_typing.specs.Types.{ty_of}
+use Rattle.ash_typing.specs.Environment.{Environment}
+use Rattle.ash_typing.specs.Heads.{object_named, array_named, object_ty, handle_ty, ty_named}
+use Rattle.ash_typing.specs.Typing.{IsKnown, IsVariableType, IsDeclared}
 use Rattle.ash_typing.specs.Declarations.{Initialization, ty_in, at_type, known_ty, decl_typed}
 use Rattle.ash_typed.specs.Modules.{Variables}
 use Rattle.ash_typing.specs.Items.{Names, Row, placed, with_variable, decls_typed, no_variables, vars_typed}
 use Rattle.ash_typing.specs.TypedModules.{decl_name, names_of, AreVariables}
 use Rattle.ash_typing.proofs.Bindings.{no_err, ok_is, bind_ok, bind_is}
 use Rattle.ash_typing.proofs.TakenNames.{Distinct, grown, grown-none, grown-then, CanTake, takes_none, takes_then, takes_first, takes_rest, placed_sound, placed_complete}
-use Rattle.ash_typing.proofs.TypingKnown.{primitive_known}
 use Rattle.ash_typing.proofs.TypingVariables.{declared_sound, declared_complete}
 
--- a known type
+-- a type of variables
 
-pub known_sound : (at : ℕ) (t of : Ty) → known_ty at t ≡ Ok of → IsKnownType t × (of ≡ t)
+object_sound : (at : written.Named) (o : ObjectType) (of : Ty) → known_ty at (ty.Object o) ≡ Ok of → IsVariableType (ty.Object o) × (of ≡ ty.Object o)
 unfolding known_ty
-known_sound at ty.Unknown of h = absurd (no_err _ of h)
-known_sound at ty.Void of h = (refl, sym (ok_is _ of h))
-known_sound at ty.Bool of h = (refl, sym (ok_is _ of h))
-known_sound at (ty.Integer k) of h = (refl, sym (ok_is _ of h))
-known_sound at (ty.Object o) of h = (refl, sym (ok_is _ of h))
-known_sound at (ty.Handle o) of h = (refl, sym (ok_is _ of h))
-known_sound at ty.Null of h = (refl, sym (ok_is _ of h))
+object_sound at (objects.Class c) of h = (refl, sym (ok_is _ of h))
+object_sound at (objects.Interface i) of h = absurd (no_err _ of h)
+object_sound at (objects.Host kind) of h = (refl, sym (ok_is _ of h))
+object_sound at (objects.Array e) of h = (refl, sym (ok_is _ of h))
 
-pub known_complete : (at : ℕ) (t : Ty) → IsKnownType t → known_ty at t ≡ Ok t
+object_complete : (at : written.Named) (o : ObjectType) → IsVariableType (ty.Object o) → known_ty at (ty.Object o) ≡ Ok (ty.Object o)
+unfolding known_ty
+object_complete at (objects.Class c) h = refl
+object_complete at (objects.Interface i) h = absurd (cc)
+object_complete at (objects.Host kind) h = refl
+object_complete at (objects.Array e) h = refl
+
+pub known_complete : (at : written.Named) (t : Ty) → IsVariableType t → known_ty at t ≡ Ok t
 unfolding known_ty
 known_complete at ty.Unknown h = absurd (cc)
-known_complete at ty.Void h = refl
+known_complete at ty.Void h = absurd (cc)
 known_complete at ty.Bool h = refl
 known_complete at (ty.Integer k) h = refl
-known_complete at (ty.Object o) h = refl
+known_complete at (ty.Object o) h = object_complete at o h
 known_complete at (ty.Handle o) h = refl
-known_complete at ty.Null h = refl
+known_complete at ty.Null h = absurd (cc)
 
--- a type that is written and known is one of variables
+-- a type that is written and taken is one of variables
 
-object_variable : (o : Option ObjectType) → IsKnownType (object_ty o) → IsVariableType (object_ty o)
-object_variable None h = cc
-object_variable (Some o) h = refl
+primitive_sound : (at : written.Named) (p : Primitive) (of : Ty) → known_ty at (ty_of p) ≡ Ok of → IsVariableType (ty_of p) × (of ≡ ty_of p)
+unfolding known_ty
+primitive_sound at primitives.Bool of h = (refl, sym (ok_is _ of h))
+primitive_sound at primitives.Int of h = (refl, sym (ok_is _ of h))
+primitive_sound at primitives.Int64 of h = (refl, sym (ok_is _ of h))
+primitive_sound at primitives.Uint of h = (refl, sym (ok_is _ of h))
+primitive_sound at primitives.Uint64 of h = (refl, sym (ok_is _ of h))
 
-handle_variable : (o : Option ObjectType) → IsKnownType (handle_ty o) → IsVariableType (handle_ty o)
-handle_variable None h = cc
-handle_variable (Some o) h = refl
+some_object_sound : (at : written.Named) (o : Option ObjectType) (of : Ty) → known_ty at (object_ty o) ≡ Ok of → IsVariableType (object_ty o) × (of ≡ object_ty o)
+unfolding known_ty
+some_object_sound at None of h = absurd (no_err _ of h)
+some_object_sound at (Some o) of h = object_sound at o of h
 
-pub named_variable : (calls : List host.Call) (classes : List Class) (of : written.Named) → IsKnownType (ty_named calls classes of) → IsVariableType (ty_named calls classes of)
+some_handle_sound : (at : written.Named) (o : Option ObjectType) (of : Ty) → known_ty at (handle_ty o) ≡ Ok of → IsVariableType (handle_ty o) × (of ≡ handle_ty o)
+unfolding known_ty
+some_handle_sound at None of h = absurd (no_err _ of h)
+some_handle_sound at (Some o) of h = (refl, sym (ok_is _ of h))
+
+pub known_sound : (env : Environment) (at of : written.Named) (t : Ty) → known_ty at (ty_in env of) ≡ Ok t → IsVariableType (ty_in env of) × (t ≡ ty_in env of)
 unfolding ty_named
-named_variable calls classes (written.Prim p primitive) h = primitive_known primitive
-named_variable calls classes (written.Object p name) h = object_variable (object_named calls classes name) h
-named_variable calls classes (written.Handle p name) h = handle_variable (object_named calls classes name) h
-named_variable calls classes (written.Array p of) h = cc
-named_variable calls classes (written.ArrayHandle p of) h = cc
+known_sound env at (written.Prim p k) t h = primitive_sound at k t h
+known_sound env at (written.Object p name) t h = some_object_sound at (object_named env.registered env.heads name) t h
+known_sound env at (written.Handle p name) t h = some_handle_sound at (object_named env.registered env.heads name) t h
+known_sound env at (written.Array p of) t h = some_object_sound at (array_named env.registered env.heads of) t h
+known_sound env at (written.ArrayHandle p of) t h = some_handle_sound at (array_named env.registered env.heads of) t h
 
 -- more variables behind those so far
 
@@ -84,7 +100,7 @@ record Gone (env : Environment) (of : Ty) (row : Row) (ds : List written.Decl) (
   each : AllZip (IsDeclared env of) ds values
   is : after ≡ row_with row (map decl_name ds) (length ds) values
 
-decls_sound : (env : Environment) (at : ℕ) (of : Ty) → IsKnown env → IsKnownType of → (ds : List written.Decl) (row after : Row) → Distinct row.names.taken → decls_typed env at of row ds ≡ Ok after → Gone env of row ds after
+decls_sound : (env : Environment) (at : ℕ) (of : Ty) → IsKnown env → IsVariableType of → (ds : List written.Decl) (row after : Row) → Distinct row.names.taken → decls_typed env at of row ds ≡ Ok after → Gone env of row ds after
 decls_sound env at of known known_of [] row after d h = record { can = takes_none row.names d; values = []; each = tt; is = sym (ok_is row after h) ∙ sym (row_with-none row) }
 decls_sound env at of known known_of (x ∷ ds) row after d h =
     let p = bind_ok (placed row.names x.place.at x.name) _ after h in
@@ -100,7 +116,7 @@ decls_sound env at of known known_of (x ∷ ds) row after d h =
       is = go.is ∙ row_with-then row x.name (map decl_name ds) (length ds) v.0 go.values;
     }
 
-decls_complete : (env : Environment) (at : ℕ) (of : Ty) → IsKnown env → IsKnownType of → (ds : List written.Decl) (values : List Initialization) (row : Row) → CanTake row.names (map decl_name ds) (length ds) → AllZip (IsDeclared env of) ds values → decls_typed env at of row ds ≡ Ok (row_with row (map decl_name ds) (length ds) values)
+decls_complete : (env : Environment) (at : ℕ) (of : Ty) → IsKnown env → IsVariableType of → (ds : List written.Decl) (values : List Initialization) (row : Row) → CanTake row.names (map decl_name ds) (length ds) → AllZip (IsDeclared env of) ds values → decls_typed env at of row ds ≡ Ok (row_with row (map decl_name ds) (length ds) values)
 decls_complete env at of known known_of [] [] row can each = ap (λ (r : Row). Ok r) (sym (row_with-none row))
 decls_complete env at of known known_of [] (v ∷ vs) row can each = absurd each
 decls_complete env at of known known_of (x ∷ ds) [] row can each = absurd each
@@ -124,15 +140,15 @@ begun names v = record { names = names; variables = no_variables v.of }
 pub vars_sound : (env : Environment) → IsKnown env → (names : Names) (v : written.Vars) (after : Row) → Distinct names.taken → vars_typed env names v ≡ Ok after → VarsGone env names v after
 unfolding vars_typed begun
 vars_sound env known names v after d h =
-    let k = bind_ok (known_ty (at_type v.of) (ty_in env v.of)) _ after h in
-    let s = known_sound (at_type v.of) (ty_in env v.of) k.0 k.1 in
+    let k = bind_ok (known_ty v.of (ty_in env v.of)) _ after h in
+    let s = known_sound env v.of v.of k.0 k.1 in
     let there : decls_typed env (at_type v.of) (ty_in env v.of) (begun names v) v.decls ≡ Ok after = subst (λ (of : Ty). decls_typed env (at_type v.of) of (begun names v) v.decls ≡ Ok after) s.1 k.2 in
     let go = decls_sound env (at_type v.of) (ty_in env v.of) known s.0 v.decls (begun names v) after d there in
     record {
       can = go.can;
       taken = ap (λ (r : Row). r.names) go.is;
       typed = record {
-        known = s.0;
+        variable = s.0;
         line = ap (λ (r : Row). r.variables.line) go.is;
         values = subst (λ (r : Row). AllZip (IsDeclared env (ty_in env v.of)) v.decls r.variables.values) (sym go.is) go.each;
       };
@@ -142,5 +158,5 @@ pub vars_complete : (env : Environment) → IsKnown env → (names : Names) (v :
 unfolding vars_typed begun
 vars_complete env known names v typed can are =
     let l = are.line in
-    bind_is (known_ty (at_type v.of) (ty_in env v.of)) _ (ty_in env v.of) _ (known_complete (at_type v.of) (ty_in env v.of) are.known)
-    (decls_complete env (at_type v.of) (ty_in env v.of) known are.known v.decls typed.values (begun names v) can are.values ∙ ap (λ (r : Row). Ok r) (rw (sym l) refl))
+    bind_is (known_ty v.of (ty_in env v.of)) _ (ty_in env v.of) _ (known_complete v.of (ty_in env v.of) are.variable)
+    (decls_complete env (at_type v.of) (ty_in env v.of) known are.variable v.decls typed.values (begun names v) can are.values ∙ ap (λ (r : Row). Ok r) (rw (sym l) refl))

@@ -9,6 +9,10 @@ use Rattle.ash_tree.specs.declared.tree.operators.BinaryOp.{BinaryOp}
 use Rattle.ash_tree.specs.declared.tree.operators.AssignOp.{AssignOp}
 use Rattle.ash_tree.specs.declared.tree.operators.AssignOp.TheVariants as assigns
 use Rattle.ash_tree.specs.Tree as written
+use Rattle.ash_typed.specs.declared.types.Kind.TheVariants as kinds
+use Rattle.ash_typed.specs.declared.types.Element.{Element}
+use Rattle.ash_typed.specs.declared.types.ObjectType.TheVariants as objects
+use Rattle.ash_typed.specs.declared.tree.operations.Target.TheVariants as targets
 use Rattle.ash_typed.specs.declared.types.Kind.{Kind}
 use Rattle.ash_typed.specs.declared.types.ObjectType.{ObjectType}
 use Rattle.ash_typing.specs.declared.types.Ty.{Ty}
@@ -22,49 +26,51 @@ use Rattle.ash_typed.specs.declared.tree.operations.Operands.{Operands}
 use Rattle.ash_typed.specs.declared.tree.operations.Operands.TheVariants as operands
 use Rattle.ash_typed.specs.declared.tree.operations.Step.{Step}
 use Rattle.ash_typed.specs.declared.tree.operations.Step.TheVariants as steps
-use Rattle.ash_typing.specs.Types.{var_type, signed, fits, common, object_of, ty_of, sort_of, outcome, binary_of}
-use Rattle.ash_typed.specs.Tree.{Expr, Exprs, Null, Read, Invoke, Alter, Conditional, Assign, Update, Count, Call, Place, Held, no_expr, expr}
-use Rattle.ash_typing.specs.Environment.{Environment, Callee, Invoked, callee_in, member_in, method_in}
-use Rattle.ash_typing.specs.Expressions.{Typed, typed, all_typed, links_typed, suffixes_typed, suffix_typed, call_typed, invocation_typed, called, arguments_at, all_fitted, fitted, operate, counted, unary_at, convert_at, choice, operator_of, is_stored, assigned, stored, is_assign, field_of, method_of, invoked, made, read_at, applied, call_of, assignable, handle_form}
-use Rattle.ash_typing.specs.Typing.{Term, term, placed, all_placed, term_of, first_at, HasType, AllHaveType, LinksHaveType, SuffixesHaveType, SuffixHasType, AreArguments, no_arguments, argument, number, truth, null, this, name, call, brackets, to_integer, to_bool, postfix, plus, minus, complement, not, increment, decrement, handle, handle_written, binary, conditional, assign, update, none_left, each, no_more, operated, no_suffixes, suffixed, field, method, increment_after, decrement_after, Meet, converted_to, left_of, right_of}
+use Rattle.ash_typing.specs.Types.{var_type, signed, common, object_of, ty_of, ty_of_element, sort_of, outcome, binary_of}
+use Rattle.ash_typed.specs.Tree.{Expr, Exprs, Null, Read, Invoke, Cast, Alter, Conditional, Assign, Update, Count, Call, Place, Held, Indexed, no_expr, expr}
+use Rattle.ash_typing.specs.Fitting.{fits}
+use Rattle.ash_typing.specs.Heads.{object_named, element_named}
+use Rattle.ash_typing.specs.Environment.{Environment, Class, Callee, Invoked, callee_in, member_in, method_in}
+use Rattle.ash_typing.specs.Expressions.{Typed, typed, all_typed, links_typed, suffixes_typed, suffix_typed, call_typed, invocation_typed, called, arguments_at, all_fitted, fitted, operate, counted, unary_at, convert_at, choice, operator_of, is_stored, assigned, stored, is_assign, field_of, method_of, invoked, made, read_at, applied, call_of, assignable, handle_form, indexed, array_parameters, array_typed, cast_type, cast_at}
+use Rattle.ash_typing.specs.Typing.{Term, term, read_term, placed, all_placed, term_of, first_at, HasType, AllHaveType, LinksHaveType, SuffixesHaveType, SuffixHasType, AreArguments, no_arguments, argument, IsCastType, to_class, to_interface, number, truth, null, this, name, call, brackets, to_integer, to_bool, new_array, cast, postfix, plus, minus, complement, not, increment, decrement, handle, handle_written, binary, conditional, assign, update, none_left, each, no_more, operated, no_suffixes, suffixed, field, method, index, increment_after, decrement_after, Meet, converted_to, left_of, right_of}
 use Rattle.ash_typing.proofs.TypingWords.{same_kind, met_is}
 
 -- arguments
 
-length_is : {parameters : List Ty} {ts : List Term} {trees : Exprs} → AreArguments parameters ts trees → length parameters ≡ length ts
+length_is : {classes : List Class} {parameters : List Ty} {ts : List Term} {trees : Exprs} → AreArguments classes parameters ts trees → length parameters ≡ length ts
 length_is no_arguments = refl
 length_is (argument h rest) = ap suc (length_is rest)
 
-pub fitted_is : (of : Ty) (at : ℕ) (t : Term) → fits of t.ty ≡ true → fitted of (placed at t) ≡ Ok (converted_to of t)
+pub fitted_is : (classes : List Class) (of : Ty) (at : ℕ) (t : Term) → fits classes of t.ty ≡ true → fitted classes of (placed at t) ≡ Ok (converted_to of t)
 unfolding fitted
-fitted_is of at t h = rw h refl
+fitted_is classes of at t h = rw h refl
 
 abbrev pub terms : List Typed → List Term
 terms = map term_of
 
-out_first : {of : Ty} {t : Term} {parameters : List Ty} {ts : List Term} {trees : Exprs} → AreArguments (of ∷ parameters) (t ∷ ts) trees → (fits of t.ty ≡ true) × ((rest : Exprs) × AreArguments parameters ts rest × (expr (converted_to of t) rest ≡ trees))
+out_first : {classes : List Class} {of : Ty} {t : Term} {parameters : List Ty} {ts : List Term} {trees : Exprs} → AreArguments classes (of ∷ parameters) (t ∷ ts) trees → (fits classes of t.ty ≡ true) × ((rest : Exprs) × AreArguments classes parameters ts rest × (expr (converted_to of t) rest ≡ trees))
 out_first (argument h rest) = (h, (_, rest, refl))
 
-out_none : {trees : Exprs} → AreArguments [] [] trees → no_expr ≡ trees
+out_none : {classes : List Class} {trees : Exprs} → AreArguments classes [] [] trees → no_expr ≡ trees
 out_none no_arguments = refl
 
-all_fitted_is : (parameters : List Ty) (us : List Typed) (trees : Exprs) → AreArguments parameters (terms us) trees → all_fitted parameters us ≡ Ok trees
-all_fitted_is [] [] trees h = ap Ok (out_none h)
-all_fitted_is [] (u ∷ us) trees h = elim h [ ]
-all_fitted_is (of ∷ parameters) [] trees h = elim h [ ]
-all_fitted_is (of ∷ parameters) (u ∷ us) trees h =
+all_fitted_is : (classes : List Class) (parameters : List Ty) (us : List Typed) (trees : Exprs) → AreArguments classes parameters (terms us) trees → all_fitted classes parameters us ≡ Ok trees
+all_fitted_is classes [] [] trees h = ap Ok (out_none h)
+all_fitted_is classes [] (u ∷ us) trees h = elim h [ ]
+all_fitted_is classes (of ∷ parameters) [] trees h = elim h [ ]
+all_fitted_is classes (of ∷ parameters) (u ∷ us) trees h =
     let o = out_first h in
-    rw (fitted_is of u.at (term_of u) o.0, all_fitted_is parameters us (o.1).0 (o.1).1, (o.1).2) refl
+    rw (fitted_is classes of u.at (term_of u) o.0, all_fitted_is classes parameters us (o.1).0 (o.1).1, (o.1).2) refl
 
-pub arguments_is : (at : ℕ) (parameters : List Ty) (us : List Typed) (trees : Exprs) → AreArguments parameters (terms us) trees → arguments_at at parameters us ≡ Ok trees
+pub arguments_is : (classes : List Class) (at : ℕ) (parameters : List Ty) (us : List Typed) (trees : Exprs) → AreArguments classes parameters (terms us) trees → arguments_at classes at parameters us ≡ Ok trees
 unfolding arguments_at
-arguments_is at parameters us trees h = rw (eq-eqb (length parameters) (length us) (length_is h ∙ length-map us term_of)) (all_fitted_is parameters us trees h)
+arguments_is classes at parameters us trees h = rw (eq-eqb (length parameters) (length us) (length_is h ∙ length-map us term_of)) (all_fitted_is classes parameters us trees h)
 
 -- phrases
 
-call_is : (env : Environment) (at : ℕ) (text : List ℕ) (es : written.Exprs) (callee : Callee) (parameters : List Ty) (us : List Typed) (trees : Exprs) → callee_in env text ≡ Some callee → callee.parameters ≡ Some parameters → all_typed env es ≡ Ok us → AreArguments parameters (terms us) trees → call_typed env at text (all_typed env es) ≡ Ok (made at callee.result (call_of callee.target (map var_type parameters) trees))
+call_is : (env : Environment) (at : ℕ) (text : List ℕ) (es : written.Exprs) (callee : Callee) (parameters : List Ty) (us : List Typed) (trees : Exprs) → callee_in env text ≡ Some callee → callee.parameters ≡ Some parameters → all_typed env es ≡ Ok us → AreArguments env.heads.classes parameters (terms us) trees → call_typed env at text (all_typed env es) ≡ Ok (made at callee.result (call_of callee.target (map var_type parameters) trees))
 unfolding called
-call_is env at text es callee parameters us trees c p e a = rw (c, e, p, arguments_is at parameters us trees a) refl
+call_is env at text es callee parameters us trees c p e a = rw (c, e, p, arguments_is env.heads.classes at parameters us trees a) refl
 
 integer_is : (env : Environment) (e : written.Expr) (at : ℕ) (to : Primitive) (t : Term) (j k : Kind) → ty_of to ≡ ty.Integer k → t.ty ≡ ty.Integer j → convert_at at to (placed (first_at e) t) ≡ Ok (placed at (term (ty.Integer k) (converted_to (ty.Integer k) t)))
 unfolding convert_at
@@ -120,13 +126,13 @@ choice_is : (t x y : Term) (a b c : ℕ) (of : Ty) → t.ty ≡ ty.Bool → comm
 unfolding choice
 choice_is t x y a b c of h i = rw (h, i) refl
 
-assign_is : (t u : Term) (a b : ℕ) (stands : Place) → assignable t.form t.tree ≡ Some stands → is_stored t.form t.ty ≡ true → fits t.ty u.ty ≡ true → assigned (placed a t) assigns.Assign (placed b u) ≡ Ok (placed a (term t.ty (Assign stands (converted_to t.ty u))))
+assign_is : (classes : List Class) (t u : Term) (a b : ℕ) (stands : Place) → assignable t.form t.tree ≡ Some stands → is_stored t.form t.ty ≡ true → fits classes t.ty u.ty ≡ true → assigned classes (placed a t) assigns.Assign (placed b u) ≡ Ok (placed a (term t.ty (Assign stands (converted_to t.ty u))))
 unfolding assigned stored
-assign_is t u a b stands p s h = rw (p, s, fitted_is t.ty b u h) refl
+assign_is classes t u a b stands p s h = rw (p, s, fitted_is classes t.ty b u h) refl
 
-update_is : (op : AssignOp) (c : Calculator) (t u : Term) (a b : ℕ) (stands : Place) (j k : Kind) → operator_of op ≡ Some c → assignable t.form t.tree ≡ Some stands → is_stored t.form t.ty ≡ true → t.ty ≡ ty.Integer k → Meet (binary_of c) (term t.ty Null) u (operands.Integers j) → assigned (placed a t) op (placed b u) ≡ Ok (placed a (term t.ty (Update stands k (record { operator = c; of = j }) (right_of (binary_of c) (operands.Integers j) (term t.ty Null) u))))
+update_is : (classes : List Class) (op : AssignOp) (c : Calculator) (t u : Term) (a b : ℕ) (stands : Place) (j k : Kind) → operator_of op ≡ Some c → assignable t.form t.tree ≡ Some stands → is_stored t.form t.ty ≡ true → t.ty ≡ ty.Integer k → Meet (binary_of c) (term t.ty Null) u (operands.Integers j) → assigned classes (placed a t) op (placed b u) ≡ Ok (placed a (term t.ty (Update stands k (record { operator = c; of = j }) (right_of (binary_of c) (operands.Integers j) (term t.ty Null) u))))
 unfolding assigned stored
-update_is op c t u a b stands j k e p s i m = rw (p, s, e, met_is (binary_of c) (term t.ty Null) u (operands.Integers j) a b m, i) refl
+update_is classes op c t u a b stands j k e p s i m = rw (p, s, e, met_is (binary_of c) (term t.ty Null) u (operands.Integers j) a b m, i) refl
 
 updates : (op : AssignOp) (operator : Calculator) → operator_of op ≡ Some operator → is_assign op ≡ false
 updates assigns.Assign operator h = absurd (none-some operator h)
@@ -144,9 +150,35 @@ object_method env at t (ty.Object p) text o m h i = rw (same_Some p o h, i) refl
 object_method env at t (ty.Handle p) text o m h i = rw (same_Some p o h, i) refl
 object_method env at t _ text o m h i = absurd (none-some o h)
 
-method_is : (env : Environment) (at b : ℕ) (t : Term) (text : List ℕ) (es : written.Exprs) (o : ObjectType) (m : Invoked) (us : List Typed) (trees : Exprs) → object_of t.ty ≡ Some o → method_in env o text ≡ Some m → all_typed env es ≡ Ok us → AreArguments m.parameters (terms us) trees → invocation_typed env (placed b t) at text (all_typed env es) ≡ Ok (placed b (term m.result (Invoke t.tree m.method (map var_type m.parameters) trees)))
+method_is : (env : Environment) (at b : ℕ) (t : Term) (text : List ℕ) (es : written.Exprs) (o : ObjectType) (m : Invoked) (us : List Typed) (trees : Exprs) → object_of t.ty ≡ Some o → method_in env o text ≡ Some m → all_typed env es ≡ Ok us → AreArguments env.heads.classes m.parameters (terms us) trees → invocation_typed env (placed b t) at text (all_typed env es) ≡ Ok (placed b (term m.result (Invoke t.tree m.method (map var_type m.parameters) trees)))
 unfolding invoked
-method_is env at b t text es o m us trees h i e a = rw (object_method env at (placed b t) t.ty text o m h i, e, arguments_is at m.parameters us trees a) refl
+method_is env at b t text es o m us trees h i e a = rw (object_method env at (placed b t) t.ty text o m h i, e, arguments_is env.heads.classes at m.parameters us trees a) refl
+
+-- arrays and handles
+
+array_is : (env : Environment) (at : ℕ) (of : written.Element) (es : written.Exprs) (elements : Element) (us : List Typed) (count : ℕ) (trees : Exprs) → element_named env.registered env.heads of ≡ Some elements → all_typed env es ≡ Ok us → length us ≡ count → AreArguments env.heads.classes (array_parameters count) (terms us) trees → array_typed env at of (all_typed env es) ≡ Ok (made at (ty.Handle (objects.Array elements)) (Call (targets.Array elements) (map var_type (array_parameters count)) trees))
+unfolding called
+array_is env at of es elements us count trees n e c a = rw (n, e, c, arguments_is env.heads.classes at (array_parameters count) us trees a) refl
+
+cast_type_is : {o : ObjectType} (at : ℕ) → IsCastType o → cast_type at (Some o) ≡ Ok o
+cast_type_is at to_class = refl
+cast_type_is at to_interface = refl
+
+cast_is : (at b : ℕ) (to : ObjectType) (of : Ty) (a : Form) (tree : Expr) (o : ObjectType) → object_of of ≡ Some o → cast_at at to (record { at = b; ty = of; form = a; tree = tree }) ≡ Ok (placed at (term (ty.Handle to) (Cast to tree)))
+unfolding cast_at
+cast_is at b to (ty.Object p) a tree o h = refl
+cast_is at b to (ty.Handle p) a tree o h = refl
+cast_is at b to _ a tree o h = absurd (none-some o h)
+
+index_is : (at b : ℕ) (t u : Term) (of : Ty) (elements : Element) (k : Kind) → object_of of ≡ Some (objects.Array elements) → u.ty ≡ ty.Integer k → indexed (placed at t) of (placed b u) ≡ Ok (placed at (read_term (ty_of_element elements) (Read (Indexed t.tree (converted_to (ty.Integer kinds.Uint) u) elements))))
+unfolding indexed
+index_is at b t u (ty.Object p) elements k h i = rw (same_Some p (objects.Array elements) h, i) refl
+index_is at b t u (ty.Handle p) elements k h i = rw (same_Some p (objects.Array elements) h, i) refl
+index_is at b t u _ elements k h i = absurd (none-some (objects.Array elements) h)
+
+pub placed_count : {env : Environment} {es : written.Exprs} {ts : List Term} → AllHaveType env es ts → length (all_placed es ts) ≡ length ts
+placed_count none_left = refl
+placed_count (each h rest) = ap suc (placed_count rest)
 
 pub all_terms : {env : Environment} {es : written.Exprs} {ts : List Term} → AllHaveType env es ts → terms (all_placed es ts) ≡ ts
 all_terms none_left = refl
@@ -163,6 +195,8 @@ mutual
   complete (brackets h) = rw (complete h) refl
   complete {env} {left} (to_integer {p = p} {to = to} {e = e} {t = t} {j = j} {k = k} h i l) = rw (complete h) (integer_is env e p.at to t j k i l)
   complete (to_bool {p = p} {to = to} {e = e} {t = t} h i l) = rw (complete h) (bool_is p.at (first_at e) to t i l)
+  complete {env} (new_array {p = p} {of = of} {es = es} {elements = elements} {ts = ts} {trees = trees} n all args) = array_is env p.at of es elements (all_placed es ts) (length ts) trees n (all_complete all) (placed_count all) (rw (all_terms all) args)
+  complete (cast {p = p} {to = to} {e = e} {t = t} {o = o} {from = from} n c h i) = rw (n, cast_type_is to.place.at c, complete h) (cast_is p.at (first_at e) o t.ty t.form t.tree from i)
   complete (postfix {e = e} h ss) = rw (complete h) (suffixes_complete ss (first_at e))
   complete {left = left} (plus {p = p} {e = e} {t = t} {k = k} h i) = rw (complete h) (plus_is left p.at (first_at e) t k i)
   complete {left = left} (minus {p = p} {e = e} {t = t} {k = k} h i) = rw (complete h) (minus_is left p.at (first_at e) t k i)
@@ -174,8 +208,8 @@ mutual
   complete (handle_written {p = p} {e = e} {t = t} h) = rw (complete h) (handle_written_is p.at (first_at e) t)
   complete (binary {e = e} h ls) = rw (complete h) (links_complete ls (first_at e))
   complete (conditional {c = c} {a = a} {b = b} {t = t} {x = x} {y = y} {of = of} h i k l m) = rw (complete h, complete k, complete l) (choice_is t x y (first_at c) (first_at a) (first_at b) of i m)
-  complete (assign {e = e} {v = v} {t = t} {u = u} {at = at} h i s k l) = rw (complete h, complete k) (assign_is t u (first_at e) (first_at v) at i s l)
-  complete (update {op = op} {c = c} {e = e} {v = v} {t = t} {u = u} {at = at} {j = j} {k = k} f h i s l m n) = rw (updates op c f, complete h, complete m) (update_is op c t u (first_at e) (first_at v) at j k f i s l n)
+  complete {env} (assign {e = e} {v = v} {t = t} {u = u} {at = at} h i s k l) = rw (complete h, complete k) (assign_is env.heads.classes t u (first_at e) (first_at v) at i s l)
+  complete {env} (update {op = op} {c = c} {e = e} {v = v} {t = t} {u = u} {at = at} {j = j} {k = k} f h i s l m n) = rw (updates op c f, complete h, complete m) (update_is env.heads.classes op c t u (first_at e) (first_at v) at j k f i s l n)
 
   pub all_complete : {env : Environment} {es : written.Exprs} {ts : List Term} → AllHaveType env es ts → all_typed env es ≡ Ok (all_placed es ts)
   all_complete none_left = refl
@@ -192,5 +226,6 @@ mutual
   pub suffix_complete : {env : Environment} {t : Term} {s : written.Suffix} {u : Term} → SuffixHasType env t s u → (at : ℕ) → suffix_typed env (placed at t) s ≡ Ok (placed at u)
   suffix_complete {env} (field {p = p} {text = text} {t = t} {o = o} {found = found} h i) at = object_field env p.at (placed at t) t.ty text o found h i
   suffix_complete {env} (method {p = p} {text = text} {es = es} {t = t} {o = o} {m = m} {ts = ts} {trees = trees} h i all args) at = method_is env p.at at t text es o m (all_placed es ts) trees h i (all_complete all) (rw (all_terms all) args)
+  suffix_complete (index {e = e} {t = t} {u = u} {elements = elements} {k = k} h d i) at = rw (complete d) (index_is at (first_at e) t u t.ty elements k h i)
   suffix_complete (increment_after {t = t} {at = place} {k = k} h i) at = counted_is at at steps.IncrementAfter t place k h i
   suffix_complete (decrement_after {t = t} {at = place} {k = k} h i) at = counted_is at at steps.DecrementAfter t place k h i

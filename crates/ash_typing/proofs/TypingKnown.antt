@@ -2,13 +2,17 @@
 use Rattle.std.specs.List.{AllByRecursion}
 use Rattle.std.specs.Option.{option_and_then, option_map, option_or}
 use Rattle.std.proofs.lemmas.Option.{none-some, same_Some}
-use Rattle.std.proofs.Common.{◌≡◌, ◌+◌, ℕ, zero, suc, List, [], ◌∷◌, Bool, true, false, cond, Option, Some, None, IfSome, slice_get, refl, subst}
+use Rattle.std.proofs.Common.{◌≡◌, ◌+◌, ℕ, zero, suc, List, [], ◌∷◌, Bool, true, false, cond, Option, Some, None, IfSome, find, slice_get, refl, subst}
 use Rattle.ash_tree.specs.declared.tree.types.Primitive.{Primitive}
 use Rattle.ash_tree.specs.declared.tree.types.Primitive.TheVariants as primitives
 use Rattle.ash_tree.specs.Tree as written
 use Rattle.ash_registrations.specs.Calls as host
 use Rattle.ash_typed.specs.declared.types.ObjectType.{ObjectType}
-use Rattle.ash_typed.specs.declared.types.ObjectType.TheVariants.{Class as OfClass, Host as OfHost}
+use Rattle.ash_typed.specs.declared.types.ObjectType.TheVariants.{Class as OfClass, Interface as OfInterface, Host as OfHost, Array as OfArray}
+use Rattle.ash_typed.specs.declared.types.Element.{Element}
+use Rattle.ash_typed.specs.declared.types.Element.TheVariants as elements
+use Rattle.ash_typed.specs.declared.tree.operations.ArrayMethod.{ArrayMethod}
+use Rattle.ash_typed.specs.declared.tree.operations.ArrayMethod.TheVariants as arrays
 use Rattle.ash_typing.specs.declared.types.Ty.{Ty}
 use Rattle.ash_typing.specs.declared.types.Ty.TheVariants as ty
 use Rattle.ash_typing.specs.declared.forms.Sort.{Sort}
@@ -18,7 +22,7 @@ use Rattle.ash_typing.specs.declared.forms.Form.TheVariants as form
 use Rattle.ash_typed.specs.declared.tree.operations.Member.{Member}
 use Rattle.ash_typed.specs.declared.tree.operations.Operands.{Operands}
 use Rattle.ash_typed.specs.declared.tree.operations.Operands.TheVariants as operands
-use Rattle.ash_typing.specs.Types.{is_variable, is_result, var_type, result_type, ty_of, common, fits_object, meeting, holds, sort_of, outcome}
+use Rattle.ash_typing.specs.Types.{is_variable, is_result, var_type, result_type, ty_of, ty_of_element, common, gives_object, meeting, holds, sort_of, outcome}
 use Rattle.ash_typed.specs.declared.tree.operations.Variable.TheVariants as variables
 use Rattle.ash_typed.specs.declared.tree.operations.Member.TheVariants.{Field}
 use Rattle.ash_typed.specs.declared.tree.operations.Method.TheVariants as methods
@@ -27,8 +31,8 @@ use Rattle.ash_typing.specs.declared.forms.Callable.TheVariants as callables
 use Rattle.ash_typed.specs.declared.types.Kind.{Kind}
 use Rattle.std.specs.Str.{bytes_eq}
 use Rattle.ash_typed.specs.Tree.{Number, Read, Stored, Held, This}
-use Rattle.ash_typing.specs.Environment.{Environment, Declared, Function, Class, Known, Callee, Invoked, first_from, last_named, declares, is_called, is_class, this_class, variable_in, callee_in, member_in, method_in, method_of_class, method_of_kind, host_member_in, result_of, service_function, host_type, host_method, property, named_in, own_method_in, class_in, function_in, field_in, local_in, own_field_in, global_in, callee_beside, class_method}
-use Rattle.ash_typing.specs.Typing.{IsKnown, IsKnownType, IsVariableType, IsResultType, IsKnownVariable, IsKnownFunction, IsKnownClass, is_known, Term, taking, beside, HasType, LinksHaveType, SuffixesHaveType, SuffixHasType, number, truth, null, this, name, call, brackets, to_integer, to_bool, postfix, plus, minus, complement, not, increment, decrement, handle, handle_written, binary, conditional, assign, update, no_more, operated, no_suffixes, suffixed, field, method, increment_after, decrement_after}
+use Rattle.ash_typing.specs.Environment.{Environment, Declared, Function, Interface, Class, Known, Callee, Invoked, first_from, last_named, declares, is_called, is_class, this_class, variable_in, callee_in, member_in, method_in, method_of_class, method_of_interface, method_of_array, method_of_kind, array_method_of, is_array_method, host_member_in, result_of, service_function, host_type, host_method, property, named_in, own_method_in, class_in, function_in, field_in, local_in, own_field_in, global_in, callee_beside, class_method, interface_method}
+use Rattle.ash_typing.specs.Typing.{IsKnown, IsKnownType, IsVariableType, IsResultType, IsKnownVariable, IsKnownFunction, IsKnownInterface, IsKnownClass, is_known, Term, taking, beside, HasType, LinksHaveType, SuffixesHaveType, SuffixHasType, number, truth, null, this, name, call, brackets, to_integer, to_bool, new_array, cast, postfix, plus, minus, complement, not, increment, decrement, handle, handle_written, binary, conditional, assign, update, no_more, operated, no_suffixes, suffixed, field, method, index, increment_after, decrement_after}
 
 -- what is looked up
 
@@ -98,11 +102,19 @@ pub variable_is_result : (of : Ty) → IsVariableType of → IsResultType of
 variable_is_result ty.Void h = refl
 variable_is_result ty.Null h = cc
 variable_is_result ty.Unknown h = cc
+variable_is_result (ty.Object o) h = h
 variable_is_result _ h = refl
 
 pub primitive_known : (of : Primitive) → is_variable (ty_of of) ≡ true
 primitive_known primitives.Bool = refl
 primitive_known _ = refl
+
+pub element_known : (of : Element) → is_variable (ty_of_element of) ≡ true
+element_known elements.Bool = refl
+element_known (elements.Integer k) = refl
+element_known (elements.Class class) = refl
+element_known (elements.Interface interface) = refl
+element_known (elements.Host kind) = refl
 
 result_known : (of : Option Primitive) → is_result (result_of of) ≡ true
 result_known None = refl
@@ -122,8 +134,8 @@ object_told false o of e = absurd (none-some of e)
 
 common_known : (a b of : Ty) → is_known a ≡ true → is_known b ≡ true → common a b ≡ Some of → is_known of ≡ true
 common_known ty.Unknown b of h k c = cc
-common_known (ty.Object o) b of h k c = object_told (fits_object o b) o of c
-common_known (ty.Handle o) b of h k c = object_told (fits_object o b) o of c
+common_known (ty.Object o) b of h k c = object_told (gives_object o b) o of c
+common_known (ty.Handle o) b of h k c = object_told (gives_object o b) o of c
 common_known a ty.Unknown of h k c = cc
 common_known ty.Bool ty.Bool of h k c = told ty.Bool of refl c
 common_known (ty.Integer j) (ty.Integer i) of h k c = told (ty.Integer (meeting j i)) of refl c
@@ -191,14 +203,25 @@ callee_known env text known =
     let kind = if_any Q (host_type env.registered) (named_in env.registered text) (host_known env.registered) in
     if_or Q (own_method_in env text) (option_or (function_in env.heads.functions text) (callee_beside env text)) own (if_or Q (function_in env.heads.functions text) (callee_beside env text) function (if_or Q (option_and_then service_function (named_in env.registered text)) (option_or (class_in env.heads.classes text) (option_and_then (host_type env.registered) (named_in env.registered text))) service (if_or Q (class_in env.heads.classes text) (option_and_then (host_type env.registered) (named_in env.registered text)) class kind)))
 
+array_result_known : (of : Element) (m : ArrayMethod) → IsResultType (array_method_of of m).result
+array_result_known of arrays.Length = refl
+array_result_known of arrays.Resize = refl
+array_result_known of arrays.InsertLast = refl
+array_result_known of arrays.RemoveLast = refl
+array_result_known of arrays.IsEmpty = refl
+
 pub member_known : (env : Environment) (o : ObjectType) (text : List ℕ) → IsKnown env → IfSome (member_in env o text) (λ found. IsVariableType found.1)
 unfolding member_in
 member_known env (OfClass i) text known = if_then IsKnownClass (λ (found : Member × Ty). IsVariableType found.1) (λ (c : Class). field_in i c text) (slice_get env.heads.classes i) (λ c h. field_known i c text h) (if_get IsKnownClass env.heads.classes i known.classes)
+member_known env (OfInterface i) text known = tt
+member_known env (OfArray of) text known = tt
 member_known env (OfHost i) text known = if_any (λ (found : Member × Ty). IsVariableType found.1) property (host_member_in env.registered i text) property_known
 
 pub method_known : (env : Environment) (o : ObjectType) (text : List ℕ) → IsKnown env → IfSome (method_in env o text) (λ m. IsResultType m.result)
-unfolding method_in method_of_class method_of_kind
+unfolding method_in method_of_class method_of_interface method_of_array method_of_kind
 method_known env (OfClass i) text known = if_then IsKnownClass (λ (m : Invoked). IsResultType m.result) (class_method i text) (slice_get env.heads.classes i) (λ c h. if_map (λ (m : Invoked). IsResultType m.result) (λ (found : ℕ × Function). record { method = methods.Script i found.0 (result_type found.1.result); result = found.1.result; parameters = found.1.parameters }) (first_from (is_called text) 0 c.methods) (function_known text c.methods h.methods)) (if_get IsKnownClass env.heads.classes i known.classes)
+method_known env (OfInterface i) text known = if_then IsKnownInterface (λ (m : Invoked). IsResultType m.result) (interface_method i text) (slice_get env.heads.interfaces i) (λ of h. if_map (λ (m : Invoked). IsResultType m.result) (λ (found : ℕ × Function). record { method = methods.Interface i found.0 (result_type found.1.result); result = found.1.result; parameters = found.1.parameters }) (first_from (is_called text) 0 of.methods) (function_known text of.methods h.methods)) (if_get IsKnownInterface env.heads.interfaces i known.interfaces)
+method_known env (OfArray of) text known = let found = find (is_array_method text) (arrays.Length ∷ arrays.Resize ∷ arrays.InsertLast ∷ arrays.RemoveLast ∷ arrays.IsEmpty ∷ []) in if_map (λ (m : Invoked). IsResultType m.result) (array_method_of of) found (if_all found (array_result_known of))
 method_known env (OfHost i) text known = if_any (λ (m : Invoked). IsResultType m.result) host_method (host_member_in env.registered i text) host_method_known
 
 mutual
@@ -212,6 +235,8 @@ mutual
   known_type (brackets h) known = known_type h known
   known_type (to_integer h i l) known = refl
   known_type (to_bool h i l) known = refl
+  known_type (new_array e all args) known = refl
+  known_type (cast n c h i) known = refl
   known_type (postfix h ss) known = suffixes_known ss known (known_type h known)
   known_type (plus h i) known = refl
   known_type (minus h i) known = refl
@@ -237,5 +262,6 @@ mutual
   pub suffix_known : {env : Environment} {t : Term} {s : written.Suffix} {u : Term} → SuffixHasType env t s u → IsKnown env → IsKnownType u.ty
   suffix_known {env} (field {text = text} {o = o} {found = found} h i) known = variable_is_known found.1 (at_some (λ found. IsVariableType found.1) (member_in env o text) found (member_known env o text known) i)
   suffix_known {env} (method {text = text} {o = o} {m = m} h i all args) known = result_is_known m.result (at_some (λ m. IsResultType m.result) (method_in env o text) m (method_known env o text known) i)
+  suffix_known (index {elements = of} h d i) known = variable_is_known (ty_of_element of) (element_known of)
   suffix_known (increment_after h i) known = refl
   suffix_known (decrement_after h i) known = refl

@@ -1,5 +1,6 @@
 -- What the walk types has that type by the rules, where all types are known.
 use Rattle.std.proofs.lemmas.Bool.{eqb-true}
+use Rattle.std.proofs.lemmas.List.{length-map}
 use Rattle.std.proofs.Common.{◌≡◌, ℕ, pred, List, [], ◌∷◌, map, length, nat_eq, Bool, true, false, cond, Option, Some, None, Ok, refl, sym, ap, ◌∙◌, subst}
 use Rattle.ash_tree.specs.declared.tree.places.Place as place
 use Rattle.ash_tree.specs.declared.tree.types.Primitive.{Primitive}
@@ -14,6 +15,9 @@ use Rattle.ash_typing.specs.declared.fault.Rule.TheVariants as rules
 use Rattle.ash_typed.specs.declared.types.Kind.{Kind}
 use Rattle.ash_typed.specs.declared.types.ObjectType.{ObjectType}
 use Rattle.ash_typed.specs.declared.types.ObjectType.TheVariants as objects
+use Rattle.ash_typed.specs.declared.types.Kind.TheVariants as kinds
+use Rattle.ash_typed.specs.declared.types.Element.{Element}
+use Rattle.ash_typed.specs.declared.tree.operations.Target.TheVariants as targets
 use Rattle.ash_typing.specs.declared.types.Ty.{Ty}
 use Rattle.ash_typing.specs.declared.types.Ty.TheVariants as ty
 use Rattle.ash_typing.specs.declared.forms.Sort.{Sort}
@@ -26,11 +30,13 @@ use Rattle.ash_typed.specs.declared.tree.operations.Operands.TheVariants as oper
 use Rattle.ash_typed.specs.declared.tree.operations.Step.{Step}
 use Rattle.ash_typed.specs.declared.tree.operations.Step.TheVariants as steps
 use Rattle.ash_typing.specs.Checking.{Checking, ◌>>=◌, broken}
-use Rattle.ash_typing.specs.Types.{var_type, signed, fits, common, object_of, ty_of, sort_of, binary_of, integers_in, outcome, meets, assumed}
-use Rattle.ash_typed.specs.Tree.{Expr, Exprs, Truth, Null, This, Read, Invoke, Alter, Conditional, Assign, Update, Count, Call, Place, Held, no_expr, expr}
-use Rattle.ash_typing.specs.Environment.{Environment, Known, Callee, Invoked, variable_in, callee_in, member_in, method_in}
-use Rattle.ash_typing.specs.Expressions.{Typed, Met, typed, all_typed, links_typed, suffixes_typed, suffix_typed, call_typed, invocation_typed, called, callee_at, known_at, this_at, arguments_at, all_fitted, fitted, brought, numeral, right_operand, operate, operated as joined, met, met_as, met_by, counted, altered, unary_at, integer_of, bool_of, handle_of, handle_at, convert_at, converting, choice, chosen, operator_of, is_stored, assigned, assigned_to, stored, updated, is_assign, field_of, member_at, method_of, invoked, invoked_at, made, read_at, integer_at, in_brackets, applied, call_of, assignable, handle_form}
-use Rattle.ash_typing.specs.Typing.{IsKnown, is_known, Term, term, placed, term_of, HasType, AllHaveType, LinksHaveType, SuffixesHaveType, SuffixHasType, AreArguments, no_arguments, argument, number, truth, null, this, name, call, brackets, to_integer, to_bool, postfix, plus, minus, complement, not, increment, decrement, handle, handle_written, binary, conditional, assign, update, none_left, each, no_more, operated, no_suffixes, suffixed, field, method, increment_after, decrement_after, Meet, beside, converted_to, left_of, right_of, right_by}
+use Rattle.ash_typing.specs.Types.{var_type, signed, common, object_of, ty_of, ty_of_element, sort_of, binary_of, integers_in, outcome, meets, assumed}
+use Rattle.ash_typed.specs.Tree.{Expr, Exprs, Truth, Null, This, Read, Invoke, Cast, Alter, Conditional, Assign, Update, Count, Call, Place, Held, Indexed, no_expr, expr}
+use Rattle.ash_typing.specs.Fitting.{fits}
+use Rattle.ash_typing.specs.Heads.{object_named, element_named}
+use Rattle.ash_typing.specs.Environment.{Environment, Class, Known, Callee, Invoked, variable_in, callee_in, member_in, method_in}
+use Rattle.ash_typing.specs.Expressions.{Typed, Met, typed, all_typed, links_typed, suffixes_typed, suffix_typed, call_typed, invocation_typed, called, callee_at, known_at, this_at, arguments_at, all_fitted, fitted, brought, numeral, right_operand, operate, operated as joined, met, met_as, met_by, counted, altered, unary_at, integer_of, bool_of, handle_of, handle_at, convert_at, converting, choice, chosen, operator_of, is_stored, assigned, assigned_to, stored, updated, is_assign, field_of, member_at, method_of, invoked, invoked_at, made, read_at, integer_at, in_brackets, applied, call_of, assignable, handle_form, index_in, indexed_object, indexed, at_element, known_element, array_parameters, array_built, array_typed, cast_type, cast_at}
+use Rattle.ash_typing.specs.Typing.{IsKnown, is_known, Term, term, placed, term_of, HasType, AllHaveType, LinksHaveType, SuffixesHaveType, SuffixHasType, AreArguments, no_arguments, argument, IsCastType, to_class, to_interface, number, truth, null, this, name, call, brackets, to_integer, to_bool, new_array, cast, postfix, plus, minus, complement, not, increment, decrement, handle, handle_written, binary, conditional, assign, update, none_left, each, no_more, operated, no_suffixes, suffixed, field, method, index, increment_after, decrement_after, Meet, beside, converted_to, left_of, right_of, right_by}
 use Rattle.ash_typing.proofs.TypingWords.{no_fault, same_ok, bind_ok, unconverted, beside_is, known_alone, right_is, calculated_integers}
 use Rattle.ash_typing.proofs.TypingKnown.{known_type, outcome_known, beside_known, suffix_known}
 use Rattle.ash_typing.proofs.TypingComplete.{terms}
@@ -59,30 +65,30 @@ object_ok at _ h known e = absurd (no_fault _ h e)
 
 -- arguments
 
-pub fitted_ok : (of : Ty) (t : Typed) (e : Expr) → fitted of t ≡ Ok e → (fits of t.ty ≡ true) × (converted_to of (term_of t) ≡ e)
+pub fitted_ok : (classes : List Class) (of : Ty) (t : Typed) (e : Expr) → fitted classes of t ≡ Ok e → (fits classes of t.ty ≡ true) × (converted_to of (term_of t) ≡ e)
 unfolding fitted
-fitted_ok of t e h = go (fits of t.ty) h
+fitted_ok classes of t e h = go (fits classes of t.ty) h
   where
     go : (b : Bool) → cond b (Ok (brought of t)) (broken rules.TypeMismatch t.at) ≡ Ok e → (b ≡ true) × (converted_to of (term_of t) ≡ e)
     go true h = (refl, same_ok (brought of t) e h)
     go false h = absurd (no_fault _ e h)
 
-all_fitted_ok : (parameters : List Ty) (ts : List Typed) (trees : Exprs) → length parameters ≡ length ts → all_fitted parameters ts ≡ Ok trees → AreArguments parameters (terms ts) trees
-all_fitted_ok [] [] trees n h = at_ok (λ trees. AreArguments [] [] trees) no_expr trees h no_arguments
-all_fitted_ok [] (t ∷ ts) trees n h = cc
-all_fitted_ok (of ∷ parameters) [] trees n h = cc
-all_fitted_ok (of ∷ parameters) (t ∷ ts) trees n h =
-    let first = bind_ok (fitted of t) (λ e. all_fitted parameters ts >>= λ es. Ok (expr e es)) trees h in
-    let rest = bind_ok (all_fitted parameters ts) (λ es. Ok (expr first.0 es)) trees first.2 in
-    let fit = fitted_ok of t first.0 first.1 in
-    at_ok (λ trees. AreArguments (of ∷ parameters) (term_of t ∷ terms ts) trees) (expr first.0 rest.0) trees rest.2 (subst (λ x. AreArguments (of ∷ parameters) (term_of t ∷ terms ts) (expr x rest.0)) fit.1 (argument fit.0 (all_fitted_ok parameters ts rest.0 (ap pred n) rest.1)))
+all_fitted_ok : (classes : List Class) (parameters : List Ty) (ts : List Typed) (trees : Exprs) → length parameters ≡ length ts → all_fitted classes parameters ts ≡ Ok trees → AreArguments classes parameters (terms ts) trees
+all_fitted_ok classes [] [] trees n h = at_ok (λ trees. AreArguments classes [] [] trees) no_expr trees h no_arguments
+all_fitted_ok classes [] (t ∷ ts) trees n h = cc
+all_fitted_ok classes (of ∷ parameters) [] trees n h = cc
+all_fitted_ok classes (of ∷ parameters) (t ∷ ts) trees n h =
+    let first = bind_ok (fitted classes of t) (λ e. all_fitted classes parameters ts >>= λ es. Ok (expr e es)) trees h in
+    let rest = bind_ok (all_fitted classes parameters ts) (λ es. Ok (expr first.0 es)) trees first.2 in
+    let fit = fitted_ok classes of t first.0 first.1 in
+    at_ok (λ trees. AreArguments classes (of ∷ parameters) (term_of t ∷ terms ts) trees) (expr first.0 rest.0) trees rest.2 (subst (λ x. AreArguments classes (of ∷ parameters) (term_of t ∷ terms ts) (expr x rest.0)) fit.1 (argument fit.0 (all_fitted_ok classes parameters ts rest.0 (ap pred n) rest.1)))
 
-arguments_ok : (at : ℕ) (parameters : List Ty) (ts : List Typed) (trees : Exprs) → arguments_at at parameters ts ≡ Ok trees → AreArguments parameters (terms ts) trees
+arguments_ok : (classes : List Class) (at : ℕ) (parameters : List Ty) (ts : List Typed) (trees : Exprs) → arguments_at classes at parameters ts ≡ Ok trees → AreArguments classes parameters (terms ts) trees
 unfolding arguments_at
-arguments_ok at parameters ts trees h = go (nat_eq (length parameters) (length ts)) refl h
+arguments_ok classes at parameters ts trees h = go (nat_eq (length parameters) (length ts)) refl h
   where
-    go : (b : Bool) → nat_eq (length parameters) (length ts) ≡ b → cond b (all_fitted parameters ts) (broken rules.WrongArgumentCount at) ≡ Ok trees → AreArguments parameters (terms ts) trees
-    go true n h = all_fitted_ok parameters ts trees (eqb-true (length parameters) (length ts) n) h
+    go : (b : Bool) → nat_eq (length parameters) (length ts) ≡ b → cond b (all_fitted classes parameters ts) (broken rules.WrongArgumentCount at) ≡ Ok trees → AreArguments classes parameters (terms ts) trees
+    go true n h = all_fitted_ok classes parameters ts trees (eqb-true (length parameters) (length ts) n) h
     go false n h = absurd (no_fault _ trees h)
 
 -- phrases
@@ -102,12 +108,16 @@ name_sound : (env : Environment) (left : Bool) (p : place.Place) (text : List �
 name_sound env left p text None r e h = absurd (no_fault _ r h)
 name_sound env left p text (Some known) r e h = at_ok (λ r. HasType env left (written.Name p text) (term_of r)) (read_at p.at known.1 known.0) r h (name e)
 
-pub called_ok : (at : ℕ) (callee : Callee) (ts : List Typed) (parameters : Option (List Ty)) (r : Typed) → called at callee ts parameters ≡ Ok r → (ps : List Ty) × (parameters ≡ Some ps) × ((trees : Exprs) × AreArguments ps (terms ts) trees × (made at callee.result (call_of callee.target (map var_type ps) trees) ≡ r))
+pub called_with : (classes : List Class) (at : ℕ) (callee : Callee) (ts : List Typed) (ps : List Ty) (r : Typed) → called classes at callee ts (Some ps) ≡ Ok r → (trees : Exprs) × AreArguments classes ps (terms ts) trees × (made at callee.result (call_of callee.target (map var_type ps) trees) ≡ r)
 unfolding called
-called_ok at callee ts None r h = absurd (no_fault _ r h)
-called_ok at callee ts (Some ps) r h =
-    let a = bind_ok (arguments_at at ps ts) (λ es. Ok (made at callee.result (call_of callee.target (map var_type ps) es))) r h in
-    (ps, refl, (a.0, arguments_ok at ps ts a.0 a.1, same_ok (made at callee.result (call_of callee.target (map var_type ps) a.0)) r a.2))
+called_with classes at callee ts ps r h =
+    let a = bind_ok (arguments_at classes at ps ts) (λ es. Ok (made at callee.result (call_of callee.target (map var_type ps) es))) r h in
+    (a.0, arguments_ok classes at ps ts a.0 a.1, same_ok (made at callee.result (call_of callee.target (map var_type ps) a.0)) r a.2)
+
+pub called_ok : (classes : List Class) (at : ℕ) (callee : Callee) (ts : List Typed) (parameters : Option (List Ty)) (r : Typed) → called classes at callee ts parameters ≡ Ok r → (ps : List Ty) × (parameters ≡ Some ps) × ((trees : Exprs) × AreArguments classes ps (terms ts) trees × (made at callee.result (call_of callee.target (map var_type ps) trees) ≡ r))
+unfolding called
+called_ok classes at callee ts None r h = absurd (no_fault _ r h)
+called_ok classes at callee ts (Some ps) r h = (ps, refl, called_with classes at callee ts ps r h)
 
 callee_ok : (at : ℕ) (found : Option Callee) (callee : Callee) → callee_at at found ≡ Ok callee → found ≡ Some callee
 callee_ok at None callee h = absurd (no_fault _ callee h)
@@ -115,9 +125,9 @@ callee_ok at (Some found) callee h = ap Some (same_ok found callee h)
 
 call_sound : (env : Environment) (left : Bool) (p : place.Place) (text : List ℕ) (es : written.Exprs) (r : Typed) → AllSound env es → call_typed env p.at text (all_typed env es) ≡ Ok r → HasType env left (written.Call p text es) (term_of r)
 call_sound env left p text es r all h =
-    let c = bind_ok (callee_at p.at (callee_in env text)) (λ callee. all_typed env es >>= λ ts. called p.at callee ts callee.parameters) r h in
-    let a = bind_ok (all_typed env es) (λ ts. called p.at c.0 ts (c.0).parameters) r c.2 in
-    let d = called_ok p.at c.0 a.0 (c.0).parameters r a.2 in
+    let c = bind_ok (callee_at p.at (callee_in env text)) (λ callee. all_typed env es >>= λ ts. called env.heads.classes p.at callee ts callee.parameters) r h in
+    let a = bind_ok (all_typed env es) (λ ts. called env.heads.classes p.at c.0 ts (c.0).parameters) r c.2 in
+    let d = called_ok env.heads.classes p.at c.0 a.0 (c.0).parameters r a.2 in
     subst (λ r. HasType env left (written.Call p text es) (term_of r)) ((d.2).2) (call (callee_ok p.at (callee_in env text) c.0 c.1) d.1 (all a.0 a.1) ((d.2).1))
 
 brackets_sound : (env : Environment) (left : Bool) (p : place.Place) (e : written.Expr) (r : Typed) → Sound env false e → (typed env false e >>= λ t. Ok (in_brackets p.at t)) ≡ Ok r → HasType env left (written.Brackets p e) (term_of r)
@@ -136,6 +146,52 @@ convert_sound env left p primitives.Bool e u r d known h =
     let b = bind_ok (bool_of u.at u.ty) (λ yes. Ok (made p.at ty.Bool u.tree)) r h in
     at_ok (λ r. HasType env left (written.Convert p primitives.Bool e) (term_of r)) (made p.at ty.Bool u.tree) r b.2 (to_bool d refl (bool_ok u.at u.ty b.0 known b.1))
 convert_sound env left p _ e u r d known h = to_integer_sound env left p _ _ e u r d known refl h
+
+-- arrays
+
+element_ok : (at : ℕ) (found : Option Element) (e : Element) → known_element at found ≡ Ok e → found ≡ Some e
+element_ok at None e h = absurd (no_fault _ e h)
+element_ok at (Some found) e h = ap Some (same_ok found e h)
+
+array_by : (env : Environment) (left : Bool) (p : place.Place) (of : written.Element) (es : written.Exprs) (elements : Element) (ts : List Term) (count : ℕ) (trees : Exprs) → length ts ≡ count → element_named env.registered env.heads of ≡ Some elements → AllHaveType env es ts → AreArguments env.heads.classes (array_parameters count) ts trees → HasType env left (written.NewArray p of es) (term (ty.Handle (objects.Array elements)) (Call (targets.Array elements) (map var_type (array_parameters count)) trees))
+array_by env left p of es elements ts count trees c n all args = subst (λ (count : ℕ). AreArguments env.heads.classes (array_parameters count) ts trees → HasType env left (written.NewArray p of es) (term (ty.Handle (objects.Array elements)) (Call (targets.Array elements) (map var_type (array_parameters count)) trees))) c (λ args. new_array n all args) args
+
+array_sound : (env : Environment) (left : Bool) (p : place.Place) (of : written.Element) (es : written.Exprs) (r : Typed) → AllSound env es → array_typed env p.at of (all_typed env es) ≡ Ok r → HasType env left (written.NewArray p of es) (term_of r)
+array_sound env left p of es r all h =
+    let e = bind_ok (known_element (at_element of) (element_named env.registered env.heads of)) (λ e. all_typed env es >>= λ ts. called env.heads.classes p.at (array_built e (length ts)) ts (Some (array_parameters (length ts)))) r h in
+    let a = bind_ok (all_typed env es) (λ ts. called env.heads.classes p.at (array_built e.0 (length ts)) ts (Some (array_parameters (length ts)))) r e.2 in
+    let d = called_with env.heads.classes p.at (array_built e.0 (length a.0)) a.0 (array_parameters (length a.0)) r a.2 in
+    subst (λ r. HasType env left (written.NewArray p of es) (term_of r)) d.2 (array_by env left p of es e.0 (terms a.0) (length a.0) d.0 (length-map a.0 term_of) (element_ok (at_element of) (element_named env.registered env.heads of) e.0 e.1) (all a.0 a.1) d.1)
+
+index_object_ok : (t i : Typed) (o : ObjectType) (r : Typed) → is_known i.ty ≡ true → indexed_object t i o ≡ Ok r → (e : Element) × (o ≡ objects.Array e) × ((k : Kind) × (i.ty ≡ ty.Integer k) × (read_at t.at (ty_of_element e) (Read (Indexed t.tree (converted_to (ty.Integer kinds.Uint) (term_of i)) e)) ≡ r))
+index_object_ok t i (objects.Array e) r known h =
+    let x = bind_ok (index_in i) (λ index. Ok (read_at t.at (ty_of_element e) (Read (Indexed t.tree index e)))) r h in
+    let k = bind_ok (integer_of i.at i.ty) (λ k. Ok (brought (ty.Integer kinds.Uint) i)) x.0 x.1 in
+    let tree = same_ok (brought (ty.Integer kinds.Uint) i) x.0 k.2 in
+    (e, refl, (k.0, integer_ok i.at i.ty k.0 known k.1, ap (λ (index : Expr). read_at t.at (ty_of_element e) (Read (Indexed t.tree index e))) tree ∙ same_ok _ r x.2))
+index_object_ok t i _ r known h = absurd (no_fault _ r h)
+
+index_ok : (t i : Typed) (of : Ty) (r : Typed) → is_known of ≡ true → is_known i.ty ≡ true → indexed t of i ≡ Ok r → (e : Element) × (object_of of ≡ Some (objects.Array e)) × ((k : Kind) × (i.ty ≡ ty.Integer k) × (read_at t.at (ty_of_element e) (Read (Indexed t.tree (converted_to (ty.Integer kinds.Uint) (term_of i)) e)) ≡ r))
+unfolding indexed
+index_ok t i (ty.Object o) r known kept h = let x = index_object_ok t i o r kept h in (x.0, ap Some x.1, x.2)
+index_ok t i (ty.Handle o) r known kept h = let x = index_object_ok t i o r kept h in (x.0, ap Some x.1, x.2)
+index_ok t i ty.Unknown r known kept h = cc
+index_ok t i _ r known kept h = absurd (no_fault _ r h)
+
+-- `cast<T>(e)`
+
+cast_type_ok : (at : ℕ) (found : Option ObjectType) (o : ObjectType) → cast_type at found ≡ Ok o → (found ≡ Some o) × IsCastType o
+cast_type_ok at None o h = absurd (no_fault _ o h)
+cast_type_ok at (Some (objects.Class class)) o h = (ap Some (same_ok (objects.Class class) o h), at_ok IsCastType (objects.Class class) o h to_class)
+cast_type_ok at (Some (objects.Interface interface)) o h = (ap Some (same_ok (objects.Interface interface) o h), at_ok IsCastType (objects.Interface interface) o h to_interface)
+cast_type_ok at (Some _) o h = absurd (no_fault _ o h)
+
+cast_sound : (env : Environment) (left : Bool) (p : place.Place) (to : written.TypeName) (e : written.Expr) (o : ObjectType) (u r : Typed) → object_named env.registered env.heads to.name ≡ Some o → IsCastType o → HasType env false e (term_of u) → is_known u.ty ≡ true → cast_at p.at o u ≡ Ok r → HasType env left (written.Cast p to e) (term_of r)
+unfolding cast_at
+cast_sound env left p to e o u r n c d known h =
+    let t = bind_ok (handle_of u.at u.ty) (λ h. Ok (made p.at (ty.Handle o) (Cast o u.tree))) r h in
+    let from = object_ok u.at u.ty t.0 known t.1 in
+    at_ok (λ r. HasType env left (written.Cast p to e) (term_of r)) (made p.at (ty.Handle o) (Cast o u.tree)) r t.2 (cast n c d from.1)
 
 -- operators before an operand
 
@@ -227,27 +283,27 @@ conditional_sound env left p c a b t x y r d f g known h =
 
 -- assignments
 
-assigned_ok : (t u : Typed) (op : AssignOp) (found : Option Place) (r : Typed) → assigned_to t op u found ≡ Ok r → (stands : Place) × (found ≡ Some stands) × ((is_stored t.form t.ty ≡ true) × (stored t.at t.ty stands (operator_of op) u ≡ Ok r))
-assigned_ok t u op None r h = absurd (no_fault _ r h)
-assigned_ok t u op (Some stands) r h = go (is_stored t.form t.ty) refl h
+assigned_ok : (classes : List Class) (t u : Typed) (op : AssignOp) (found : Option Place) (r : Typed) → assigned_to classes t op u found ≡ Ok r → (stands : Place) × (found ≡ Some stands) × ((is_stored t.form t.ty ≡ true) × (stored classes t.at t.ty stands (operator_of op) u ≡ Ok r))
+assigned_ok classes t u op None r h = absurd (no_fault _ r h)
+assigned_ok classes t u op (Some stands) r h = go (is_stored t.form t.ty) refl h
   where
-    go : (b : Bool) → is_stored t.form t.ty ≡ b → cond b (stored t.at t.ty stands (operator_of op) u) (broken rules.NotAssignable t.at) ≡ Ok r → (s : Place) × (Some stands ≡ Some s) × ((is_stored t.form t.ty ≡ true) × (stored t.at t.ty s (operator_of op) u ≡ Ok r))
+    go : (b : Bool) → is_stored t.form t.ty ≡ b → cond b (stored classes t.at t.ty stands (operator_of op) u) (broken rules.NotAssignable t.at) ≡ Ok r → (s : Place) × (Some stands ≡ Some s) × ((is_stored t.form t.ty ≡ true) × (stored classes t.at t.ty s (operator_of op) u ≡ Ok r))
     go true e h = (stands, refl, (e, h))
     go false e h = absurd (no_fault _ r h)
 
-plain_sound : (env : Environment) (left : Bool) (p : place.Place) (e v : written.Expr) (t u r : Typed) → HasType env true e (term_of t) → HasType env false v (term_of u) → assigned t assigns.Assign u ≡ Ok r → HasType env left (written.Assign p e assigns.Assign v) (term_of r)
+plain_sound : (env : Environment) (left : Bool) (p : place.Place) (e v : written.Expr) (t u r : Typed) → HasType env true e (term_of t) → HasType env false v (term_of u) → assigned env.heads.classes t assigns.Assign u ≡ Ok r → HasType env left (written.Assign p e assigns.Assign v) (term_of r)
 unfolding assigned stored
 plain_sound env left p e v t u r d f h =
-    let a = assigned_ok t u assigns.Assign (assignable t.form t.tree) r h in
-    let tree = bind_ok (fitted t.ty u) (λ e. Ok (made t.at t.ty (Assign a.0 e))) r ((a.2).1) in
-    let fit = fitted_ok t.ty u tree.0 tree.1 in
+    let a = assigned_ok env.heads.classes t u assigns.Assign (assignable t.form t.tree) r h in
+    let tree = bind_ok (fitted env.heads.classes t.ty u) (λ e. Ok (made t.at t.ty (Assign a.0 e))) r ((a.2).1) in
+    let fit = fitted_ok env.heads.classes t.ty u tree.0 tree.1 in
     at_ok (λ r. HasType env left (written.Assign p e assigns.Assign v) (term_of r)) (made t.at t.ty (Assign a.0 tree.0)) r tree.2 (rw (← fit.1) (assign d a.1 ((a.2).0) f fit.0))
 
-update_sound : (env : Environment) (left : Bool) (p : place.Place) (op : AssignOp) (c : Calculator) (e v : written.Expr) (t u r : Typed) → operator_of op ≡ Some c → HasType env false e (term_of t) → HasType env false v (term_of u) → is_known t.ty ≡ true → is_known u.ty ≡ true → assigned t op u ≡ Ok r → HasType env left (written.Assign p e op v) (term_of r)
+update_sound : (env : Environment) (left : Bool) (p : place.Place) (op : AssignOp) (c : Calculator) (e v : written.Expr) (t u r : Typed) → operator_of op ≡ Some c → HasType env false e (term_of t) → HasType env false v (term_of u) → is_known t.ty ≡ true → is_known u.ty ≡ true → assigned env.heads.classes t op u ≡ Ok r → HasType env left (written.Assign p e op v) (term_of r)
 unfolding assigned stored
 update_sound env left p op c e v t u r is d f known kept h =
-    let a = assigned_ok t u op (assignable t.form t.tree) r h in
-    let whole : updated t.at t.ty a.0 c u ≡ Ok r = subst (λ q. stored t.at t.ty a.0 q u ≡ Ok r) is ((a.2).1) in
+    let a = assigned_ok env.heads.classes t u op (assignable t.form t.tree) r h in
+    let whole : updated t.at t.ty a.0 c u ≡ Ok r = subst (λ q. stored env.heads.classes t.at t.ty a.0 q u ≡ Ok r) is ((a.2).1) in
     let m = bind_ok (met (binary_of c) (made t.at t.ty Null) u) (λ m. integer_of t.at t.ty >>= λ k. Ok (made t.at (ty.Integer k) (Update a.0 k (record { operator = c; of = integers_in m.operands }) m.right))) r whole in
     let k = bind_ok (integer_of t.at t.ty) (λ k. Ok (made t.at (ty.Integer k) (Update a.0 k (record { operator = c; of = integers_in (m.0).operands }) (m.0).right))) r m.2 in
     let i = integer_ok t.at t.ty k.0 known k.1 in
@@ -259,7 +315,7 @@ update_sound env left p op c e v t u r is d f known kept h =
     let all = subst (λ (m : Met). HasType env left (written.Assign p e op v) (term (ty.Integer k.0) (Update a.0 k.0 (record { operator = c; of = integers_in m.operands }) m.right))) n.2 kind in
     at_ok (λ r. HasType env left (written.Assign p e op v) (term_of r)) (made t.at (ty.Integer k.0) (Update a.0 k.0 (record { operator = c; of = integers_in (m.0).operands }) (m.0).right)) r k.2 all
 
-assign_sound : (env : Environment) (left : Bool) (p : place.Place) (op : AssignOp) (e v : written.Expr) (t u r : Typed) → HasType env (is_assign op) e (term_of t) → HasType env false v (term_of u) → is_known t.ty ≡ true → is_known u.ty ≡ true → assigned t op u ≡ Ok r → HasType env left (written.Assign p e op v) (term_of r)
+assign_sound : (env : Environment) (left : Bool) (p : place.Place) (op : AssignOp) (e v : written.Expr) (t u r : Typed) → HasType env (is_assign op) e (term_of t) → HasType env false v (term_of u) → is_known t.ty ≡ true → is_known u.ty ≡ true → assigned env.heads.classes t op u ≡ Ok r → HasType env left (written.Assign p e op v) (term_of r)
 assign_sound env left p assigns.Assign e v t u r d f known kept h = plain_sound env left p e v t u r d f h
 assign_sound env left p _ e v t u r d f known kept h = update_sound env left p _ _ e v t u r refl d f known kept h
 
@@ -290,13 +346,13 @@ method_ok env t _ at text m known h = absurd (no_fault _ m h)
 method_sound : (env : Environment) (t : Typed) (p : place.Place) (text : List ℕ) (es : written.Exprs) (r : Typed) → is_known t.ty ≡ true → AllSound env es → invocation_typed env t p.at text (all_typed env es) ≡ Ok r → SuffixHasType env (term_of t) (written.Method p text es) (term_of r)
 unfolding invoked
 method_sound env t p text es r known all h =
-    let m = bind_ok (method_of env t t.ty p.at text) (λ m. all_typed env es >>= λ ts. invoked t p.at ts m) r h in
+    let m = bind_ok (method_of env t t.ty p.at text) (λ m. all_typed env es >>= λ ts. invoked env.heads.classes t p.at ts m) r h in
     let i = method_ok env t t.ty p.at text m.0 known m.1 in
-    let a = bind_ok (all_typed env es) (λ ts. invoked t p.at ts m.0) r m.2 in
+    let a = bind_ok (all_typed env es) (λ ts. invoked env.heads.classes t p.at ts m.0) r m.2 in
     let found = (i.2).0 in
-    let called : invoked t p.at a.0 (Some found) ≡ Ok r = subst (λ m. invoked t p.at a.0 m ≡ Ok r) (sym ((i.2).2)) a.2 in
-    let b = bind_ok (arguments_at p.at found.parameters a.0) (λ es. Ok (made t.at found.result (Invoke t.tree found.method (map var_type found.parameters) es))) r called in
-    at_ok (λ r. SuffixHasType env (term_of t) (written.Method p text es) (term_of r)) (made t.at found.result (Invoke t.tree found.method (map var_type found.parameters) b.0)) r b.2 (method i.1 ((i.2).1) (all a.0 a.1) (arguments_ok p.at found.parameters a.0 b.0 b.1))
+    let called : invoked env.heads.classes t p.at a.0 (Some found) ≡ Ok r = subst (λ m. invoked env.heads.classes t p.at a.0 m ≡ Ok r) (sym ((i.2).2)) a.2 in
+    let b = bind_ok (arguments_at env.heads.classes p.at found.parameters a.0) (λ es. Ok (made t.at found.result (Invoke t.tree found.method (map var_type found.parameters) es))) r called in
+    at_ok (λ r. SuffixHasType env (term_of t) (written.Method p text es) (term_of r)) (made t.at found.result (Invoke t.tree found.method (map var_type found.parameters) b.0)) r b.2 (method i.1 ((i.2).1) (all a.0 a.1) (arguments_ok env.heads.classes p.at found.parameters a.0 b.0 b.1))
 
 -- the walk
 
@@ -317,8 +373,11 @@ mutual
   sound env known left (written.Call p text es) r h = call_sound env left p text es r (all_sound env known es) h
   sound env known left (written.Brackets p e) r h = brackets_sound env left p e r (sound env known false e) h
   sound env known left (written.Convert p to e) r h = walked env false e (λ t. convert_at p.at to t) r (HasType env left (written.Convert p to e) (term_of r)) known (sound env known false e) h (λ u d k g. convert_sound env left p to e u r d k g)
-  sound env known left (written.NewArray p of es) r h = absurd (no_fault _ r h)
-  sound env known left (written.Cast p to e) r h = absurd (no_fault _ r h)
+  sound env known left (written.NewArray p of es) r h = array_sound env left p of es r (all_sound env known es) h
+  sound env known left (written.Cast p to e) r h =
+      let o = bind_ok (cast_type to.place.at (object_named env.registered env.heads to.name)) (λ o. typed env false e >>= λ t. cast_at p.at o t) r h in
+      let c = cast_type_ok to.place.at (object_named env.registered env.heads to.name) o.0 o.1 in
+      walked env false e (λ t. cast_at p.at o.0 t) r (HasType env left (written.Cast p to e) (term_of r)) known (sound env known false e) o.2 (λ u d k g. cast_sound env left p to e o.0 u r c.0 c.1 d k g)
   sound env known left (written.Postfix p e ss) r h = walked env false e (λ t. suffixes_typed env t ss) r (HasType env left (written.Postfix p e ss) (term_of r)) known (sound env known false e) h (λ u d k g. postfix d (suffixes_sound env known ss u r k g))
   sound env known left (written.Unary p op e) r h = walked env false e (λ t. unary_at left p.at op t) r (HasType env left (written.Unary p op e) (term_of r)) known (sound env known false e) h (λ u d k g. unary_sound env left p op e u r d k g)
   sound env known left (written.Binary p e ls) r h = walked env false e (λ t. links_typed env t ls) r (HasType env left (written.Binary p e ls) (term_of r)) known (sound env known false e) h (λ u d k g. binary d (links_sound env known ls u r k g))
@@ -329,8 +388,8 @@ mutual
       walked env false b (λ y. choice t x y) r Q known (sound env known false b) i (λ y j m n. conditional_sound env left p c a b t x y r d f j k n)))
   sound env known left (written.Assign p e op v) r h =
       let Q : Type 0 = HasType env left (written.Assign p e op v) (term_of r) in
-      walked env (is_assign op) e (λ target. typed env false v >>= λ value. assigned target op value) r Q known (sound env known (is_assign op) e) h (λ t d k g.
-      walked env false v (λ value. assigned t op value) r Q known (sound env known false v) g (λ u f l i. assign_sound env left p op e v t u r d f k l i))
+      walked env (is_assign op) e (λ target. typed env false v >>= λ value. assigned env.heads.classes target op value) r Q known (sound env known (is_assign op) e) h (λ t d k g.
+      walked env false v (λ value. assigned env.heads.classes t op value) r Q known (sound env known false v) g (λ u f l i. assign_sound env left p op e v t u r d f k l i))
 
   pub all_sound : (env : Environment) → IsKnown env → (es : written.Exprs) → AllSound env es
   all_sound env known written.no_expr us h = at_ok (λ us. AllHaveType env written.no_expr (terms us)) [] us h none_left
@@ -355,7 +414,7 @@ mutual
       let f = field_ok env t t.ty p.at text r kept h in
       subst (λ r. SuffixHasType env (term_of t) (written.Field p text) (term_of r)) (((f.2).2)) (field f.1 ((f.2).1))
   suffix_sound env known (written.Method p text es) t r kept h = method_sound env t p text es r kept (all_sound env known es) h
-  suffix_sound env known (written.Index e) t r kept h = absurd (no_fault _ r h)
+  suffix_sound env known (written.Index e) t r kept h = walked env false e (λ i. indexed t t.ty i) r (SuffixHasType env (term_of t) (written.Index e) (term_of r)) known (sound env known false e) h (λ u d k g. let x = index_ok t u t.ty r kept k g in subst (λ r. SuffixHasType env (term_of t) (written.Index e) (term_of r)) ((x.2).2) (index x.1 d ((x.2).1)))
   suffix_sound env known written.Increment t r kept h =
       let c = counted_ok t.at steps.IncrementAfter t (assignable t.form t.tree) r kept h in
       subst (λ r. SuffixHasType env (term_of t) written.Increment (term_of r)) ((c.2).2) (increment_after c.1 ((c.2).1))

@@ -1,7 +1,7 @@
 -- A typed tree says its type: that of the term which the rules give. What can be assigned has the tree of a read.
 use Rattle.std.specs.Option.{option_and_then, option_map, option_or}
 use Rattle.std.proofs.lemmas.Option.{none-some, same_Some}
-use Rattle.std.proofs.Common.{◌≡◌, ℕ, List, Bool, true, false, cond, map, Option, Some, None, IfSome, slice_get, refl, sym, ap, subst, ◌∙◌}
+use Rattle.std.proofs.Common.{◌≡◌, ℕ, List, [], ◌∷◌, Bool, true, false, cond, map, Option, Some, None, IfSome, find, slice_get, refl, sym, ap, subst, ◌∙◌}
 use Rattle.ash_tree.specs.declared.tree.operators.BinaryOp.{BinaryOp}
 use Rattle.ash_tree.specs.declared.tree.operators.BinaryOp.TheVariants as binary
 use Rattle.ash_tree.specs.Tree as written
@@ -9,7 +9,11 @@ use Rattle.ash_registrations.specs.Calls as host
 use Rattle.ash_typed.specs.declared.types.Kind.{Kind}
 use Rattle.ash_typed.specs.declared.types.Kind.TheVariants as kinds
 use Rattle.ash_typed.specs.declared.types.ObjectType.{ObjectType}
-use Rattle.ash_typed.specs.declared.types.ObjectType.TheVariants.{Class as OfClass, Host as OfHost}
+use Rattle.ash_typed.specs.declared.types.ObjectType.TheVariants.{Class as OfClass, Interface as OfInterface, Host as OfHost, Array as OfArray}
+use Rattle.ash_typed.specs.declared.types.Element.{Element}
+use Rattle.ash_typed.specs.declared.types.Element.TheVariants as elements
+use Rattle.ash_typed.specs.declared.tree.operations.ArrayMethod.{ArrayMethod}
+use Rattle.ash_typed.specs.declared.tree.operations.ArrayMethod.TheVariants as arrays
 use Rattle.ash_typing.specs.declared.types.Ty.{Ty}
 use Rattle.ash_typing.specs.declared.types.Ty.TheVariants as ty
 use Rattle.ash_typed.specs.declared.tree.operations.Variable.TheVariants as variables
@@ -24,15 +28,15 @@ use Rattle.ash_typed.specs.declared.tree.operations.Operands.TheVariants as oper
 use Rattle.ash_typing.specs.declared.forms.Sort.{Sort}
 use Rattle.ash_typing.specs.declared.forms.Sort.TheVariants as sort
 use Rattle.ash_typed.specs.Tree.{Expr, Exprs, Number, Truth, Null, This, Read, Invoke, Convert, Alter, Operate, Conditional, Assign, Update, Count, Call, Place, Stored, Held, place_in, converted}
-use Rattle.ash_typed.specs.TypeOf.{type_of, type_of_place, type_of_member, result_of_method, result_of_target, value, given, kept, chosen_type}
+use Rattle.ash_typed.specs.TypeOf.{type_of, type_of_place, type_of_member, type_of_element, result_of_method, result_of_target, value, given, kept, chosen_type}
 use Rattle.ash_typed.specs.declared.types.VarType.{VarType}
 use Rattle.ash_typed.specs.declared.types.VarType.TheVariants as vars
-use Rattle.ash_typing.specs.Types.{var_type, result_type, ty_of_var, value_type, is_same_kind, fits_object, common, object_of, meeting, sort_of, integers_in, meets, outcome, ty_of}
-use Rattle.ash_typing.specs.Environment.{Environment, Declared, Function, Class, Known, Callee, Invoked, first_from, last_named, declares, is_called, is_class, this_class, variable_in, callee_in, member_in, method_in, method_of_class, method_of_kind, host_member_in, service_function, host_type, host_method, property, named_in, own_method_in, class_in, function_in, field_in, local_in, own_field_in, global_in, callee_beside, class_method}
+use Rattle.ash_typing.specs.Types.{var_type, result_type, ty_of_var, value_type, is_same_kind, gives_object, common, object_of, meeting, sort_of, integers_in, meets, outcome, ty_of, ty_of_element}
+use Rattle.ash_typing.specs.Environment.{Environment, Declared, Function, Interface, Class, Known, Callee, Invoked, first_from, last_named, declares, is_called, is_class, this_class, variable_in, callee_in, member_in, method_in, method_of_class, method_of_interface, method_of_array, method_of_kind, array_method_of, is_array_method, host_member_in, service_function, host_type, host_method, property, named_in, own_method_in, class_in, function_in, field_in, local_in, own_field_in, global_in, callee_beside, class_method, interface_method}
 use Rattle.ash_typing.specs.declared.forms.Form.{Form}
 use Rattle.ash_typing.specs.declared.forms.Form.TheVariants as form
 use Rattle.ash_typing.specs.Expressions.{conversion, applied, call_of, assignable, bracketed, handle_form}
-use Rattle.ash_typing.specs.Typing.{IsKnown, IsVariableType, IsResultType, is_known, Term, converted_to, IsRead, IsReadWherePlace, HasType, LinksHaveType, SuffixesHaveType, SuffixHasType, number, truth, null, this, name, call, brackets, to_integer, to_bool, postfix, plus, minus, complement, not, increment, decrement, handle, handle_written, binary as operators, conditional, assign, update, no_more, operated, no_suffixes, suffixed, field, method, increment_after, decrement_after}
+use Rattle.ash_typing.specs.Typing.{IsKnown, IsVariableType, IsResultType, is_known, Term, converted_to, IsRead, IsReadWherePlace, HasType, LinksHaveType, SuffixesHaveType, SuffixHasType, number, truth, null, this, name, call, brackets, to_integer, to_bool, new_array, cast, postfix, plus, minus, complement, not, increment, decrement, handle, handle_written, binary as operators, conditional, assign, update, no_more, operated, no_suffixes, suffixed, field, method, index, increment_after, decrement_after}
 use Rattle.ash_typing.proofs.TypingWords.{arithmetic_integers, shift_integers}
 use Rattle.ash_typing.proofs.TypingKnown.{known_type, variable_known, callee_known, member_known, method_known, at_some, if_map, if_or, if_then, if_weaker, if_any, if_all}
 
@@ -91,14 +95,32 @@ callee_type env text =
     let kind = if_any IsTypedCallee (host_type env.registered) (named_in env.registered text) (host_result env.registered) in
     if_or IsTypedCallee (own_method_in env text) (option_or (function_in env.heads.functions text) (callee_beside env text)) own (if_or IsTypedCallee (function_in env.heads.functions text) (callee_beside env text) function (if_or IsTypedCallee (option_and_then service_function (named_in env.registered text)) (option_or (class_in env.heads.classes text) (option_and_then (host_type env.registered) (named_in env.registered text))) service (if_or IsTypedCallee (class_in env.heads.classes text) (option_and_then (host_type env.registered) (named_in env.registered text)) class kind)))
 
+array_method_type : (of : Element) (m : ArrayMethod) → IsTypedMethod (array_method_of of m)
+array_method_type of arrays.Length = refl
+array_method_type of arrays.Resize = refl
+array_method_type of arrays.InsertLast = refl
+array_method_type of arrays.RemoveLast = refl
+array_method_type of arrays.IsEmpty = refl
+
+element_type : (of : Element) → value (kept (type_of_element of)) ≡ value_type (ty_of_element of)
+element_type elements.Bool = refl
+element_type (elements.Integer k) = refl
+element_type (elements.Class class) = refl
+element_type (elements.Interface interface) = refl
+element_type (elements.Host kind) = refl
+
 member_type : (env : Environment) (o : ObjectType) (text : List ℕ) → IfSome (member_in env o text) IsTypedMember
 unfolding member_in
 member_type env (OfClass i) text = if_any IsTypedMember (λ (c : Class). field_in i c text) (slice_get env.heads.classes i) (λ c. field_type i c text)
+member_type env (OfInterface i) text = tt
+member_type env (OfArray of) text = tt
 member_type env (OfHost i) text = if_any IsTypedMember property (host_member_in env.registered i text) property_type
 
 method_type : (env : Environment) (o : ObjectType) (text : List ℕ) → IfSome (method_in env o text) IsTypedMethod
-unfolding method_in method_of_class method_of_kind
+unfolding method_in method_of_class method_of_interface method_of_array method_of_kind
 method_type env (OfClass i) text = if_any IsTypedMethod (class_method i text) (slice_get env.heads.classes i) (λ c. if_map IsTypedMethod (λ (found : ℕ × Function). record { method = methods.Script i found.0 (result_type found.1.result); result = found.1.result; parameters = found.1.parameters }) (first_from (is_called text) 0 c.methods) (if_all (first_from (is_called text) 0 c.methods) (λ found. refl)))
+method_type env (OfInterface i) text = if_any IsTypedMethod (interface_method i text) (slice_get env.heads.interfaces i) (λ of. if_map IsTypedMethod (λ (found : ℕ × Function). record { method = methods.Interface i found.0 (result_type found.1.result); result = found.1.result; parameters = found.1.parameters }) (first_from (is_called text) 0 of.methods) (if_all (first_from (is_called text) 0 of.methods) (λ found. refl)))
+method_type env (OfArray of) text = let found = find (is_array_method text) (arrays.Length ∷ arrays.Resize ∷ arrays.InsertLast ∷ arrays.RemoveLast ∷ arrays.IsEmpty ∷ []) in if_map IsTypedMethod (array_method_of of) found (if_all found (array_method_type of))
 method_type env (OfHost i) text = if_any IsTypedMethod host_method (host_member_in env.registered i text) host_method_type
 
 call_type : (c : Callable) (parameters : List VarType) (es : Exprs) → type_of (call_of c parameters es) ≡ given (result_of c)
@@ -215,8 +237,8 @@ Chosen a b s t of = chosen_type (type_of (converted (conversion of a) s)) (type_
 
 chosen_is : (a b of : Ty) (s t : Expr) → is_known a ≡ true → is_known b ≡ true → type_of s ≡ value_type a → type_of t ≡ value_type b → common a b ≡ Some of → Chosen a b s t of
 chosen_is ty.Unknown b of s t h k i j c = absurd (cc)
-chosen_is (ty.Object o) b of s t h k i j c = subst (Chosen (ty.Object o) b s t) (handle_chosen (fits_object o b) o of c) (rw i refl)
-chosen_is (ty.Handle o) b of s t h k i j c = subst (Chosen (ty.Handle o) b s t) (handle_chosen (fits_object o b) o of c) (rw i refl)
+chosen_is (ty.Object o) b of s t h k i j c = subst (Chosen (ty.Object o) b s t) (handle_chosen (gives_object o b) o of c) (rw i refl)
+chosen_is (ty.Handle o) b of s t h k i j c = subst (Chosen (ty.Handle o) b s t) (handle_chosen (gives_object o b) o of c) (rw i refl)
 chosen_is a ty.Unknown of s t h k i j c = absurd (cc)
 chosen_is ty.Bool ty.Bool of s t h k i j c = subst (Chosen ty.Bool ty.Bool s t) (same_Some ty.Bool of c) (rw i refl)
 chosen_is (ty.Integer m) (ty.Integer n) of s t h k i j c = subst (Chosen (ty.Integer m) (ty.Integer n) s t) (same_Some (ty.Integer (meeting m n)) of c) (rw (integer_converted (meeting m n) m s i) refl)
@@ -237,6 +259,8 @@ mutual
   type_is (brackets h) known = type_is h known
   type_is (to_integer {t = t} {j = j} {k = k} h i l) known = converted_type k j t (type_is h known) l
   type_is (to_bool h i l) known = type_is h known ∙ ap value_type l
+  type_is (new_array e all args) known = refl
+  type_is (cast n c h i) known = refl
   type_is (postfix h ss) known = suffixes_type ss known (type_is h known)
   type_is (plus h i) known = type_is h known ∙ ap value_type i
   type_is (minus h i) known = refl
@@ -262,6 +286,7 @@ mutual
   suffix_type : {env : Environment} {t : Term} {s : written.Suffix} {u : Term} → SuffixHasType env t s u → IsKnown env → type_of u.tree ≡ value_type u.ty
   suffix_type {env} (field {text = text} {o = o} {found = found} h i) known = ap (λ (of : VarType). value (kept of)) (at_some IsTypedMember (member_in env o text) found (member_type env o text) i) ∙ variable_value found.1 (at_some (λ found. IsVariableType found.1) (member_in env o text) found (member_known env o text known) i)
   suffix_type {env} (method {text = text} {o = o} {m = m} h i all args) known = ap given (at_some IsTypedMethod (method_in env o text) m (method_type env o text) i) ∙ result_value m.result (at_some (λ m. IsResultType m.result) (method_in env o text) m (method_known env o text known) i)
+  suffix_type (index {elements = of} h d i) known = element_type of
   suffix_type (increment_after h i) known = refl
   suffix_type (decrement_after h i) known = refl
 
@@ -292,6 +317,7 @@ handle_read _ tree h = tt
 suffix_read : {env : Environment} {t : Term} {s : written.Suffix} {u : Term} → SuffixHasType env t s u → IsReadTerm u
 suffix_read (field h i) = (_, refl)
 suffix_read (method h i all args) = tt
+suffix_read (index h d i) = (_, refl)
 suffix_read (increment_after h i) = tt
 suffix_read (decrement_after h i) = tt
 

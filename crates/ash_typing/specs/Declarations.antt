@@ -1,11 +1,11 @@
 -- Variables, and what they begin with (AngelScript manual, "Variables"): an initialiser is walked, then the variable.
-use Rattle.std.specs.Prelude.{ℕ, false, List, [], ◌∷◌, Option, Some, None, Ok, option_map, find, slice_get}
+use Rattle.std.specs.Prelude.{ℕ, length, false, List, [], ◌∷◌, Option, Some, None, Ok, option_map, find, slice_get}
 use Rattle.std.specs.Option.{option_and_then}
 use Rattle.ash_registrations.specs.Calls as host
 use Rattle.ash_tree.specs.Tree as written
-use Rattle.ash_typing.specs.declared.fault.Rule.TheVariants.{UnknownType, TypeMismatch, NotAssignable, NoFactory}
+use Rattle.ash_typing.specs.declared.fault.Rule.TheVariants.{UnknownType, TypeMismatch, NotAssignable, Misplaced, NoFactory}
 use Rattle.ash_typed.specs.declared.types.ObjectType.{ObjectType}
-use Rattle.ash_typed.specs.declared.types.ObjectType.TheVariants.{Class as OfClass, Host as OfHost}
+use Rattle.ash_typed.specs.declared.types.ObjectType.TheVariants.{Class as OfClass, Interface as OfInterface, Host as OfHost, Array as OfArray}
 use Rattle.ash_typing.specs.declared.types.Ty.{Ty}
 use Rattle.ash_typing.specs.declared.types.Ty.TheVariants as ty
 use Rattle.ash_typed.specs.declared.tree.operations.Target.TheVariants as targets
@@ -16,21 +16,28 @@ use Rattle.ash_typing.specs.Types.{var_type}
 use Rattle.ash_typing.specs.Environment.{Environment, Class, Callee, host_type}
 use Rattle.ash_typing.specs.Heads.{ty_named}
 pub use Rattle.ash_typed.specs.StatementTree.{Initialization}
-use Rattle.ash_typing.specs.Expressions.{Typed, typed, all_typed, fitted, called}
+use Rattle.ash_typing.specs.Expressions.{Typed, typed, all_typed, fitted, called, at_element, array_built}
 
 -- the type of variables
 
 -- the type that is written
 abbrev pub ty_in : Environment → written.Named → Ty
-ty_in env of = ty_named env.registered env.heads.classes of
+ty_in env of = ty_named env.registered env.heads of
 
 abbrev pub at_type : written.Named → ℕ
 at_type of = (written.place_of_type of).at
 
--- the type of variables, at this offset
-unfoldable pub known_ty : ℕ → Ty → Checking Ty
-known_ty at ty.Unknown = broken UnknownType at
-known_ty at t = Ok t
+-- where the name in a type is: of an array, that of its elements' type
+abbrev pub at_type_name : written.Named → ℕ
+at_type_name (written.Array p of) = at_element of
+at_type_name (written.ArrayHandle p of) = at_element of
+at_type_name of = at_type of
+
+-- the type of variables: none stands for an object of an interface
+unfoldable pub known_ty : written.Named → Ty → Checking Ty
+known_ty of ty.Unknown = broken UnknownType (at_type_name of)
+known_ty of (ty.Object (OfInterface i)) = broken Misplaced (at_type of)
+known_ty of t = Ok t
 
 -- what they begin with
 
@@ -48,45 +55,48 @@ class_construction classes place = option_map (class_built place) (slice_get cla
 unfoldable pub kind_construction : List host.Call → ℕ → Option Callee
 kind_construction calls kind = option_and_then (host_type calls) (find (host.takes_kind kind) calls)
 
-unfoldable pub construction : Environment → ObjectType → Option Callee
-construction env (OfClass place) = class_construction env.heads.classes place
-construction env (OfHost kind) = kind_construction env.registered kind
+-- the construction of an object by so many arguments
+unfoldable pub construction : Environment → ObjectType → ℕ → Option Callee
+construction env (OfClass place) count = class_construction env.heads.classes place
+construction env (OfInterface place) count = None
+construction env (OfHost kind) count = kind_construction env.registered kind
+construction env (OfArray of) count = Some (array_built of count)
 
 abbrev pub built : Typed → Option Expr
 built t = Some t.tree
 
 -- an object, by the type at this offset
-unfoldable pub constructed : ℕ → List Typed → Option Callee → Checking (Option Expr)
-constructed at ts None = broken NoFactory at
-constructed at ts (Some callee) = called at callee ts callee.parameters >>= λ t. Ok (built t)
+unfoldable pub constructed : List Class → ℕ → List Typed → Option Callee → Checking (Option Expr)
+constructed classes at ts None = broken NoFactory at
+constructed classes at ts (Some callee) = called classes at callee ts callee.parameters >>= λ t. Ok (built t)
 
 -- `T x`
 unfoldable pub begun : Environment → ℕ → Ty → Checking (Option Expr)
-begun env at (ty.Object o) = constructed at [] (construction env o)
+begun env at (ty.Object o) = constructed env.heads.classes at [] (construction env o 0)
 begun env at _ = Ok None
 
-abbrev pub stored_first : Ty → Typed → Checking (Option Expr)
-stored_first of t = fitted of t >>= λ e. Ok (Some e)
+abbrev pub stored_first : List Class → Ty → Typed → Checking (Option Expr)
+stored_first classes of t = fitted classes of t >>= λ e. Ok (Some e)
 
 -- `T x = e`, with x at this offset: objects are not assigned
-unfoldable pub begun_with : ℕ → Ty → Typed → Checking (Option Expr)
-begun_with at (ty.Object o) t = broken NotAssignable at
-begun_with at of t = stored_first of t
+unfoldable pub begun_with : List Class → ℕ → Ty → Typed → Checking (Option Expr)
+begun_with classes at (ty.Object o) t = broken NotAssignable at
+begun_with classes at of t = stored_first classes of t
 
 -- `T x(e)` is `T x = e` for a primitive type
-unfoldable pub begun_by_one : ℕ → Ty → List Typed → Checking (Option Expr)
-begun_by_one at of (t ∷ []) = stored_first of t
-begun_by_one at of _ = broken TypeMismatch at
+unfoldable pub begun_by_one : List Class → ℕ → Ty → List Typed → Checking (Option Expr)
+begun_by_one classes at of (t ∷ []) = stored_first classes of t
+begun_by_one classes at of _ = broken TypeMismatch at
 
 -- `T x(e ..)`, with the type and x at these offsets
 unfoldable pub begun_by : Environment → ℕ → ℕ → Ty → List Typed → Checking (Option Expr)
-begun_by env of_at at (ty.Object o) ts = constructed of_at ts (construction env o)
+begun_by env of_at at (ty.Object o) ts = constructed env.heads.classes of_at ts (construction env o (length ts))
 begun_by env of_at at (ty.Handle o) ts = broken TypeMismatch at
-begun_by env of_at at of ts = begun_by_one at of ts
+begun_by env of_at at of ts = begun_by_one env.heads.classes at of ts
 
 unfoldable pub initialized : Environment → ℕ → ℕ → Ty → written.Initializer → Checking (Option Expr)
 initialized env of_at at of written.Default = begun env of_at of
-initialized env of_at at of (written.Value e) = typed env false e >>= λ t. begun_with at of t
+initialized env of_at at of (written.Value e) = typed env false e >>= λ t. begun_with env.heads.classes at of t
 initialized env of_at at of (written.Arguments es) = all_typed env (written.exprs es) >>= λ ts. begun_by env of_at at of ts
 
 -- a variable of this type, which is written at this offset

@@ -1,11 +1,13 @@
 -- What an expression sees: what its module declares, what is registered, the class whose object runs, and the locals.
-use Rattle.std.specs.Prelude.{ℕ, ◌+◌, Bool, List, [], ◌∷◌, Option, Some, None, map, find, slice_get, if◌then◌else◌}
+use Rattle.std.specs.Prelude.{ℕ, codes, ◌+◌, Bool, List, [], ◌∷◌, Option, Some, None, map, find, slice_get, if◌then◌else◌}
 use Rattle.std.specs.Option.{option_and_then, option_map, option_or}
 use Rattle.std.specs.Str.{bytes_eq}
 use Rattle.ash_tree.specs.declared.tree.types.Primitive.{Primitive}
 use Rattle.ash_registrations.specs.Calls as host
 use Rattle.ash_typed.specs.declared.types.ObjectType.{ObjectType}
-use Rattle.ash_typed.specs.declared.types.ObjectType.TheVariants.{Class as OfClass, Host as OfHost}
+use Rattle.ash_typed.specs.declared.types.Kind.TheVariants.{Uint}
+use Rattle.ash_typed.specs.declared.types.Element.{Element}
+use Rattle.ash_typed.specs.declared.types.ObjectType.TheVariants.{Class as OfClass, Interface as OfInterface, Host as OfHost, Array as OfArray}
 use Rattle.ash_typing.specs.declared.types.Ty.{Ty}
 use Rattle.ash_typing.specs.declared.types.Ty.TheVariants as ty
 use Rattle.ash_typed.specs.declared.tree.operations.Variable.TheVariants as variables
@@ -13,10 +15,12 @@ use Rattle.ash_typed.specs.declared.tree.operations.Member.{Member}
 use Rattle.ash_typed.specs.declared.tree.operations.Member.TheVariants as members
 use Rattle.ash_typed.specs.declared.tree.operations.Method.{Method}
 use Rattle.ash_typed.specs.declared.tree.operations.Method.TheVariants as methods
+use Rattle.ash_typed.specs.declared.tree.operations.ArrayMethod.{ArrayMethod}
+use Rattle.ash_typed.specs.declared.tree.operations.ArrayMethod.TheVariants as arrays
 use Rattle.ash_typed.specs.declared.tree.operations.Target.TheVariants as targets
 use Rattle.ash_typing.specs.declared.forms.Callable.{Callable}
 use Rattle.ash_typing.specs.declared.forms.Callable.TheVariants as callables
-use Rattle.ash_typing.specs.Types.{ty_of, var_type, result_type}
+use Rattle.ash_typing.specs.Types.{ty_of, ty_of_element, var_type, result_type}
 use Rattle.ash_typed.specs.Tree.{Expr, This, Read, Stored, Held}
 
 -- a variable, a parameter or a field
@@ -30,15 +34,22 @@ pub record Function : Type 0 where
   pub result : Ty
   pub parameters : List Ty
 
--- a class, with the parameters that its construction takes
+-- an interface, with the methods that it declares
+pub record Interface : Type 0 where
+  pub name : List ℕ
+  pub methods : List Function
+
+-- a class, with the places of the interfaces that it lists, and the parameters that its construction takes
 pub record Class : Type 0 where
   pub name : List ℕ
+  pub interfaces : List ℕ
   pub fields : List Declared
   pub methods : List Function
   pub parameters : List Ty
 
 -- what a module declares
 pub record Heads : Type 0 where
+  pub interfaces : List Interface
   pub classes : List Class
   pub functions : List Function
   pub globals : List Declared
@@ -72,6 +83,9 @@ is_called name f = bytes_eq name f.name
 
 abbrev pub is_class : List ℕ → Class → Bool
 is_class name c = bytes_eq name c.name
+
+abbrev pub is_interface_named : List ℕ → Interface → Bool
+is_interface_named name i = bytes_eq name i.name
 
 -- the class whose object runs
 abbrev pub this_class : Environment → Option (ℕ × Class)
@@ -164,9 +178,12 @@ abbrev pub property : host.Call → Option (Member × Ty)
 property (host.AProperty of id value name) = Some (members.Property id (var_type (ty_of value)), ty_of value)
 property _ = None
 
+-- an interface and an array hold nothing that has a name
 unfoldable pub member_in : Environment → ObjectType → List ℕ → Option (Member × Ty)
 member_in env (OfClass i) name = option_and_then (λ (c : Class). field_in i c name) (slice_get env.heads.classes i)
+member_in env (OfInterface i) name = None
 member_in env (OfHost kind) name = option_and_then property (host_member_in env.registered kind name)
+member_in env (OfArray of) name = None
 
 -- a method, what it gives and what it takes
 pub record Invoked : Type 0 where
@@ -184,9 +201,40 @@ class_method i name c = option_map (λ (found : ℕ × Function). record { metho
 unfoldable pub method_of_class : List Class → ℕ → List ℕ → Option Invoked
 method_of_class classes i name = option_and_then (class_method i name) (slice_get classes i)
 
+abbrev pub interface_method : ℕ → List ℕ → Interface → Option Invoked
+interface_method i name of = option_map (λ (found : ℕ × Function). record { method = methods.Interface i found.0 (result_type found.1.result); result = found.1.result; parameters = found.1.parameters }) (first_from (is_called name) 0 of.methods)
+
+unfoldable pub method_of_interface : List Interface → ℕ → List ℕ → Option Invoked
+method_of_interface interfaces i name = option_and_then (interface_method i name) (slice_get interfaces i)
+
+-- methods of arrays
+
+abbrev pub array_method_name : ArrayMethod → List ℕ
+array_method_name arrays.Length = codes "length"
+array_method_name arrays.Resize = codes "resize"
+array_method_name arrays.InsertLast = codes "insertLast"
+array_method_name arrays.RemoveLast = codes "removeLast"
+array_method_name arrays.IsEmpty = codes "isEmpty"
+
+-- what it gives, and what it takes, where the elements are of a type
+abbrev pub array_method_of : Element → ArrayMethod → Invoked
+array_method_of of arrays.Length = record { method = methods.Array arrays.Length; result = ty.Integer Uint; parameters = [] }
+array_method_of of arrays.Resize = record { method = methods.Array arrays.Resize; result = ty.Void; parameters = ty.Integer Uint ∷ [] }
+array_method_of of arrays.InsertLast = record { method = methods.Array arrays.InsertLast; result = ty.Void; parameters = ty_of_element of ∷ [] }
+array_method_of of arrays.RemoveLast = record { method = methods.Array arrays.RemoveLast; result = ty.Void; parameters = [] }
+array_method_of of arrays.IsEmpty = record { method = methods.Array arrays.IsEmpty; result = ty.Bool; parameters = [] }
+
+abbrev pub is_array_method : List ℕ → ArrayMethod → Bool
+is_array_method name m = bytes_eq name (array_method_name m)
+
+unfoldable pub method_of_array : Element → List ℕ → Option Invoked
+method_of_array of name = option_map (array_method_of of) (find (is_array_method name) (arrays.Length ∷ arrays.Resize ∷ arrays.InsertLast ∷ arrays.RemoveLast ∷ arrays.IsEmpty ∷ []))
+
 unfoldable pub method_of_kind : List host.Call → ℕ → List ℕ → Option Invoked
 method_of_kind calls kind name = option_and_then host_method (host_member_in calls kind name)
 
 unfoldable pub method_in : Environment → ObjectType → List ℕ → Option Invoked
 method_in env (OfClass i) name = method_of_class env.heads.classes i name
+method_in env (OfInterface i) name = method_of_interface env.heads.interfaces i name
 method_in env (OfHost kind) name = method_of_kind env.registered kind name
+method_in env (OfArray of) name = method_of_array of name

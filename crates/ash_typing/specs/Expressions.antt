@@ -10,9 +10,12 @@ use Rattle.ash_tree.specs.declared.tree.operators.BinaryOp.TheVariants as binary
 use Rattle.ash_tree.specs.declared.tree.operators.AssignOp.{AssignOp}
 use Rattle.ash_tree.specs.declared.tree.operators.AssignOp.TheVariants as assigns
 use Rattle.ash_tree.specs.Tree as written
-use Rattle.ash_typing.specs.declared.fault.Rule.TheVariants.{UnknownName, TypeMismatch, WrongArgumentCount, NotAssignable, Misplaced, NoFactory}
+use Rattle.ash_typing.specs.declared.fault.Rule.TheVariants.{UnknownName, UnknownType, TypeMismatch, WrongArgumentCount, NotAssignable, Misplaced, NoFactory}
 use Rattle.ash_typed.specs.declared.types.Kind.{Kind}
 use Rattle.ash_typed.specs.declared.types.Kind.TheVariants as kinds
+use Rattle.ash_typed.specs.declared.types.Element.{Element}
+use Rattle.ash_typed.specs.declared.types.Element.TheVariants as elements
+use Rattle.ash_typed.specs.declared.types.ObjectType.{ObjectType}
 use Rattle.ash_typed.specs.declared.types.ObjectType.TheVariants as objects
 use Rattle.ash_typing.specs.declared.types.Ty.{Ty}
 use Rattle.ash_typing.specs.declared.types.Ty.TheVariants as ty
@@ -31,6 +34,7 @@ use Rattle.ash_typing.specs.declared.forms.Operator.TheVariants as operators
 use Rattle.ash_typed.specs.declared.tree.operations.Method.TheVariants as methods
 use Rattle.ash_typing.specs.declared.forms.Callable.{Callable}
 use Rattle.ash_typing.specs.declared.forms.Callable.TheVariants as callables
+use Rattle.ash_typed.specs.declared.tree.operations.Target.TheVariants as targets
 use Rattle.ash_typed.specs.declared.tree.operations.Member.{Member}
 use Rattle.ash_typed.specs.declared.tree.operations.Member.TheVariants as members
 use Rattle.ash_typed.specs.declared.tree.operations.Operands.{Operands}
@@ -39,9 +43,11 @@ use Rattle.ash_typed.specs.declared.tree.operations.Step.{Step}
 use Rattle.ash_typed.specs.declared.tree.operations.Step.TheVariants as steps
 use Rattle.ash_typing.specs.Checking.{Checking, ◌>>=◌, broken}
 use Rattle.ash_typed.specs.declared.types.VarType.{VarType}
-use Rattle.ash_typing.specs.Types.{var_type, kind_of, holds, signed, is_same_kind, fits, common, ty_of, sort_of, typed_operator, binary_of, integers_in, takes, assumed, meets, outcome}
-use Rattle.ash_typed.specs.Tree.{Expr, Number, Truth, Null, This, Read, Invoke, Alter, Operate, Lazily, Conditional, Assign, Update, Count, Call, Place, Held, Exprs, no_expr, expr, place_in, converted}
-use Rattle.ash_typing.specs.Environment.{Environment, Known, Callee, Invoked, variable_in, callee_in, member_in, method_in}
+use Rattle.ash_typing.specs.Types.{var_type, kind_of, holds, signed, is_same_kind, common, ty_of, ty_of_element, sort_of, typed_operator, binary_of, integers_in, takes, assumed, meets, outcome}
+use Rattle.ash_typed.specs.Tree.{Expr, Number, Truth, Null, This, Read, Invoke, Cast, Alter, Operate, Lazily, Conditional, Assign, Update, Count, Call, Place, Held, Indexed, Exprs, no_expr, expr, place_in, converted}
+use Rattle.ash_typing.specs.Fitting.{fits}
+use Rattle.ash_typing.specs.Heads.{object_named, element_named}
+use Rattle.ash_typing.specs.Environment.{Environment, Class, Known, Callee, Invoked, variable_in, callee_in, member_in, method_in}
 
 -- a typed expression, with the offset of its first token and what it is by itself
 pub record Typed : Type 0 where
@@ -74,8 +80,8 @@ abbrev pub brought : Ty → Typed → Expr
 brought to t = converted (conversion to t.ty) t.tree
 
 -- as in an assignment to a variable of this type
-unfoldable pub fitted : Ty → Typed → Checking Expr
-fitted to t = if fits to t.ty then Ok (brought to t) else broken TypeMismatch t.at
+unfoldable pub fitted : List Class → Ty → Typed → Checking Expr
+fitted classes to t = if fits classes to t.ty then Ok (brought to t) else broken TypeMismatch t.at
 
 -- what an operand has to be
 
@@ -236,16 +242,16 @@ is_stored _ _ = false
 abbrev pub updated : ℕ → Ty → Place → Calculator → Typed → Checking Typed
 updated at of p c v = met (binary_of c) (made at of Null) v >>= λ m. integer_of at of >>= λ k. Ok (made at (ty.Integer k) (Update p k (record { operator = c; of = integers_in m.operands }) m.right))
 
-unfoldable pub stored : ℕ → Ty → Place → Option Calculator → Typed → Checking Typed
-stored at of p None v = fitted of v >>= λ e. Ok (made at of (Assign p e))
-stored at of p (Some op) v = updated at of p op v
+unfoldable pub stored : List Class → ℕ → Ty → Place → Option Calculator → Typed → Checking Typed
+stored classes at of p None v = fitted classes of v >>= λ e. Ok (made at of (Assign p e))
+stored classes at of p (Some op) v = updated at of p op v
 
-abbrev pub assigned_to : Typed → AssignOp → Typed → Option Place → Checking Typed
-assigned_to t op v None = broken NotAssignable t.at
-assigned_to t op v (Some p) = if is_stored t.form t.ty then stored t.at t.ty p (operator_of op) v else broken NotAssignable t.at
+abbrev pub assigned_to : List Class → Typed → AssignOp → Typed → Option Place → Checking Typed
+assigned_to classes t op v None = broken NotAssignable t.at
+assigned_to classes t op v (Some p) = if is_stored t.form t.ty then stored classes t.at t.ty p (operator_of op) v else broken NotAssignable t.at
 
-unfoldable pub assigned : Typed → AssignOp → Typed → Checking Typed
-assigned t op v = assigned_to t op v (assignable t.form t.tree)
+unfoldable pub assigned : List Class → Typed → AssignOp → Typed → Checking Typed
+assigned classes t op v = assigned_to classes t op v (assignable t.form t.tree)
 
 abbrev pub is_assign : AssignOp → Bool
 is_assign assigns.Assign = true
@@ -253,21 +259,21 @@ is_assign _ = false
 
 -- calls
 
-abbrev pub all_fitted : List Ty → List Typed → Checking Exprs
-all_fitted (p ∷ ps) (t ∷ ts) = fitted p t >>= λ e. all_fitted ps ts >>= λ es. Ok (expr e es)
-all_fitted _ _ = Ok no_expr
+abbrev pub all_fitted : List Class → List Ty → List Typed → Checking Exprs
+all_fitted classes (p ∷ ps) (t ∷ ts) = fitted classes p t >>= λ e. all_fitted classes ps ts >>= λ es. Ok (expr e es)
+all_fitted classes _ _ = Ok no_expr
 
-unfoldable pub arguments_at : ℕ → List Ty → List Typed → Checking Exprs
-arguments_at at parameters ts = if nat_eq (length parameters) (length ts) then all_fitted parameters ts else broken WrongArgumentCount at
+unfoldable pub arguments_at : List Class → ℕ → List Ty → List Typed → Checking Exprs
+arguments_at classes at parameters ts = if nat_eq (length parameters) (length ts) then all_fitted classes parameters ts else broken WrongArgumentCount at
 
 -- a call says its parameters' types; a method is called on the object that runs
 abbrev pub call_of : Callable → List VarType → Exprs → Expr
 call_of (callables.OwnMethod class method result) parameters es = Invoke (This class) (methods.Script class method result) parameters es
 call_of (callables.Target target) parameters es = Call target parameters es
 
-unfoldable pub called : ℕ → Callee → List Typed → Option (List Ty) → Checking Typed
-called at callee ts None = broken NoFactory at
-called at callee ts (Some parameters) = arguments_at at parameters ts >>= λ es. Ok (made at callee.result (call_of callee.target (map var_type parameters) es))
+unfoldable pub called : List Class → ℕ → Callee → List Typed → Option (List Ty) → Checking Typed
+called classes at callee ts None = broken NoFactory at
+called classes at callee ts (Some parameters) = arguments_at classes at parameters ts >>= λ es. Ok (made at callee.result (call_of callee.target (map var_type parameters) es))
 
 abbrev pub callee_at : ℕ → Option Callee → Checking Callee
 callee_at at None = broken UnknownName at
@@ -306,9 +312,9 @@ method_of env t (ty.Handle o) at name = invoked_at at (method_in env o name)
 method_of env t ty.Unknown at name = Ok None
 method_of env t _ at name = broken TypeMismatch t.at
 
-unfoldable pub invoked : Typed → ℕ → List Typed → Option Invoked → Checking Typed
-invoked t at ts None = Ok (made t.at ty.Unknown Null)
-invoked t at ts (Some m) = arguments_at at m.parameters ts >>= λ es. Ok (made t.at m.result (Invoke t.tree m.method (map var_type m.parameters) es))
+unfoldable pub invoked : List Class → Typed → ℕ → List Typed → Option Invoked → Checking Typed
+invoked classes t at ts None = Ok (made t.at ty.Unknown Null)
+invoked classes t at ts (Some m) = arguments_at classes at m.parameters ts >>= λ es. Ok (made t.at m.result (Invoke t.tree m.method (map var_type m.parameters) es))
 
 -- a place in brackets is one; a number in brackets has its own type
 abbrev pub bracketed : Form → Form
@@ -320,12 +326,63 @@ in_brackets at t = record { at = at; ty = t.ty; form = bracketed t.form; tree = 
 
 -- A call, whose arguments are walked once its name is known.
 abbrev pub call_typed : Environment → ℕ → List ℕ → Checking (List Typed) → Checking Typed
-call_typed env at name arguments = callee_at at (callee_in env name) >>= λ callee. arguments >>= λ ts. called at callee ts callee.parameters
+call_typed env at name arguments = callee_at at (callee_in env name) >>= λ callee. arguments >>= λ ts. called env.heads.classes at callee ts callee.parameters
 
 abbrev pub invocation_typed : Environment → Typed → ℕ → List ℕ → Checking (List Typed) → Checking Typed
-invocation_typed env t at name arguments = method_of env t t.ty at name >>= λ m. arguments >>= λ ts. invoked t at ts m
+invocation_typed env t at name arguments = method_of env t t.ty at name >>= λ m. arguments >>= λ ts. invoked env.heads.classes t at ts m
 
--- The walk. `left` is whether the expression stands left of `=`. Arrays, casts and indexes have no rule of typing so far.
+-- arrays
+
+-- what is at an index, which is converted to `uint`
+abbrev pub index_in : Typed → Checking Expr
+index_in i = integer_of i.at i.ty >>= λ k. Ok (brought (ty.Integer kinds.Uint) i)
+
+abbrev pub indexed_at : Typed → Typed → Ty → Element → Checking Typed
+indexed_at t i of e = index_in i >>= λ index. Ok (read_at t.at of (Read (Indexed t.tree index e)))
+
+abbrev pub indexed_object : Typed → Typed → ObjectType → Checking Typed
+indexed_object t i (objects.Array e) = indexed_at t i (ty_of_element e) e
+indexed_object t i _ = broken TypeMismatch t.at
+
+unfoldable pub indexed : Typed → Ty → Typed → Checking Typed
+indexed t (ty.Object o) i = indexed_object t i o
+indexed t (ty.Handle o) i = indexed_object t i o
+indexed t ty.Unknown i = indexed_at t i ty.Unknown elements.Bool
+indexed t _ i = broken TypeMismatch t.at
+
+abbrev pub at_element : written.Element → ℕ
+at_element (written.PrimElement p primitive) = p.at
+at_element (written.HandleElement p name) = p.at
+
+abbrev pub known_element : ℕ → Option Element → Checking Element
+known_element at None = broken UnknownType at
+known_element at (Some e) = Ok e
+
+-- what the construction of an array takes, of so many arguments: at most one, how many elements it has
+abbrev pub array_parameters : ℕ → List Ty
+array_parameters count = if nat_eq count 0 then [] else ty.Integer kinds.Uint ∷ []
+
+abbrev pub array_built : Element → ℕ → Callee
+array_built of count = record { target = callables.Target (targets.Array of); result = ty.Handle (objects.Array of); parameters = Some (array_parameters count) }
+
+-- `array<T>(e ..)`
+abbrev pub array_typed : Environment → ℕ → written.Element → Checking (List Typed) → Checking Typed
+array_typed env at of arguments = known_element (at_element of) (element_named env.registered env.heads of) >>= λ e. arguments >>= λ ts. called env.heads.classes at (array_built e (length ts)) ts (Some (array_parameters (length ts)))
+
+-- `cast<T>(e)`
+
+-- a class or an interface, whose name is at this offset
+abbrev pub cast_type : ℕ → Option ObjectType → Checking ObjectType
+cast_type at (Some (objects.Class class)) = Ok (objects.Class class)
+cast_type at (Some (objects.Interface interface)) = Ok (objects.Interface interface)
+cast_type at (Some _) = broken TypeMismatch at
+cast_type at None = broken UnknownType at
+
+-- of an object or a handle
+unfoldable pub cast_at : ℕ → ObjectType → Typed → Checking Typed
+cast_at at to t = handle_of t.at t.ty >>= λ h. Ok (made at (ty.Handle to) (Cast to t.tree))
+
+-- The walk. `left` is whether the expression stands left of `=`.
 abbrev mutual
   pub typed : Environment → Bool → written.Expr → Checking Typed
   typed env left (written.Number p n) = Ok (numeral p.at n)
@@ -336,13 +393,13 @@ abbrev mutual
   typed env left (written.Call p name es) = call_typed env p.at name (all_typed env es)
   typed env left (written.Brackets p e) = typed env false e >>= λ t. Ok (in_brackets p.at t)
   typed env left (written.Convert p to e) = typed env false e >>= λ t. convert_at p.at to t
-  typed env left (written.NewArray p of es) = broken TypeMismatch p.at
-  typed env left (written.Cast p to e) = broken TypeMismatch p.at
+  typed env left (written.NewArray p of es) = array_typed env p.at of (all_typed env es)
+  typed env left (written.Cast p to e) = cast_type to.place.at (object_named env.registered env.heads to.name) >>= λ o. typed env false e >>= λ t. cast_at p.at o t
   typed env left (written.Postfix p e ss) = typed env false e >>= λ t. suffixes_typed env t ss
   typed env left (written.Unary p op e) = typed env false e >>= λ t. unary_at left p.at op t
   typed env left (written.Binary p e ls) = typed env false e >>= λ t. links_typed env t ls
   typed env left (written.Conditional p c a b) = typed env false c >>= λ t. typed env false a >>= λ x. typed env false b >>= λ y. choice t x y
-  typed env left (written.Assign p e op v) = typed env (is_assign op) e >>= λ target. typed env false v >>= λ value. assigned target op value
+  typed env left (written.Assign p e op v) = typed env (is_assign op) e >>= λ target. typed env false v >>= λ value. assigned env.heads.classes target op value
 
   -- arguments, each in its turn
   pub all_typed : Environment → written.Exprs → Checking (List Typed)
@@ -361,6 +418,6 @@ abbrev mutual
   pub suffix_typed : Environment → Typed → written.Suffix → Checking Typed
   suffix_typed env t (written.Field p name) = field_of env t t.ty p.at name
   suffix_typed env t (written.Method p name es) = invocation_typed env t p.at name (all_typed env es)
-  suffix_typed env t (written.Index e) = broken TypeMismatch t.at
+  suffix_typed env t (written.Index e) = typed env false e >>= λ i. indexed t t.ty i
   suffix_typed env t written.Increment = counted t.at steps.IncrementAfter t (assignable t.form t.tree)
   suffix_typed env t written.Decrement = counted t.at steps.DecrementAfter t (assignable t.form t.tree)

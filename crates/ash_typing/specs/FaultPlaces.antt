@@ -41,10 +41,10 @@ abbrev pub is_return : Meaning → Bool
 is_return (reserved words.Return) = true
 is_return _ = false
 
--- A type that has a fault of its own begins with this token: a name, or the word `array`.
-abbrev pub begins_type : Meaning → Bool
-begins_type (reserved words.Array) = true
-begins_type m = is_name m
+-- What is called is named by this token: a name, or the word `array`.
+abbrev pub begins_call : Meaning → Bool
+begins_call (reserved words.Array) = true
+begins_call m = is_name m
 
 -- The constant of a `case` begins with this token: a number, or its minus.
 abbrev pub begins_constant : Meaning → Bool
@@ -52,23 +52,24 @@ begins_constant (number n) = true
 begins_constant (sign signs.Minus) = true
 begins_constant _ = false
 
--- A phrase that may be misplaced begins with this token: the words of which each has its place, and the name of an
--- object type or of a constructor.
+-- A phrase that may be misplaced begins with this token: the words of which each has its place, the name of an object
+-- type, of a constructor or of a class where an interface is awaited, and the word `array`.
 abbrev pub begins_misplaced : Meaning → Bool
 begins_misplaced (reserved words.This) = true
 begins_misplaced (reserved words.Break) = true
 begins_misplaced (reserved words.Continue) = true
 begins_misplaced (reserved words.Default) = true
+begins_misplaced (reserved words.Array) = true
 begins_misplaced m = is_name m
 
 -- A fault of this rule may be at a token that means this: where the rule is of names, at a name; where it is of the type
 -- of a value or of what is written to, at the first token of an expression, or of `return`.
 abbrev pub breaks_at : Rule → Meaning → Bool
 breaks_at rules.UnknownName m = is_name m
-breaks_at rules.UnknownType m = begins_type m
+breaks_at rules.UnknownType m = is_name m
 breaks_at rules.NameTaken m = is_name m
 breaks_at rules.TypeMismatch m = is_return m || begins_expression m
-breaks_at rules.WrongArgumentCount m = is_name m
+breaks_at rules.WrongArgumentCount m = begins_call m
 breaks_at rules.NotAssignable m = begins_expression m
 breaks_at rules.NoReturn m = is_name m
 breaks_at rules.Misplaced m = begins_misplaced m

@@ -5,11 +5,16 @@ use Rattle.std.specs.Option.{option_and_then, option_map, option_or}
 use Rattle.ash_registrations.specs.Calls as host
 use Rattle.ash_tree.specs.Tree as written
 use Rattle.ash_typed.specs.declared.types.ObjectType.{ObjectType}
-use Rattle.ash_typed.specs.declared.types.ObjectType.TheVariants.{Class as OfClass, Host as OfHost}
+use Rattle.ash_tree.specs.declared.tree.types.Primitive.{Primitive}
+use Rattle.ash_tree.specs.declared.tree.types.Primitive.TheVariants as primitives
+use Rattle.ash_typed.specs.declared.types.Kind.TheVariants.{Int, Uint, Int64, Uint64}
+use Rattle.ash_typed.specs.declared.types.Element.{Element}
+use Rattle.ash_typed.specs.declared.types.Element.TheVariants as elements
+use Rattle.ash_typed.specs.declared.types.ObjectType.TheVariants.{Class as OfClass, Interface as OfInterface, Host as OfHost, Array as OfArray}
 use Rattle.ash_typing.specs.declared.types.Ty.{Ty}
 use Rattle.ash_typing.specs.declared.types.Ty.TheVariants as ty
 use Rattle.ash_typing.specs.Types.{ty_of}
-use Rattle.ash_typing.specs.Environment.{Declared, Function, Class, Heads, first_from, is_class}
+use Rattle.ash_typing.specs.Environment.{Declared, Function, Interface, Class, Heads, first_from, is_class, is_interface_named}
 
 -- types by their names
 
@@ -20,9 +25,34 @@ abbrev pub host_object : host.Call → Option ObjectType
 host_object (host.AType name kind) = Some (OfHost kind)
 host_object _ = None
 
--- a class of the module, else a registered type
-unfoldable pub object_named : List host.Call → List Class → List ℕ → Option ObjectType
-object_named calls classes name = option_or (class_type classes name) (option_and_then host_object (find (host.takes_name name) calls))
+abbrev pub interface_type : List Interface → List ℕ → Option ObjectType
+interface_type interfaces name = option_map (λ (found : ℕ × Interface). OfInterface found.0) (first_from (is_interface_named name) 0 interfaces)
+
+-- a class of the module, else an interface, else a registered type
+unfoldable pub object_named : List host.Call → Heads → List ℕ → Option ObjectType
+object_named calls named name = option_or (class_type named.classes name) (option_or (interface_type named.interfaces name) (option_and_then host_object (find (host.takes_name name) calls)))
+
+-- what the elements of an array are of
+
+abbrev pub element_of : Primitive → Element
+element_of primitives.Bool = elements.Bool
+element_of primitives.Int = elements.Integer Int
+element_of primitives.Int64 = elements.Integer Int64
+element_of primitives.Uint = elements.Integer Uint
+element_of primitives.Uint64 = elements.Integer Uint64
+
+abbrev pub element_by : ObjectType → Option Element
+element_by (OfClass class) = Some (elements.Class class)
+element_by (OfInterface interface) = Some (elements.Interface interface)
+element_by (OfHost kind) = Some (elements.Host kind)
+element_by (OfArray of) = None
+
+unfoldable pub element_named : List host.Call → Heads → written.Element → Option Element
+element_named calls named (written.PrimElement p primitive) = Some (element_of primitive)
+element_named calls named (written.HandleElement p name) = option_and_then element_by (object_named calls named name)
+
+abbrev pub array_named : List host.Call → Heads → written.Element → Option ObjectType
+array_named calls named of = option_map OfArray (element_named calls named of)
 
 abbrev pub object_ty : Option ObjectType → Ty
 object_ty None = ty.Unknown
@@ -32,58 +62,89 @@ abbrev pub handle_ty : Option ObjectType → Ty
 handle_ty None = ty.Unknown
 handle_ty (Some o) = ty.Handle o
 
--- the type that is written; arrays have none so far
-unfoldable pub ty_named : List host.Call → List Class → written.Named → Ty
-ty_named calls classes (written.Prim p primitive) = ty_of primitive
-ty_named calls classes (written.Object p name) = object_ty (object_named calls classes name)
-ty_named calls classes (written.Handle p name) = handle_ty (object_named calls classes name)
-ty_named calls classes (written.Array p of) = ty.Unknown
-ty_named calls classes (written.ArrayHandle p of) = ty.Unknown
+-- the type that is written
+unfoldable pub ty_named : List host.Call → Heads → written.Named → Ty
+ty_named calls named (written.Prim p primitive) = ty_of primitive
+ty_named calls named (written.Object p name) = object_ty (object_named calls named name)
+ty_named calls named (written.Handle p name) = handle_ty (object_named calls named name)
+ty_named calls named (written.Array p of) = object_ty (array_named calls named of)
+ty_named calls named (written.ArrayHandle p of) = handle_ty (array_named calls named of)
 
 -- what a function gives
-abbrev pub result_named : List host.Call → List Class → Option written.Named → Ty
-result_named calls classes None = ty.Void
-result_named calls classes (Some of) = ty_named calls classes of
+abbrev pub result_named : List host.Call → Heads → Option written.Named → Ty
+result_named calls named None = ty.Void
+result_named calls named (Some of) = ty_named calls named of
 
 -- what is declared
 
 abbrev pub declared : Ty → written.Decl → Declared
 declared of d = record { name = d.name; of = of }
 
-abbrev pub variables : List host.Call → List Class → written.Vars → List Declared
-variables calls classes v = map (declared (ty_named calls classes v.of)) v.decls
+abbrev pub variables : List host.Call → Heads → written.Vars → List Declared
+variables calls named v = map (declared (ty_named calls named v.of)) v.decls
 
-abbrev pub parameter_ty : List host.Call → List Class → written.Parameter → Ty
-parameter_ty calls classes p = ty_named calls classes p.of
+abbrev pub parameter_ty : List host.Call → Heads → written.Parameter → Ty
+parameter_ty calls named p = ty_named calls named p.of
 
-abbrev pub function_head : List host.Call → List Class → written.Function → Function
-function_head calls classes f = record { name = f.name; result = result_named calls classes f.result; parameters = map (parameter_ty calls classes) f.parameters }
+abbrev pub function_head : List host.Call → Heads → written.Function → Function
+function_head calls named f = record { name = f.name; result = result_named calls named f.result; parameters = map (parameter_ty calls named) f.parameters }
 
-abbrev pub fields_in : List host.Call → List Class → List written.Member → List Declared
-fields_in calls classes [] = []
-fields_in calls classes (written.AField v ∷ ms) = variables calls classes v ++ fields_in calls classes ms
-fields_in calls classes (written.AMethod f ∷ ms) = fields_in calls classes ms
-fields_in calls classes (written.AConstructor c ∷ ms) = fields_in calls classes ms
+abbrev pub signature_head : List host.Call → Heads → written.InterfaceMethod → Function
+signature_head calls named m = record { name = m.name; result = result_named calls named m.result; parameters = map (parameter_ty calls named) m.parameters }
 
-abbrev pub methods_in : List host.Call → List Class → List written.Member → List Function
-methods_in calls classes [] = []
-methods_in calls classes (written.AMethod f ∷ ms) = function_head calls classes f ∷ methods_in calls classes ms
-methods_in calls classes (written.AField v ∷ ms) = methods_in calls classes ms
-methods_in calls classes (written.AConstructor c ∷ ms) = methods_in calls classes ms
+abbrev pub interface_head : List host.Call → Heads → written.Interface → Interface
+interface_head calls named i = record { name = i.name; methods = map (signature_head calls named) i.methods }
+
+abbrev pub fields_in : List host.Call → Heads → List written.Member → List Declared
+fields_in calls named [] = []
+fields_in calls named (written.AField v ∷ ms) = variables calls named v ++ fields_in calls named ms
+fields_in calls named (written.AMethod f ∷ ms) = fields_in calls named ms
+fields_in calls named (written.AConstructor c ∷ ms) = fields_in calls named ms
+
+abbrev pub methods_in : List host.Call → Heads → List written.Member → List Function
+methods_in calls named [] = []
+methods_in calls named (written.AMethod f ∷ ms) = function_head calls named f ∷ methods_in calls named ms
+methods_in calls named (written.AField v ∷ ms) = methods_in calls named ms
+methods_in calls named (written.AConstructor c ∷ ms) = methods_in calls named ms
 
 -- what the construction of an object takes: nothing where no constructor is written
-abbrev pub construction_in : List host.Call → List Class → List written.Member → List Ty
-construction_in calls classes [] = []
-construction_in calls classes (written.AConstructor c ∷ ms) = map (parameter_ty calls classes) c.parameters
-construction_in calls classes (written.AMethod f ∷ ms) = construction_in calls classes ms
-construction_in calls classes (written.AField v ∷ ms) = construction_in calls classes ms
+abbrev pub construction_in : List host.Call → Heads → List written.Member → List Ty
+construction_in calls named [] = []
+construction_in calls named (written.AConstructor c ∷ ms) = map (parameter_ty calls named) c.parameters
+construction_in calls named (written.AMethod f ∷ ms) = construction_in calls named ms
+construction_in calls named (written.AField v ∷ ms) = construction_in calls named ms
 
-abbrev pub class_head : List host.Call → List Class → written.Class → Class
-class_head calls classes c = record { name = c.name; fields = fields_in calls classes c.members; methods = methods_in calls classes c.members; parameters = construction_in calls classes c.members }
+-- the interfaces that a class lists
 
--- a class of which only the name is known, since types name no more of it
+abbrev pub interface_place : Option ObjectType → Option ℕ
+interface_place (Some (OfInterface place)) = Some place
+interface_place _ = None
+
+abbrev pub with_place : Option ℕ → List ℕ → List ℕ
+with_place None places = places
+with_place (Some place) places = place ∷ places
+
+abbrev pub listed_in : List host.Call → Heads → List written.TypeName → List ℕ
+listed_in calls named [] = []
+listed_in calls named (n ∷ ns) = with_place (interface_place (object_named calls named n.name)) (listed_in calls named ns)
+
+abbrev pub class_head : List host.Call → Heads → written.Class → Class
+class_head calls named c = record { name = c.name; interfaces = listed_in calls named c.interfaces; fields = fields_in calls named c.members; methods = methods_in calls named c.members; parameters = construction_in calls named c.members }
+
+-- a class and an interface of which only the name is known, since types name no more of them
+
 abbrev pub named_class : written.Class → Class
-named_class c = record { name = c.name; fields = []; methods = []; parameters = [] }
+named_class c = record { name = c.name; interfaces = []; fields = []; methods = []; parameters = [] }
+
+abbrev pub named_interface : written.Interface → Interface
+named_interface i = record { name = i.name; methods = [] }
+
+abbrev pub named_interfaces : List written.Item → List Interface
+named_interfaces [] = []
+named_interfaces (written.AnInterface i ∷ is) = named_interface i ∷ named_interfaces is
+named_interfaces (written.AClass c ∷ is) = named_interfaces is
+named_interfaces (written.AFunction f ∷ is) = named_interfaces is
+named_interfaces (written.AGlobal v ∷ is) = named_interfaces is
 
 abbrev pub named_classes : List written.Item → List Class
 named_classes [] = []
@@ -92,29 +153,40 @@ named_classes (written.AnInterface i ∷ is) = named_classes is
 named_classes (written.AFunction f ∷ is) = named_classes is
 named_classes (written.AGlobal v ∷ is) = named_classes is
 
-abbrev pub classes_in : List host.Call → List Class → List written.Item → List Class
-classes_in calls classes [] = []
-classes_in calls classes (written.AClass c ∷ is) = class_head calls classes c ∷ classes_in calls classes is
-classes_in calls classes (written.AnInterface i ∷ is) = classes_in calls classes is
-classes_in calls classes (written.AFunction f ∷ is) = classes_in calls classes is
-classes_in calls classes (written.AGlobal v ∷ is) = classes_in calls classes is
+-- what types name
+abbrev pub names_in : List written.Item → Heads
+names_in is = record { interfaces = named_interfaces is; classes = named_classes is; functions = []; globals = [] }
 
-abbrev pub functions_in : List host.Call → List Class → List written.Item → List Function
-functions_in calls classes [] = []
-functions_in calls classes (written.AFunction f ∷ is) = function_head calls classes f ∷ functions_in calls classes is
-functions_in calls classes (written.AClass c ∷ is) = functions_in calls classes is
-functions_in calls classes (written.AnInterface i ∷ is) = functions_in calls classes is
-functions_in calls classes (written.AGlobal v ∷ is) = functions_in calls classes is
+abbrev pub interfaces_in : List host.Call → Heads → List written.Item → List Interface
+interfaces_in calls named [] = []
+interfaces_in calls named (written.AnInterface i ∷ is) = interface_head calls named i ∷ interfaces_in calls named is
+interfaces_in calls named (written.AClass c ∷ is) = interfaces_in calls named is
+interfaces_in calls named (written.AFunction f ∷ is) = interfaces_in calls named is
+interfaces_in calls named (written.AGlobal v ∷ is) = interfaces_in calls named is
 
-abbrev pub globals_in : List host.Call → List Class → List written.Item → List Declared
-globals_in calls classes [] = []
-globals_in calls classes (written.AGlobal v ∷ is) = variables calls classes v ++ globals_in calls classes is
-globals_in calls classes (written.AClass c ∷ is) = globals_in calls classes is
-globals_in calls classes (written.AnInterface i ∷ is) = globals_in calls classes is
-globals_in calls classes (written.AFunction f ∷ is) = globals_in calls classes is
+abbrev pub classes_in : List host.Call → Heads → List written.Item → List Class
+classes_in calls named [] = []
+classes_in calls named (written.AClass c ∷ is) = class_head calls named c ∷ classes_in calls named is
+classes_in calls named (written.AnInterface i ∷ is) = classes_in calls named is
+classes_in calls named (written.AFunction f ∷ is) = classes_in calls named is
+classes_in calls named (written.AGlobal v ∷ is) = classes_in calls named is
 
-abbrev pub heads_by : List host.Call → List Class → List written.Item → Heads
-heads_by calls classes is = record { classes = classes_in calls classes is; functions = functions_in calls classes is; globals = globals_in calls classes is }
+abbrev pub functions_in : List host.Call → Heads → List written.Item → List Function
+functions_in calls named [] = []
+functions_in calls named (written.AFunction f ∷ is) = function_head calls named f ∷ functions_in calls named is
+functions_in calls named (written.AClass c ∷ is) = functions_in calls named is
+functions_in calls named (written.AnInterface i ∷ is) = functions_in calls named is
+functions_in calls named (written.AGlobal v ∷ is) = functions_in calls named is
+
+abbrev pub globals_in : List host.Call → Heads → List written.Item → List Declared
+globals_in calls named [] = []
+globals_in calls named (written.AGlobal v ∷ is) = variables calls named v ++ globals_in calls named is
+globals_in calls named (written.AClass c ∷ is) = globals_in calls named is
+globals_in calls named (written.AnInterface i ∷ is) = globals_in calls named is
+globals_in calls named (written.AFunction f ∷ is) = globals_in calls named is
+
+abbrev pub heads_by : List host.Call → Heads → List written.Item → Heads
+heads_by calls named is = record { interfaces = interfaces_in calls named is; classes = classes_in calls named is; functions = functions_in calls named is; globals = globals_in calls named is }
 
 unfoldable pub heads : List host.Call → List written.Item → Heads
-heads calls is = heads_by calls (named_classes is) is
+heads calls is = heads_by calls (names_in is) is

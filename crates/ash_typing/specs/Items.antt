@@ -1,26 +1,29 @@
 -- The typing of a module, or its first fault. Items are walked in source order: an item's types and names in the order
 -- of the text, then its body. The members of a class, and the variables of one declaration, are items of their own. Of
 -- several faults of one name the one that stands first in the list of rules is told.
-use Rattle.std.specs.Prelude.{ℕ, ◌-◌, List, [], ◌∷◌, ◌++◌, Bool, ◌||◌, Option, Some, None, Ok, map, find, length, nat_eq, nat_le, if◌then◌else◌}
+use Rattle.std.specs.Prelude.{ℕ, ◌+◌, ◌&&◌, ◌-◌, List, [], ◌∷◌, ◌++◌, Bool, ◌||◌, true, false, Option, Some, None, Ok, map, find, length, slice_get, nat_eq, nat_le, if◌then◌else◌}
 use Rattle.std.specs.List.{list_any}
-use Rattle.std.specs.Option.{is_some}
+use Rattle.std.specs.Option.{is_some, option_map_or}
 use Rattle.std.specs.Str.{bytes_eq}
 use Rattle.ash_registrations.specs.Calls as host
 use Rattle.ash_tree.specs.declared.tree.places.Place.{Place}
 use Rattle.ash_tree.specs.Tree as written
-use Rattle.ash_typing.specs.declared.fault.Rule.TheVariants.{UnknownType, NameTaken, NoReturn, Misplaced, TooMany}
+use Rattle.ash_typing.specs.declared.fault.Rule.TheVariants.{UnknownType, NameTaken, TypeMismatch, NoReturn, Misplaced, TooMany}
 use Rattle.ash_typing.specs.declared.types.Ty.{Ty}
 use Rattle.ash_typing.specs.declared.types.Ty.TheVariants as ty
 use Rattle.ash_typed.specs.declared.types.VarType.{VarType}
-use Rattle.ash_typing.specs.Types.{var_type, result_type}
+use Rattle.ash_typed.specs.declared.types.ObjectType.{ObjectType}
+use Rattle.ash_typed.specs.declared.types.ObjectType.TheVariants.{Class as OfClass, Interface as OfInterface}
+use Rattle.ash_typing.specs.Types.{is_same, var_type, result_type}
 use Rattle.ash_typing.specs.Checking.{Checking, ◌>>=◌, broken}
-use Rattle.ash_typing.specs.Environment.{Declared, Heads, Environment, declares}
+use Rattle.ash_typing.specs.Environment as head
+use Rattle.ash_typing.specs.Environment.{Declared, Heads, Environment, declares, is_called, first_from}
 use Rattle.ash_typing.specs.Expressions.{is_void}
-use Rattle.ash_typing.specs.Heads.{heads}
+use Rattle.ash_typing.specs.Heads.{object_named, heads}
 use Rattle.ash_typing.specs.Declarations.{Initialization, decl_typed}
-pub use Rattle.ash_typing.specs.Declarations.{ty_in, at_type, known_ty}
+pub use Rattle.ash_typing.specs.Declarations.{ty_in, at_type, at_type_name, known_ty}
 use Rattle.ash_typing.specs.Bodies.{Body, body_typed, returns_in, with_locals}
-use Rattle.ash_typed.specs.Modules.{Variables, Function, Class, Module}
+use Rattle.ash_typed.specs.Modules.{Variables, Function, Signature, Interface, Implementation, Class, Module}
 
 -- names
 
@@ -47,15 +50,15 @@ placed names at name = untaken names at name >>= λ next. one_more next at
 
 -- types
 
--- the type of a parameter or of a result, at this offset: objects are passed by handles
-unfoldable pub passed_ty : ℕ → Ty → Checking Ty
-passed_ty at ty.Unknown = broken UnknownType at
-passed_ty at (ty.Object o) = broken Misplaced at
-passed_ty at t = Ok t
+-- the type of a parameter or of a result: objects are passed by handles
+unfoldable pub passed_ty : written.Named → Ty → Checking Ty
+passed_ty of ty.Unknown = broken UnknownType (at_type_name of)
+passed_ty of (ty.Object o) = broken Misplaced (at_type of)
+passed_ty of t = Ok t
 
 abbrev pub result_typed : Environment → Option written.Named → Checking Ty
 result_typed env None = Ok ty.Void
-result_typed env (Some of) = passed_ty (at_type of) (ty_in env of)
+result_typed env (Some of) = passed_ty of (ty_in env of)
 
 -- variables of a module or of a class
 
@@ -75,13 +78,13 @@ abbrev pub no_variables : written.Named → Variables
 no_variables of = record { line = (written.place_of_type of).line; values = [] }
 
 unfoldable pub vars_typed : Environment → Names → written.Vars → Checking Row
-vars_typed env names v = known_ty (at_type v.of) (ty_in env v.of) >>= λ of. decls_typed env (at_type v.of) of (record { names = names; variables = no_variables v.of }) v.decls
+vars_typed env names v = known_ty v.of (ty_in env v.of) >>= λ of. decls_typed env (at_type v.of) of (record { names = names; variables = no_variables v.of }) v.decls
 
 -- functions
 
 abbrev pub parameters_typed : Environment → List Declared → List written.Parameter → Checking (List Declared)
 parameters_typed env before [] = Ok before
-parameters_typed env before (p ∷ ps) = passed_ty (at_type p.of) (ty_in env p.of) >>= λ of. if list_any (declares p.name) before then broken NameTaken p.place.at else parameters_typed env (before ++ record { name = p.name; of = of } ∷ []) ps
+parameters_typed env before (p ∷ ps) = passed_ty p.of (ty_in env p.of) >>= λ of. if list_any (declares p.name) before then broken NameTaken p.place.at else parameters_typed env (before ++ record { name = p.name; of = of } ∷ []) ps
 
 -- a function, a method or a constructor, as it is written behind its result
 pub record Routine : Type 0 where
@@ -106,6 +109,99 @@ type_of v = var_type v.of
 unfoldable pub routine_typed : Environment → Ty → Routine → Checking Function
 routine_typed env of c = parameters_typed env [] c.parameters >>= λ locals. body_typed (with_locals env locals) of c.body >>= λ body. returning c.place.at of c.body body >>= λ done. Ok (record { name = c.name; line = c.place.line; result = result_type of; parameters = map type_of locals; body = done })
 
+-- interfaces
+
+-- an interface so far
+pub record Signatures : Type 0 where
+  pub names : Names
+  pub methods : List Signature
+
+abbrev pub signature_of : List ℕ → Ty → List Declared → Signature
+signature_of name of parameters = record { name = name; result = result_type of; parameters = map type_of parameters }
+
+-- a method that an interface declares, behind those before it
+unfoldable pub signature_typed : Environment → Signatures → written.InterfaceMethod → Checking Signatures
+signature_typed env ss m = result_typed env m.result >>= λ of. placed ss.names m.place.at m.name >>= λ names. parameters_typed env [] m.parameters >>= λ parameters. Ok (record { names = names; methods = ss.methods ++ signature_of m.name of parameters ∷ [] })
+
+abbrev pub signatures_typed : Environment → Signatures → List written.InterfaceMethod → Checking Signatures
+signatures_typed env ss [] = Ok ss
+signatures_typed env ss (m ∷ ms) = signature_typed env ss m >>= λ next. signatures_typed env next ms
+
+-- there are at most 32 methods in an interface
+abbrev pub no_signatures : Signatures
+no_signatures = record { names = record { registered = []; taken = []; room = 32 }; methods = [] }
+
+abbrev pub interface_of : written.Interface → ℕ → Signatures → Interface
+interface_of i classes ss = record { name = i.name; line = i.place.line; classes_before = classes; methods = ss.methods }
+
+-- an interface behind so many classes
+unfoldable pub interface_typed : Environment → ℕ → written.Interface → Checking Interface
+interface_typed env classes i = signatures_typed env no_signatures i.methods >>= λ ss. Ok (interface_of i classes ss)
+
+-- the interfaces that a class lists
+
+-- an interface, whose name is at this offset
+abbrev pub listed_at : ℕ → Option ObjectType → Checking ℕ
+listed_at at (Some (OfInterface place)) = Ok place
+listed_at at (Some (OfClass place)) = broken Misplaced at
+listed_at at _ = broken UnknownType at
+
+abbrev pub are_same : List Ty → List Ty → Bool
+are_same [] [] = true
+are_same (t ∷ ts) (u ∷ us) = is_same t u && are_same ts us
+are_same _ _ = false
+
+-- whether a method has the result and the parameters of another
+abbrev pub has_types_of : head.Function → head.Function → Bool
+has_types_of f g = is_same f.result g.result && are_same f.parameters g.parameters
+
+-- the place of the method of a class that a method of an interface runs
+abbrev pub matching : head.Function → Option (ℕ × head.Function) → Option ℕ
+matching f None = None
+matching f (Some (place, g)) = if has_types_of f g then Some place else None
+
+unfoldable pub method_for : List head.Function → head.Function → Option ℕ
+method_for methods f = matching f (first_from (is_called f.name) 0 methods)
+
+abbrev pub with_first : Option ℕ → Option (List ℕ) → Option (List ℕ)
+with_first (Some place) (Some places) = Some (place ∷ places)
+with_first _ _ = None
+
+-- the places of those for each method of an interface, where the class has them all
+abbrev pub methods_for : List head.Function → List head.Function → Option (List ℕ)
+methods_for methods [] = Some []
+methods_for methods (f ∷ fs) = with_first (method_for methods f) (methods_for methods fs)
+
+abbrev pub methods_of_class : head.Class → List head.Function
+methods_of_class c = c.methods
+
+abbrev pub methods_of_interface : head.Interface → List head.Function
+methods_of_interface i = i.methods
+
+-- the class of this place has the methods of the interface of that place
+unfoldable pub implemented : Environment → ℕ → ℕ → Option (List ℕ)
+implemented env class interface = methods_for (option_map_or methods_of_class (slice_get env.heads.classes class) []) (option_map_or methods_of_interface (slice_get env.heads.interfaces interface) [])
+
+abbrev pub implemented_at : ℕ → ℕ → Option (List ℕ) → Checking Implementation
+implemented_at at interface None = broken TypeMismatch at
+implemented_at at interface (Some methods) = Ok (record { interface = interface; methods = methods })
+
+-- the interfaces so far
+pub record Listed : Type 0 where
+  pub names : Names
+  pub interfaces : List Implementation
+
+-- one of those that the class of this place lists, behind those before it
+unfoldable pub listed_typed : Environment → ℕ → Listed → written.TypeName → Checking Listed
+listed_typed env class listed n = listed_at n.place.at (object_named env.registered env.heads n.name) >>= λ interface. untaken listed.names n.place.at n.name >>= λ names. implemented_at n.place.at interface (implemented env class interface) >>= λ implementation. Ok (record { names = names; interfaces = listed.interfaces ++ implementation ∷ [] })
+
+abbrev pub all_listed : Environment → ℕ → Listed → List written.TypeName → Checking Listed
+all_listed env class listed [] = Ok listed
+all_listed env class listed (n ∷ ns) = listed_typed env class listed n >>= λ next. all_listed env class next ns
+
+abbrev pub none_listed : Listed
+none_listed = record { names = record { registered = []; taken = []; room = 0 }; interfaces = [] }
+
 -- classes
 
 -- a class so far
@@ -114,13 +210,13 @@ pub record Members : Type 0 where
   pub class : Class
 
 abbrev pub with_fields : Class → Variables → Class
-with_fields c v = record { name = c.name; line = c.line; fields = c.fields ++ v.values; constructor = c.constructor; methods = c.methods }
+with_fields c v = record { name = c.name; line = c.line; interfaces = c.interfaces; fields = c.fields ++ v.values; constructor = c.constructor; methods = c.methods }
 
 abbrev pub with_method : Class → Function → Class
-with_method c f = record { name = c.name; line = c.line; fields = c.fields; constructor = c.constructor; methods = c.methods ++ f ∷ [] }
+with_method c f = record { name = c.name; line = c.line; interfaces = c.interfaces; fields = c.fields; constructor = c.constructor; methods = c.methods ++ f ∷ [] }
 
 abbrev pub with_constructor : Class → Function → Class
-with_constructor c f = record { name = c.name; line = c.line; fields = c.fields; constructor = Some f; methods = c.methods }
+with_constructor c f = record { name = c.name; line = c.line; interfaces = c.interfaces; fields = c.fields; constructor = Some f; methods = c.methods }
 
 -- a class has one constructor, which has its name
 unfoldable pub constructor_named : Class → written.Constructor → Checking Routine
@@ -136,8 +232,8 @@ members_typed env ms [] = Ok ms
 members_typed env ms (m ∷ rest) = member_typed env ms m >>= λ next. members_typed env next rest
 
 -- there are at most 32 fields and methods in a class
-abbrev pub no_members : written.Class → Members
-no_members c = record { names = record { registered = []; taken = []; room = 32 }; class = record { name = c.name; line = c.place.line; fields = []; constructor = None; methods = [] } }
+abbrev pub no_members : written.Class → List Implementation → Members
+no_members c listed = record { names = record { registered = []; taken = []; room = 32 }; class = record { name = c.name; line = c.place.line; interfaces = listed; fields = []; constructor = None; methods = [] } }
 
 abbrev pub inside : Environment → ℕ → Environment
 inside env place = record { heads = env.heads; registered = env.registered; this = Some place; locals = [] }
@@ -147,7 +243,7 @@ class_of_members ms = ms.class
 
 -- the class of this place
 unfoldable pub class_typed : Environment → ℕ → written.Class → Checking Class
-class_typed env place c = members_typed (inside env place) (no_members c) c.members >>= λ ms. Ok (class_of_members ms)
+class_typed env place c = all_listed env place none_listed c.interfaces >>= λ listed. members_typed (inside env place) (no_members c listed.interfaces) c.members >>= λ ms. Ok (class_of_members ms)
 
 -- modules
 
@@ -156,23 +252,26 @@ pub record Walked : Type 0 where
   pub names : Names
   pub typed : Module
 
--- there are at most 256 classes in a module
-unfoldable pub one_more_class : ℕ → ℕ → Checking ℕ
-one_more_class at count = if nat_le 256 count then broken TooMany at else Ok count
+-- there are at most 256 classes and interfaces in a module
+unfoldable pub room_for_type : ℕ → Module → Checking ℕ
+room_for_type at m = if nat_le 256 (length m.classes + length m.interfaces) then broken TooMany at else Ok (length m.classes)
+
+abbrev pub with_interface : Module → Interface → Module
+with_interface m i = record { interfaces = m.interfaces ++ i ∷ []; classes = m.classes; functions = m.functions; globals = m.globals }
 
 abbrev pub with_class : Module → Class → Module
-with_class m c = record { classes = m.classes ++ c ∷ []; functions = m.functions; globals = m.globals }
+with_class m c = record { interfaces = m.interfaces; classes = m.classes ++ c ∷ []; functions = m.functions; globals = m.globals }
 
 abbrev pub with_function : Module → Function → Module
-with_function m f = record { classes = m.classes; functions = m.functions ++ f ∷ []; globals = m.globals }
+with_function m f = record { interfaces = m.interfaces; classes = m.classes; functions = m.functions ++ f ∷ []; globals = m.globals }
 
 abbrev pub with_globals : Module → Variables → Module
-with_globals m v = record { classes = m.classes; functions = m.functions; globals = m.globals ++ v ∷ [] }
+with_globals m v = record { interfaces = m.interfaces; classes = m.classes; functions = m.functions; globals = m.globals ++ v ∷ [] }
 
--- the next item; of an interface the name alone is looked at so far
+-- the next item
 unfoldable pub item_typed : Environment → Walked → written.Item → Checking Walked
-item_typed env w (written.AClass c) = untaken w.names c.place.at c.name >>= λ names. one_more_class c.place.at (length w.typed.classes) >>= λ place. class_typed env place c >>= λ t. Ok (record { names = names; typed = with_class w.typed t })
-item_typed env w (written.AnInterface i) = untaken w.names i.place.at i.name >>= λ names. Ok (record { names = names; typed = w.typed })
+item_typed env w (written.AClass c) = untaken w.names c.place.at c.name >>= λ names. room_for_type c.place.at w.typed >>= λ place. class_typed env place c >>= λ t. Ok (record { names = names; typed = with_class w.typed t })
+item_typed env w (written.AnInterface i) = untaken w.names i.place.at i.name >>= λ names. room_for_type i.place.at w.typed >>= λ classes. interface_typed env classes i >>= λ t. Ok (record { names = names; typed = with_interface w.typed t })
 item_typed env w (written.AFunction f) = result_typed env f.result >>= λ of. untaken w.names f.place.at f.name >>= λ names. routine_typed env of (routine_of f) >>= λ t. Ok (record { names = names; typed = with_function w.typed t })
 item_typed env w (written.AGlobal v) = vars_typed env w.names v >>= λ row. Ok (record { names = row.names; typed = with_globals w.typed row.variables })
 
@@ -186,7 +285,7 @@ seen calls h = record { heads = h; registered = calls; this = None; locals = [] 
 
 -- there are at most 256 variables in a module
 abbrev pub nothing : List host.Call → Walked
-nothing calls = record { names = record { registered = calls; taken = []; room = 256 }; typed = record { classes = []; functions = []; globals = [] } }
+nothing calls = record { names = record { registered = calls; taken = []; room = 256 }; typed = record { interfaces = []; classes = []; functions = []; globals = [] } }
 
 abbrev pub module_walked : Walked → Module
 module_walked w = w.typed

@@ -1,6 +1,7 @@
 pub mod Checking
 pub mod Types
 pub mod Environment
+pub mod Fitting
 pub mod Heads
 pub mod Expressions
 pub mod Declarations

@@ -14,7 +14,7 @@ use Rattle.ash_typing.specs.Checking.{Checking, ◌>>=◌, broken}
 use Rattle.ash_typed.specs.declared.tree.statements.Test.TheVariants.{First, Last}
 use Rattle.ash_typed.specs.Tree.{Expr}
 use Rattle.ash_typed.specs.StatementTree.{Initialization, Stmt, Empty, Declare, Evaluate, Block, If, no_branch, branch, Head, no_head, declared_head, evaluated_head, Repeat, For, repeated, Switch, Break, Continue, Return, Stmts, no_stmt, stmt, labelled, Cases, no_case, next_case}
-use Rattle.ash_typing.specs.Environment.{Declared, Environment, declares, with_locals}
+use Rattle.ash_typing.specs.Environment.{Declared, Class, Environment, declares, with_locals}
 use Rattle.ash_typing.specs.Expressions.{Typed, typed, all_typed, fitted, integer_of, bool_of, is_void}
 use Rattle.ash_typing.specs.Heads.{declared, variables}
 use Rattle.ash_typing.specs.Declarations.{ty_in, at_type, known_ty, decl_typed}
@@ -44,7 +44,7 @@ abbrev pub with_variables : Scope → List Declared → Scope
 with_variables scope vs = record { env = with_locals scope.env (scope.env.locals ++ vs); first = scope.first; gives = scope.gives; in_loop = scope.in_loop; in_switch = scope.in_switch }
 
 abbrev pub declared_in : Scope → written.Vars → List Declared
-declared_in scope v = variables scope.env.registered scope.env.heads.classes v
+declared_in scope v = variables scope.env.registered scope.env.heads v
 
 -- what the statements behind one see: the variables that it declares
 abbrev pub behind : Scope → written.Stmt → Scope
@@ -66,7 +66,7 @@ decls_typed scope at of [] = Ok []
 decls_typed scope at of (d ∷ ds) = fresh scope of d >>= λ v. decl_typed scope.env at of d >>= λ value. decls_typed (with_variables scope (v ∷ [])) at of ds >>= λ values. Ok (value ∷ values)
 
 unfoldable pub vars_typed : Scope → written.Vars → Checking (List Initialization)
-vars_typed scope v = known_ty (at_type v.of) (ty_in scope.env v.of) >>= λ of. decls_typed scope (at_type v.of) of v.decls
+vars_typed scope v = known_ty v.of (ty_in scope.env v.of) >>= λ of. decls_typed scope (at_type v.of) of v.decls
 
 -- the head of a `for`: nothing, variables or an expression, and no other statement
 unfoldable pub head_typed : Scope → written.Stmt → Checking Head
@@ -130,12 +130,12 @@ gives_nothing ty.Unknown = true
 gives_nothing _ = false
 
 -- a value that is returned at this offset
-unfoldable pub returned : Ty → ℕ → Typed → Checking Expr
-returned of at t = if is_void of then broken TypeMismatch at else fitted of t
+unfoldable pub returned : List Class → Ty → ℕ → Typed → Checking Expr
+returned classes of at t = if is_void of then broken TypeMismatch at else fitted classes of t
 
 unfoldable pub return_typed : Scope → Place → Option written.Expr → Checking Stmt
 return_typed scope p None = if gives_nothing scope.gives then Ok (Return p.line None) else broken TypeMismatch p.at
-return_typed scope p (Some e) = typed scope.env false e >>= λ t. returned scope.gives p.at t >>= λ value. Ok (Return p.line (Some value))
+return_typed scope p (Some e) = typed scope.env false e >>= λ t. returned scope.env.heads.classes scope.gives p.at t >>= λ value. Ok (Return p.line (Some value))
 
 abbrev pub is_last : written.Cases → Bool
 is_last written.no_case = true

@@ -9,15 +9,16 @@ use Rattle.ash_tree.specs.Tree as written
 use Rattle.ash_typing.specs.declared.types.Ty.{Ty}
 use Rattle.ash_typing.specs.declared.types.Ty.TheVariants as ty
 use Rattle.ash_typed.specs.declared.types.VarType.{VarType}
+use Rattle.ash_typed.specs.declared.types.ObjectType.TheVariants.{Interface as OfInterface}
 use Rattle.ash_typing.specs.Types.{var_type, result_type}
 use Rattle.ash_typing.specs.Environment.{Declared, Environment, named_in}
-use Rattle.ash_typing.specs.Typing.{IsKnownType, IsDeclared}
-use Rattle.ash_typing.specs.Heads.{heads, result_named}
+use Rattle.ash_typing.specs.Typing.{IsVariableType, IsDeclared}
+use Rattle.ash_typing.specs.Heads.{heads, object_named, result_named}
 use Rattle.ash_typing.specs.Declarations.{Initialization, ty_in}
 use Rattle.ash_typing.specs.Bodies.{Body, body_scope, returns_in, with_locals}
 use Rattle.ash_typing.specs.TypedStatements.{AreStmts}
-use Rattle.ash_typed.specs.Modules.{Variables, Function, Class, Module}
-use Rattle.ash_typing.specs.Items.{Routine, routine_of, constructing, inside, seen}
+use Rattle.ash_typed.specs.Modules.{Variables, Function, Signature, Interface, Implementation, Class, Module}
+use Rattle.ash_typing.specs.Items.{Routine, routine_of, constructing, implemented, inside, seen}
 
 -- what is written, by kind
 
@@ -27,6 +28,21 @@ classes_of (written.AClass c ∷ is) = c ∷ classes_of is
 classes_of (written.AnInterface i ∷ is) = classes_of is
 classes_of (written.AFunction f ∷ is) = classes_of is
 classes_of (written.AGlobal v ∷ is) = classes_of is
+
+abbrev pub interfaces_of : List written.Item → List written.Interface
+interfaces_of [] = []
+interfaces_of (written.AnInterface i ∷ is) = i ∷ interfaces_of is
+interfaces_of (written.AClass c ∷ is) = interfaces_of is
+interfaces_of (written.AFunction f ∷ is) = interfaces_of is
+interfaces_of (written.AGlobal v ∷ is) = interfaces_of is
+
+-- how many classes are declared before each interface, where there are so many before the first item
+abbrev pub classes_before : ℕ → List written.Item → List ℕ
+classes_before count [] = []
+classes_before count (written.AnInterface i ∷ is) = count ∷ classes_before count is
+classes_before count (written.AClass c ∷ is) = classes_before (count + 1) is
+classes_before count (written.AFunction f ∷ is) = classes_before count is
+classes_before count (written.AGlobal v ∷ is) = classes_before count is
 
 abbrev pub functions_of : List written.Item → List written.Function
 functions_of [] = []
@@ -120,14 +136,14 @@ IsPassedParameter env p = IsPassed (ty_in env p.of)
 
 -- `T x = a, y(b), z`
 pub record AreVariables (env : Environment) (v : written.Vars) (typed : Variables) : Type 0 where
-  pub known : IsKnownType (ty_in env v.of)
+  pub variable : IsVariableType (ty_in env v.of)
   pub line : typed.line ≡ (written.place_of_type v.of).line
   pub values : AllZip (IsDeclared env (ty_in env v.of)) v.decls typed.values
 
 -- the fields of a class: the variables of each declaration, in source order
 abbrev pub AreFields : Environment → List written.Vars → List Initialization → Type 0
 AreFields env [] typed = typed ≡ []
-AreFields env (v ∷ vs) typed = (values : List Initialization) × (more : List Initialization) × IsKnownType (ty_in env v.of) × AllZip (IsDeclared env (ty_in env v.of)) v.decls values × AreFields env vs more × (typed ≡ values ++ more)
+AreFields env (v ∷ vs) typed = (values : List Initialization) × (more : List Initialization) × IsVariableType (ty_in env v.of) × AllZip (IsDeclared env (ty_in env v.of)) v.decls values × AreFields env vs more × (typed ≡ values ++ more)
 
 -- functions
 
@@ -153,14 +169,51 @@ IsResult env None = Unit {0}
 IsResult env (Some of) = IsPassed (ty_in env of)
 
 abbrev pub result_in : Environment → Option written.Named → Ty
-result_in env of = result_named env.registered env.heads.classes of
+result_in env of = result_named env.registered env.heads of
 
 -- `T f(..) { .. }`
 pub record IsFunction (env : Environment) (f : written.Function) (typed : Function) : Type 0 where
   pub passed : IsResult env f.result
   pub routine : IsRoutine env (result_in env f.result) (routine_of f) typed
 
+-- interfaces
+
+abbrev pub signature_name : written.InterfaceMethod → List ℕ
+signature_name m = m.name
+
+-- `T m(..);` in an interface: its parameters differ in name
+pub record IsSignature (env : Environment) (m : written.InterfaceMethod) (typed : Signature) : Type 0 where
+  pub name : typed.name ≡ m.name
+  pub passed_result : IsResult env m.result
+  pub result : typed.result ≡ result_type (result_in env m.result)
+  pub passed : AllByRecursion (IsPassedParameter env) m.parameters
+  pub differ : IsDistinct bytes_eq (map parameter_name m.parameters)
+  pub parameters : typed.parameters ≡ map (type_of_parameter env) m.parameters
+
+-- An interface behind so many classes. It has at most 32 methods, which differ in name.
+pub record IsInterface (env : Environment) (i : written.Interface) (classes : ℕ) (typed : Interface) : Type 0 where
+  pub name : typed.name ≡ i.name
+  pub line : typed.line ≡ i.place.line
+  pub before : typed.classes_before ≡ classes
+  pub differ : IsDistinct bytes_eq (map signature_name i.methods)
+  pub few : length i.methods ≤ 32
+  pub methods : AllZip (IsSignature env) i.methods typed.methods
+
+-- interfaces, each behind so many classes
+abbrev pub AreInterfaces : Environment → List written.Interface → List ℕ → List Interface → Type 0
+AreInterfaces env [] [] [] = Unit {0}
+AreInterfaces env (i ∷ is) (before ∷ befores) (typed ∷ more) = IsInterface env i before typed × AreInterfaces env is befores more
+AreInterfaces env _ _ _ = ⊥
+
 -- classes
+
+abbrev pub listed_name : written.TypeName → List ℕ
+listed_name n = n.name
+
+-- an interface that the class of this place lists: the class has each of its methods, with the same types
+pub record IsListed (env : Environment) (class : ℕ) (n : written.TypeName) (typed : Implementation) : Type 0 where
+  pub interface : object_named env.registered env.heads n.name ≡ Some (OfInterface typed.interface)
+  pub methods : implemented env class typed.interface ≡ Some typed.methods
 
 -- a constructor has its class's name
 pub record IsConstructor (env : Environment) (class : List ℕ) (c : written.Constructor) (typed : Function) : Type 0 where
@@ -177,6 +230,8 @@ HasConstructor env class _ _ = ⊥
 pub record IsClass (env : Environment) (place : ℕ) (c : written.Class) (typed : Class) : Type 0 where
   pub name : typed.name ≡ c.name
   pub line : typed.line ≡ c.place.line
+  pub listed_once : IsDistinct bytes_eq (map listed_name c.interfaces)
+  pub interfaces : AllZip (IsListed env place) c.interfaces typed.interfaces
   pub differ : IsDistinct bytes_eq (member_names c.members)
   pub few : length (member_names c.members) ≤ 32
   pub fields : AreFields (inside env place) (fields_of c.members) typed.fields
@@ -195,13 +250,14 @@ AreClasses env place _ _ = ⊥
 abbrev pub environment : List host.Call → List written.Item → Environment
 environment calls is = seen calls (heads calls is)
 
--- A module, where these calls are registered. It has at most 256 classes and 256 variables. What it declares differs in
+-- A module, where these calls are registered. It has at most 256 classes and interfaces, and 256 variables. What it declares differs in
 -- name, and has no registered name.
 pub record IsTyped (calls : List host.Call) (is : List written.Item) (typed : Module) : Type 0 where
   pub differ : IsDistinct bytes_eq (item_names is)
   pub free : AllByRecursion (IsFree calls) (item_names is)
-  pub few_classes : length (classes_of is) ≤ 256
+  pub few_types : length (classes_of is) + length (interfaces_of is) ≤ 256
   pub few_globals : length (variable_names (globals_of is)) ≤ 256
+  pub interfaces : AreInterfaces (environment calls is) (interfaces_of is) (classes_before 0 is) typed.interfaces
   pub classes : AreClasses (environment calls is) 0 (classes_of is) typed.classes
   pub functions : AllZip (IsFunction (environment calls is)) (functions_of is) typed.functions
   pub globals : AllZip (AreVariables (environment calls is)) (globals_of is) typed.globals

@@ -12,14 +12,14 @@ use Rattle.ash_tree.specs.Tree as written
 use Rattle.ash_typed.specs.declared.types.Kind.{Kind}
 use Rattle.ash_typing.specs.declared.types.Ty.{Ty}
 use Rattle.ash_typing.specs.declared.types.Ty.TheVariants as ty
-use Rattle.ash_typing.specs.Types.{fits}
+use Rattle.ash_typing.specs.Fitting.{fits}
 use Rattle.ash_typed.specs.declared.tree.statements.Test.TheVariants.{First, Last}
 use Rattle.ash_typed.specs.Tree.{Expr}
 use Rattle.ash_typed.specs.StatementTree.{Initialization, Stmt, Empty, Declare, Evaluate, Block, If, no_branch, branch, Head, no_head, declared_head, evaluated_head, Repeat, For, repeated, Switch, Break, Continue, Return, Stmts, no_stmt, stmt, labelled, Cases, no_case, next_case}
 use Rattle.ash_typing.specs.Environment.{Environment}
 use Rattle.ash_typing.specs.Heads.{declared}
 use Rattle.ash_typing.specs.Declarations.{ty_in}
-use Rattle.ash_typing.specs.Typing.{IsKnown, IsKnownType, Term, converted_to, HasType, AllHaveType, IsDeclared}
+use Rattle.ash_typing.specs.Typing.{IsKnown, IsKnownType, IsVariableType, Term, converted_to, HasType, AllHaveType, IsDeclared}
 use Rattle.ash_typing.specs.Returning.{is_default}
 use Rattle.ash_typing.specs.Switches.{holds_label, is_same_constant}
 use Rattle.ash_typing.specs.Statements.{Scope, block_of, loop_of, switch_of, with_variables, behind, is_taken, is_last}
@@ -56,7 +56,7 @@ pub data MayBeCondition : Environment → Option written.Expr → Option Expr �
 pub data IsHead : Scope → written.Stmt → Head → Type 0 where
   heads_nothing : {scope : Scope} {p : place.Place} → IsHead scope (written.Empty p) no_head
   heads_variables : {scope : Scope} {p : place.Place} {v : written.Vars} {values : List Initialization}
-      → IsKnownType (ty_in scope.env v.of)
+      → IsVariableType (ty_in scope.env v.of)
       → AreDeclared scope (ty_in scope.env v.of) v.decls values
       → IsHead scope (written.Declare p v) (declared_head values)
   heads_expression : {scope : Scope} {p : place.Place} {e : written.Expr} {t : Term}
@@ -81,7 +81,7 @@ mutual
     empty : {scope : Scope} {p : place.Place} → IsStmt scope (written.Empty p) (Empty p.line)
     -- T x, y = e;
     declare : {scope : Scope} {p : place.Place} {v : written.Vars} {values : List Initialization}
-        → IsKnownType (ty_in scope.env v.of)
+        → IsVariableType (ty_in scope.env v.of)
         → AreDeclared scope (ty_in scope.env v.of) v.decls values
         → IsStmt scope (written.Declare p v) (Declare p.line values)
     -- e;
@@ -140,7 +140,7 @@ mutual
         → IsStmt scope (written.Return p None) (Return p.line None)
     return_value : {scope : Scope} {p : place.Place} {e : written.Expr} {t : Term}
         → HasType scope.env false e t
-        → fits scope.gives t.ty ≡ true
+        → fits scope.env.heads.classes scope.gives t.ty ≡ true
         → IsStmt scope (written.Return p (Some e)) (Return p.line (Some (converted_to scope.gives t)))
 
   -- statements, each of which sees the variables of those before it

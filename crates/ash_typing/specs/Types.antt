@@ -1,5 +1,5 @@
 -- Types (AngelScript manual, "Data types" and "Conversions").
-use Rattle.std.specs.Prelude.{ℕ, ◌^◌, Bool, true, false, ◌||◌, Option, Some, None, nat_eq, nat_lt, if◌then◌else◌}
+use Rattle.std.specs.Prelude.{ℕ, ◌^◌, Bool, true, false, ◌||◌, not, Option, Some, None, nat_eq, nat_lt, if◌then◌else◌}
 use Rattle.ash_tree.specs.declared.tree.types.Primitive.{Primitive}
 use Rattle.ash_tree.specs.declared.tree.types.Primitive.TheVariants as primitives
 use Rattle.ash_tree.specs.declared.tree.operators.BinaryOp.{BinaryOp}
@@ -7,7 +7,9 @@ use Rattle.ash_tree.specs.declared.tree.operators.BinaryOp.TheVariants as binary
 use Rattle.ash_typed.specs.declared.types.Kind.{Kind}
 use Rattle.ash_typed.specs.declared.types.Kind.TheVariants.{Int, Uint, Int64, Uint64}
 use Rattle.ash_typed.specs.declared.types.ObjectType.{ObjectType}
-use Rattle.ash_typed.specs.declared.types.ObjectType.TheVariants.{Class, Host}
+use Rattle.ash_typed.specs.declared.types.Element.{Element}
+use Rattle.ash_typed.specs.declared.types.Element.TheVariants as elements
+use Rattle.ash_typed.specs.declared.types.ObjectType.TheVariants.{Class, Interface, Host, Array}
 use Rattle.ash_typed.specs.declared.types.VarType.{VarType}
 use Rattle.ash_typed.specs.declared.types.VarType.TheVariants as vars
 use Rattle.ash_typing.specs.declared.types.Ty.{Ty}
@@ -73,10 +75,28 @@ kind_of n = if holds Int n then Int else (if holds Uint n then Uint else (if hol
 
 -- objects
 
+abbrev pub is_same_element : Element → Element → Bool
+is_same_element elements.Bool elements.Bool = true
+is_same_element (elements.Integer j) (elements.Integer k) = is_same_kind j k
+is_same_element (elements.Class a) (elements.Class b) = nat_eq a b
+is_same_element (elements.Interface a) (elements.Interface b) = nat_eq a b
+is_same_element (elements.Host a) (elements.Host b) = nat_eq a b
+is_same_element _ _ = false
+
 abbrev pub is_same_object : ObjectType → ObjectType → Bool
 is_same_object (Class a) (Class b) = nat_eq a b
+is_same_object (Interface a) (Interface b) = nat_eq a b
 is_same_object (Host a) (Host b) = nat_eq a b
+is_same_object (Array e) (Array f) = is_same_element e f
 is_same_object _ _ = false
+
+abbrev pub is_interface : ObjectType → Bool
+is_interface (Interface i) = true
+is_interface _ = false
+
+-- whether objects of two types can be compared: of one type, or where one is an interface
+abbrev pub is_comparable : ObjectType → ObjectType → Bool
+is_comparable o p = is_same_object o p || (is_interface o || is_interface p)
 
 -- the type of the objects that an expression of a type gives
 abbrev pub object_of : Ty → Option ObjectType
@@ -86,13 +106,33 @@ object_of _ = None
 
 -- types of variables
 
--- whether variables may be of a type
+-- whether variables may be of a type: none stands for an object of an interface, only handles do
 abbrev pub is_variable : Ty → Bool
 is_variable ty.Bool = true
 is_variable (ty.Integer k) = true
-is_variable (ty.Object o) = true
+is_variable (ty.Object o) = not (is_interface o)
 is_variable (ty.Handle o) = true
 is_variable _ = false
+
+-- whether a type is the same as another, as far as both are known
+abbrev pub is_same : Ty → Ty → Bool
+is_same ty.Unknown _ = true
+is_same _ ty.Unknown = true
+is_same ty.Bool ty.Bool = true
+is_same (ty.Integer j) (ty.Integer k) = is_same_kind j k
+is_same (ty.Object o) (ty.Object p) = is_same_object o p
+is_same (ty.Handle o) (ty.Handle p) = is_same_object o p
+is_same ty.Null ty.Null = true
+is_same ty.Void ty.Void = true
+is_same _ _ = false
+
+-- the type of an array's elements
+abbrev pub ty_of_element : Element → Ty
+ty_of_element elements.Bool = ty.Bool
+ty_of_element (elements.Integer k) = ty.Integer k
+ty_of_element (elements.Class c) = ty.Handle (Class c)
+ty_of_element (elements.Interface i) = ty.Handle (Interface i)
+ty_of_element (elements.Host kind) = ty.Handle (Host kind)
 
 -- whether functions may give a type
 abbrev pub is_result : Ty → Bool
@@ -134,30 +174,18 @@ ty_of primitives.Int64 = ty.Integer Int64
 ty_of primitives.Uint = ty.Integer Uint
 ty_of primitives.Uint64 = ty.Integer Uint64
 
--- Whether a value of the second type may be stored in a variable of the first. Nothing converts between `bool` and
--- integers. What is of an unknown type fits everywhere, since the fault is told at the type.
-abbrev pub fits_object : ObjectType → Ty → Bool
-fits_object o (ty.Object p) = is_same_object o p
-fits_object o (ty.Handle p) = is_same_object o p
-fits_object o ty.Null = true
-fits_object o ty.Unknown = true
-fits_object _ _ = false
-
-abbrev pub fits : Ty → Ty → Bool
-fits ty.Unknown ty.Void = false
-fits ty.Unknown _ = true
-fits ty.Bool ty.Bool = true
-fits ty.Bool ty.Unknown = true
-fits (ty.Integer _) (ty.Integer _) = true
-fits (ty.Integer _) ty.Unknown = true
-fits (ty.Object o) t = fits_object o t
-fits (ty.Handle o) t = fits_object o t
-fits _ _ = false
+-- whether an expression gives an object that can be compared with one of a type
+abbrev pub agrees_object : ObjectType → Ty → Bool
+agrees_object o (ty.Object p) = is_comparable o p
+agrees_object o (ty.Handle p) = is_comparable o p
+agrees_object o ty.Null = true
+agrees_object o ty.Unknown = true
+agrees_object _ _ = false
 
 -- whether two types are of objects that can be one
 abbrev pub agrees : Ty → Ty → Bool
-agrees (ty.Object o) t = fits_object o t
-agrees (ty.Handle o) t = fits_object o t
+agrees (ty.Object o) t = agrees_object o t
+agrees (ty.Handle o) t = agrees_object o t
 agrees ty.Null (ty.Object _) = true
 agrees ty.Null (ty.Handle _) = true
 agrees ty.Null ty.Null = true
@@ -168,9 +196,17 @@ agrees ty.Unknown ty.Null = true
 agrees ty.Unknown ty.Unknown = true
 agrees _ _ = false
 
+-- whether an expression of a type gives an object of this one, or null
+abbrev pub gives_object : ObjectType → Ty → Bool
+gives_object o (ty.Object p) = is_same_object o p
+gives_object o (ty.Handle p) = is_same_object o p
+gives_object o ty.Null = true
+gives_object o ty.Unknown = true
+gives_object _ _ = false
+
 -- the type of `c ? a : b`, from those of its branches
 abbrev pub common_object : ObjectType → Ty → Option Ty
-common_object o t = if fits_object o t then Some (ty.Handle o) else None
+common_object o t = if gives_object o t then Some (ty.Handle o) else None
 
 abbrev pub common : Ty → Ty → Option Ty
 common ty.Bool ty.Bool = Some ty.Bool

@@ -4,7 +4,7 @@
 --
 -- `HasType env left e t`: the expression `e` has the type of the term `t`, and its tree. `left` says that `e` stands left
 -- of `=`, where `@e` is what is written to.
-use Rattle.std.specs.Prelude.{◌≡◌, ℕ, List, [], ◌∷◌, Bool, true, false, Option, Some, None, map, if◌then◌else◌}
+use Rattle.std.specs.Prelude.{◌≡◌, ℕ, length, List, [], ◌∷◌, Bool, true, false, Option, Some, None, map, if◌then◌else◌}
 use Rattle.std.specs.List.{AllByRecursion}
 use Rattle.ash_tree.specs.declared.tree.places.Place as place
 use Rattle.ash_tree.specs.declared.tree.types.Primitive.{Primitive}
@@ -14,6 +14,8 @@ use Rattle.ash_tree.specs.declared.tree.operators.AssignOp.{AssignOp}
 use Rattle.ash_tree.specs.declared.tree.operators.AssignOp.TheVariants as assigns
 use Rattle.ash_tree.specs.Tree as written
 use Rattle.ash_typed.specs.declared.types.Kind.{Kind}
+use Rattle.ash_typed.specs.declared.types.Kind.TheVariants.{Uint}
+use Rattle.ash_typed.specs.declared.types.Element.{Element}
 use Rattle.ash_typed.specs.declared.types.ObjectType.{ObjectType}
 use Rattle.ash_typed.specs.declared.types.ObjectType.TheVariants as objects
 use Rattle.ash_typing.specs.declared.types.Ty.{Ty}
@@ -23,15 +25,18 @@ use Rattle.ash_typing.specs.declared.forms.Sort.TheVariants as sort
 use Rattle.ash_typing.specs.declared.forms.Form.{Form}
 use Rattle.ash_typing.specs.declared.forms.Form.TheVariants as form
 use Rattle.ash_typed.specs.declared.tree.operations.Change.TheVariants as changes
+use Rattle.ash_typed.specs.declared.tree.operations.Target.TheVariants as targets
 use Rattle.ash_typed.specs.declared.tree.operations.Member.{Member}
 use Rattle.ash_typed.specs.declared.tree.operations.Calculator.{Calculator}
 use Rattle.ash_typed.specs.declared.tree.operations.Operands.{Operands}
 use Rattle.ash_typed.specs.declared.tree.operations.Operands.TheVariants as operands
 use Rattle.ash_typed.specs.declared.tree.operations.Step.TheVariants as steps
-use Rattle.ash_typing.specs.Types.{is_variable, is_result, var_type, kind_of, holds, signed, fits, common, object_of, ty_of, sort_of, binary_of, meets, outcome}
-use Rattle.ash_typed.specs.Tree.{Expr, Number, Truth, Null, This, Read, Invoke, Alter, Conditional, Assign, Update, Count, Place, Held, Exprs, no_expr, expr, converted}
-use Rattle.ash_typing.specs.Environment.{Environment, Declared, Function, Class, Known, Callee, Invoked, variable_in, callee_in, member_in, method_in}
-use Rattle.ash_typing.specs.Expressions.{Typed, conversion, operand_type, applied, operator_of, is_stored, call_of, assignable, bracketed, handle_form}
+use Rattle.ash_typing.specs.Types.{is_variable, is_result, var_type, kind_of, holds, signed, common, object_of, ty_of, ty_of_element, sort_of, binary_of, meets, outcome}
+use Rattle.ash_typed.specs.Tree.{Expr, Number, Truth, Null, This, Read, Invoke, Cast, Call, Alter, Conditional, Assign, Update, Count, Place, Held, Indexed, Exprs, no_expr, expr, converted}
+use Rattle.ash_typing.specs.Fitting.{fits}
+use Rattle.ash_typing.specs.Heads.{object_named, element_named}
+use Rattle.ash_typing.specs.Environment.{Environment, Declared, Function, Interface, Class, Known, Callee, Invoked, variable_in, callee_in, member_in, method_in}
+use Rattle.ash_typing.specs.Expressions.{Typed, conversion, operand_type, applied, operator_of, is_stored, call_of, assignable, bracketed, handle_form, array_parameters}
 use Rattle.ash_typing.specs.Declarations.{Initialization, initialization, construction}
 
 -- an environment whose types are known
@@ -58,12 +63,16 @@ pub record IsKnownFunction (f : Function) : Type 0 where
   pub result : IsResultType f.result
   pub parameters : AllByRecursion IsVariableType f.parameters
 
+pub record IsKnownInterface (i : Interface) : Type 0 where
+  pub methods : AllByRecursion IsKnownFunction i.methods
+
 pub record IsKnownClass (c : Class) : Type 0 where
   pub fields : AllByRecursion IsKnownVariable c.fields
   pub methods : AllByRecursion IsKnownFunction c.methods
   pub parameters : AllByRecursion IsVariableType c.parameters
 
 pub record IsKnown (env : Environment) : Type 0 where
+  pub interfaces : AllByRecursion IsKnownInterface env.heads.interfaces
   pub classes : AllByRecursion IsKnownClass env.heads.classes
   pub functions : AllByRecursion IsKnownFunction env.heads.functions
   pub globals : AllByRecursion IsKnownVariable env.heads.globals
@@ -121,12 +130,17 @@ abbrev pub right_of : BinaryOp → Operands → Term → Term → Expr
 right_of op o t u = right_by (sort_of op) o (beside (sort_of op) t u)
 
 -- As many arguments as parameters, each of which fits its parameter and is converted to its type.
-pub data AreArguments : List Ty → List Term → Exprs → Type 0 where
-  no_arguments : AreArguments [] [] no_expr
+pub data AreArguments (classes : List Class) : List Ty → List Term → Exprs → Type 0 where
+  no_arguments : AreArguments classes [] [] no_expr
   argument : {of : Ty} {t : Term} {parameters : List Ty} {ts : List Term} {trees : Exprs}
-      → fits of t.ty ≡ true
-      → AreArguments parameters ts trees
-      → AreArguments (of ∷ parameters) (t ∷ ts) (expr (converted_to of t) trees)
+      → fits classes of t.ty ≡ true
+      → AreArguments classes parameters ts trees
+      → AreArguments classes (of ∷ parameters) (t ∷ ts) (expr (converted_to of t) trees)
+
+-- The type that `cast` makes: a class or an interface.
+pub data IsCastType : ObjectType → Type 0 where
+  to_class : {class : ℕ} → IsCastType (objects.Class class)
+  to_interface : {interface : ℕ} → IsCastType (objects.Interface interface)
 
 mutual
   pub data HasType (env : Environment) : Bool → written.Expr → Term → Type 0 where
@@ -144,7 +158,7 @@ mutual
         → callee_in env text ≡ Some callee
         → callee.parameters ≡ Some parameters
         → AllHaveType env es ts
-        → AreArguments parameters ts trees
+        → AreArguments env.heads.classes parameters ts trees
         → HasType env left (written.Call p text es) (term callee.result (call_of callee.target (map var_type parameters) trees))
     -- (e), which is no number alone; what can be assigned still can
     brackets : {left : Bool} {p : place.Place} {e : written.Expr} {t : Term}
@@ -161,6 +175,19 @@ mutual
         → ty_of to ≡ ty.Bool
         → t.ty ≡ ty.Bool
         → HasType env left (written.Convert p to e) (term ty.Bool t.tree)
+    -- `array<T>(e ..)`, of none or one argument
+    new_array : {left : Bool} {p : place.Place} {of : written.Element} {es : written.Exprs} {elements : Element} {ts : List Term} {trees : Exprs}
+        → element_named env.registered env.heads of ≡ Some elements
+        → AllHaveType env es ts
+        → AreArguments env.heads.classes (array_parameters (length ts)) ts trees
+        → HasType env left (written.NewArray p of es) (term (ty.Handle (objects.Array elements)) (Call (targets.Array elements) (map var_type (array_parameters (length ts))) trees))
+    -- `cast<T>(e)`, of an object or a handle
+    cast : {left : Bool} {p : place.Place} {to : written.TypeName} {e : written.Expr} {t : Term} {o from : ObjectType}
+        → object_named env.registered env.heads to.name ≡ Some o
+        → IsCastType o
+        → HasType env false e t
+        → object_of t.ty ≡ Some from
+        → HasType env left (written.Cast p to e) (term (ty.Handle o) (Cast o t.tree))
     -- e with suffixes
     postfix : {left : Bool} {p : place.Place} {e : written.Expr} {ss : written.Suffixes} {t u : Term}
         → HasType env false e t
@@ -222,7 +249,7 @@ mutual
         → assignable t.form t.tree ≡ Some at
         → is_stored t.form t.ty ≡ true
         → HasType env false v u
-        → fits t.ty u.ty ≡ true
+        → fits env.heads.classes t.ty u.ty ≡ true
         → HasType env left (written.Assign p e assigns.Assign v) (term t.ty (Assign at (converted_to t.ty u)))
     -- e op= v, where e is a place of an integer type: what stands there is an operand of its type
     update : {left : Bool} {p : place.Place} {op : AssignOp} {c : Calculator} {e v : written.Expr} {t u : Term} {at : Place} {j k : Kind}
@@ -271,8 +298,14 @@ mutual
         → object_of t.ty ≡ Some o
         → method_in env o text ≡ Some m
         → AllHaveType env es ts
-        → AreArguments m.parameters ts trees
+        → AreArguments env.heads.classes m.parameters ts trees
         → SuffixHasType env t (written.Method p text es) (term m.result (Invoke t.tree m.method (map var_type m.parameters) trees))
+    -- [e], of an array
+    index : {e : written.Expr} {t u : Term} {elements : Element} {k : Kind}
+        → object_of t.ty ≡ Some (objects.Array elements)
+        → HasType env false e u
+        → u.ty ≡ ty.Integer k
+        → SuffixHasType env t (written.Index e) (read_term (ty_of_element elements) (Read (Indexed t.tree (converted_to (ty.Integer Uint) u) elements)))
     -- ++
     increment_after : {t : Term} {at : Place} {k : Kind}
         → assignable t.form t.tree ≡ Some at
@@ -293,9 +326,9 @@ is_object _ = false
 -- a constructed object
 pub data IsConstructed (env : Environment) : ObjectType → List Term → Expr → Type 0 where
   construct : {o : ObjectType} {callee : Callee} {parameters : List Ty} {ts : List Term} {trees : Exprs}
-      → construction env o ≡ Some callee
+      → construction env o (length ts) ≡ Some callee
       → callee.parameters ≡ Some parameters
-      → AreArguments parameters ts trees
+      → AreArguments env.heads.classes parameters ts trees
       → IsConstructed env o ts (call_of callee.target (map var_type parameters) trees)
 
 -- what a variable of a type begins with: where nothing is named, with zero, `false` or null
@@ -311,13 +344,13 @@ pub data BeginsWith (env : Environment) : Ty → written.Initializer → Option 
   value : {of : Ty} {e : written.Expr} {t : Term}
       → is_object of ≡ false
       → HasType env false e t
-      → fits of t.ty ≡ true
+      → fits env.heads.classes of t.ty ≡ true
       → BeginsWith env of (written.Value e) (Some (converted_to of t))
   -- T x(e), of a primitive type
   one : {of : Ty} {e : written.Expr} {t : Term}
       → object_of of ≡ None
       → HasType env false e t
-      → fits of t.ty ≡ true
+      → fits env.heads.classes of t.ty ≡ true
       → BeginsWith env of (written.Arguments (e ∷ [])) (Some (converted_to of t))
   -- T x(e ..), of objects
   built_by : {o : ObjectType} {es : List written.Expr} {ts : List Term} {tree : Expr}

@@ -6,7 +6,7 @@
 use crate::tree::operations::{
     Calculation, Change, Conversion, Lazy, Member, Method, Operation, Step, Target, Variable,
 };
-use crate::types::{Kind, VarType};
+use crate::types::{Element, Kind, ObjectType, VarType};
 
 /// A typed expression.
 #[cycle(typed_expressions)]
@@ -30,6 +30,11 @@ pub enum Expr {
     },
     Convert {
         conversion: Conversion,
+        value: Box<Expr>,
+    },
+    /// `cast<T>(value)`, of a class or an interface: null where the object is not of it.
+    Cast {
+        to: ObjectType,
         value: Box<Expr>,
     },
     Change {
@@ -84,6 +89,12 @@ pub enum Expr {
 pub enum Place {
     Variable(Variable),
     Member { object: Box<Expr>, member: Member },
+    /// `array[index]`, with an index of type `uint`.
+    Element {
+        array: Box<Expr>,
+        index: Box<Expr>,
+        of: Element,
+    },
 }
 
 /// What is made of an object.
@@ -92,6 +103,8 @@ pub enum Place {
 pub enum Link {
     /// What it holds.
     Member(Member),
+    /// What an array has at an index of type `uint`.
+    Index { index: Expr, of: Element },
     /// What its method gives. The parameters are the types of the arguments, in order.
     Invoke {
         method: Method,

@@ -6,6 +6,7 @@ use crate::types::VarType;
 /// A module: what it declares, each in source order.
 #[derive(Debug, Drop)]
 pub struct Module {
+    pub interfaces: Vec<Interface>,
     pub classes: Vec<Class>,
     pub functions: Vec<Function>,
     pub globals: Vec<Variables>,
@@ -18,11 +19,37 @@ pub struct Variables {
     pub initializations: Vec<Initialization>,
 }
 
+/// An interface, with the line of its name.
+#[derive(Debug, Drop)]
+pub struct Interface {
+    pub name: String,
+    pub line: usize,
+    /// How many classes are declared before it.
+    pub classes_before: usize,
+    pub methods: Vec<Signature>,
+}
+
+/// A method that an interface declares, with what it gives, where it gives a value.
+#[derive(Debug, Drop)]
+pub struct Signature {
+    pub name: String,
+    pub result: Option<VarType>,
+    pub parameters: Vec<VarType>,
+}
+
+/// An interface that a class lists, by its place, and the class's method for each of the interface's, by its place.
+#[derive(Debug, Drop)]
+pub struct Implementation {
+    pub interface: usize,
+    pub methods: Vec<usize>,
+}
+
 /// A class, with the line of its name. Its fields take no tick, so that they have no line.
 #[derive(Debug, Drop)]
 pub struct Class {
     pub name: String,
     pub line: usize,
+    pub interfaces: Vec<Implementation>,
     pub fields: Vec<Initialization>,
     /// The constructor, where one is written. Its name is the class's.
     pub constructor: Option<Function>,

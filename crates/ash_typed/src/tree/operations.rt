@@ -1,6 +1,6 @@
 //! What a typed tree names: variables, members, functions, and operators with their kinds.
 
-use crate::types::{Kind, VarType};
+use crate::types::{Element, Kind, VarType};
 
 /// A variable, with its type.
 #[derive(Clone, Copy, Debug, PartialEq, Eq)]
@@ -36,11 +36,34 @@ pub enum Method {
         method: usize,
         result: Option<VarType>,
     },
+    /// A method that an interface declares, by their places, with what it gives. It is the object's own method of that
+    /// name that runs.
+    Interface {
+        interface: usize,
+        method: usize,
+        result: Option<VarType>,
+    },
     /// A method of a registered type, by its number, with what it gives.
     Host {
         id: u16,
         result: Option<VarType>,
     },
+    Array(ArrayMethod),
+}
+
+/// A method of arrays (AngelScript manual, "Arrays").
+#[derive(Clone, Copy, Debug, PartialEq, Eq)]
+pub enum ArrayMethod {
+    /// `uint length()`
+    Length,
+    /// `void resize(uint)`
+    Resize,
+    /// `void insertLast(T)`
+    InsertLast,
+    /// `void removeLast()`
+    RemoveLast,
+    /// `bool isEmpty()`
+    IsEmpty,
 }
 
 /// What a call calls, but for methods. What gives no value has no result.
@@ -61,6 +84,8 @@ pub enum Target {
     Class(usize),
     /// The construction of an object of a registered type, by its kind.
     Host(u16),
+    /// The construction of an array: empty, or of as many elements as its one argument says, each zero, `false` or null.
+    Array(Element),
 }
 
 /// What is compared: both operands are of it.

@@ -1,0 +1,143 @@
+//! Arrays: their construction, what is at an index, and their methods.
+
+ghost use Rattle.std.specs.Prelude.{◌≡◌, [], ◌∷◌, find, option_map};
+ghost use Rattle.ash_typed.specs.Views.{expr_of};
+ghost use Rattle.ash_typed.specs.declared.tree.operations.ArrayMethod.TheVariants as arrays;
+ghost use Rattle.ash_typing.specs.Environment as environment;
+ghost use Rattle.ash_typing.specs.Expressions as typing;
+ghost use Rattle.ash_expressions.specs.Gives.{Gives};
+ghost use Rattle.ash_expressions.specs.Views.{typed_of, callee_of, invoked_of, parameters_of};
+
+use crate::environment::{Callee, Invoked, Parameters};
+use crate::stop::{Checking, broken};
+use crate::typed::{Typed, brought, integer, read};
+use crate::types::ty_of_element;
+use ash_typed::{ArrayMethod, Element, Expr, Kind, Method, ObjectType, Target, nodes};
+use ash_typing::{Callable, Rule, Ty};
+use std::alloc::Global;
+
+/// What the construction of an array by so many arguments takes: at most one, how many elements it
+/// has.
+fn array_parameters<'a>(count: usize) -> Parameters<'a>
+    ensures { parameters_of result ≡ typing.array_parameters count }
+{
+    if count == 0 {
+        Parameters::Nothing
+    } else {
+        Parameters::One(Ty::Integer(Kind::Uint))
+    }
+}
+
+/// The construction of an array by so many arguments.
+pub fn array_built<'a>(of: Element, count: usize) -> Callee<'a>
+    ensures { callee_of result ≡ typing.array_built of count }
+{
+    Callee {
+        target: Callable::Target(Target::Array(of)),
+        result: Ty::Handle(ObjectType::Array(of)),
+        parameters: Some(array_parameters(count)),
+    }
+}
+
+/// The type of the elements, whose name is at this offset.
+pub(crate) fn known_element(at: usize, of: Option<Element>) -> Checking<Element>
+    ensures { Gives (λ e. e) result (typing.known_element at of) }
+{
+    match of {
+        None => Err(broken(Rule::UnknownType, at)),
+        Some(of) => Ok(of),
+    }
+}
+
+/// An index, which is converted to `uint`.
+fn index_in(alloc: Global, index: Typed) -> Checking<Expr>
+    ensures { Gives expr_of result (typing.index_in (typed_of index)) }
+{
+    integer(index.at, index.ty)?;
+    Ok(brought(alloc, Ty::Integer(Kind::Uint), index)?)
+}
+
+fn indexed_at(
+    alloc: Global,
+    array: Typed,
+    index: Typed,
+    ty: Ty,
+    of: Element,
+) -> Checking<Typed>
+    ensures { Gives typed_of result (typing.indexed_at (typed_of array) (typed_of index) ty of) }
+{
+    let index = index_in(alloc, index)?;
+    let tree = nodes::element(alloc, array.tree, index, of)?;
+    Ok(read(array.at, ty, tree))
+}
+
+fn indexed_object(
+    alloc: Global,
+    array: Typed,
+    index: Typed,
+    object: ObjectType,
+) -> Checking<Typed>
+    ensures { Gives typed_of result (typing.indexed_object (typed_of array) (typed_of index) object) }
+{
+    match object {
+        ObjectType::Array(of) => indexed_at(alloc, array, index, ty_of_element(of), of),
+        _ => Err(broken(Rule::TypeMismatch, array.at)),
+    }
+}
+
+/// `array[index]`
+#[tactic(auto, unfolding(ash_typing::specs::Expressions::indexed))]
+pub(crate) fn indexed(alloc: Global, array: Typed, index: Typed) -> Checking<Typed>
+    ensures { Gives typed_of result (typing.indexed (typed_of array) array.ty (typed_of index)) }
+{
+    match array.ty {
+        Ty::Object(object) | Ty::Handle(object) => indexed_object(alloc, array, index, object),
+        Ty::Unknown => indexed_at(alloc, array, index, Ty::Unknown, Element::Bool),
+        _ => Err(broken(Rule::TypeMismatch, array.at)),
+    }
+}
+
+/// The method of arrays that has this name.
+fn array_method(name: &str) -> Option<ArrayMethod>
+    ensures { result ≡ find (environment.is_array_method name.now) (arrays.Length ∷ arrays.Resize ∷ arrays.InsertLast ∷ arrays.RemoveLast ∷ arrays.IsEmpty ∷ []) }
+{
+    if name == "length" {
+        Some(ArrayMethod::Length)
+    } else if name == "resize" {
+        Some(ArrayMethod::Resize)
+    } else if name == "insertLast" {
+        Some(ArrayMethod::InsertLast)
+    } else if name == "removeLast" {
+        Some(ArrayMethod::RemoveLast)
+    } else if name == "isEmpty" {
+        Some(ArrayMethod::IsEmpty)
+    } else {
+        None
+    }
+}
+
+/// A method of arrays whose elements are of a type, as it is called.
+fn array_method_of<'a>(of: Element, method: ArrayMethod) -> Invoked<'a>
+    ensures { invoked_of result ≡ environment.array_method_of of method }
+{
+    let (result, parameters) = match method {
+        ArrayMethod::Length => (Ty::Integer(Kind::Uint), Parameters::Nothing),
+        ArrayMethod::Resize => (Ty::Void, Parameters::One(Ty::Integer(Kind::Uint))),
+        ArrayMethod::InsertLast => (Ty::Void, Parameters::One(ty_of_element(of))),
+        ArrayMethod::RemoveLast => (Ty::Void, Parameters::Nothing),
+        ArrayMethod::IsEmpty => (Ty::Bool, Parameters::Nothing),
+    };
+    Invoked {
+        method: Method::Array(method),
+        result,
+        parameters,
+    }
+}
+
+/// A method of an array, as it is called.
+#[tactic(auto, unfolding(ash_typing::specs::Environment::method_of_array))]
+pub(crate) fn method_of_array<'a>(of: Element, name: &str) -> Option<Invoked<'a>>
+    ensures { option_map invoked_of result ≡ environment.method_of_array of name.now }
+{
+    Some(array_method_of(of, array_method(name)?))
+}

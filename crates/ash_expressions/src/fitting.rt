@@ -1,0 +1,67 @@
+//! What may be stored in a variable.
+
+ghost use Rattle.std.specs.Prelude.{◌≡◌, map};
+ghost use Rattle.ash_typing.specs.Fitting as fitting;
+ghost use Rattle.ash_expressions.specs.Views.{class_of};
+
+use crate::environment::Class;
+use crate::types::is_same_object;
+use ash_typed::ObjectType;
+use ash_typing::Ty;
+
+fn has_interface(interface: usize, class: &Class) -> bool
+    ensures { result ≡ fitting.has_interface interface (class_of class.now) }
+{
+    for listed in &class.interfaces {
+        if interface == *listed {
+            return true;
+        }
+    }
+    false
+}
+
+/// Whether the class of this place lists an interface.
+#[tactic(auto, unfolding(ash_typing::specs::Fitting::lists))]
+fn lists(classes: &[Class], class: usize, interface: usize) -> bool
+    ensures { result ≡ fitting.lists (map class_of classes.now) class interface }
+{
+    match classes.get(class) {
+        Some(class) => has_interface(interface, class),
+        None => false,
+    }
+}
+
+/// Whether an object of the second type is one of the first.
+fn is_of(classes: &[Class], to: ObjectType, of: ObjectType) -> bool
+    ensures { result ≡ fitting.is_of (map class_of classes.now) to of }
+{
+    match (to, of) {
+        (ObjectType::Interface(interface), ObjectType::Class(class)) => {
+            lists(classes, class, interface)
+        }
+        _ => is_same_object(to, of),
+    }
+}
+
+fn fits_object(classes: &[Class], object: ObjectType, of: Ty) -> bool
+    ensures { result ≡ fitting.fits_object (map class_of classes.now) object of }
+{
+    match of {
+        Ty::Object(other) | Ty::Handle(other) => is_of(classes, object, other),
+        Ty::Null | Ty::Unknown => true,
+        _ => false,
+    }
+}
+
+/// Whether a value of the second type may be stored in a variable of the first.
+pub(crate) fn fits(classes: &[Class], to: Ty, of: Ty) -> bool
+    ensures { result ≡ fitting.fits (map class_of classes.now) to of }
+{
+    match to {
+        Ty::Unknown => !matches!(of, Ty::Void),
+        Ty::Bool => matches!(of, Ty::Bool | Ty::Unknown),
+        Ty::Integer(_) => matches!(of, Ty::Integer(_) | Ty::Unknown),
+        Ty::Object(object) | Ty::Handle(object) => fits_object(classes, object, of),
+        _ => false,
+    }
+}
