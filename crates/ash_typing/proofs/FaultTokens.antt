@@ -55,7 +55,7 @@ abbrev mutual
   ExprIn script (written.Call p text es) = HasToken script (name text) p.at × ExprsIn script es
   ExprIn script (written.Brackets p e) = HasStart script p.at × ExprIn script e
   ExprIn script (written.Convert p to e) = HasStart script p.at × ExprIn script e
-  ExprIn script (written.NewArray p of es) = HasStart script p.at × ElementIn script of × ExprsIn script es
+  ExprIn script (written.NewArray p of es) = HasToken script (reserved words.Array) p.at × ElementIn script of × ExprsIn script es
   ExprIn script (written.Cast p to e) = HasStart script p.at × TypeNameIn script to × ExprIn script e
   ExprIn script (written.Postfix p e ss) = HasStart script p.at × ExprIn script e × SuffixesIn script ss
   ExprIn script (written.Unary p op e) = HasStart script p.at × ExprIn script e
@@ -96,7 +96,7 @@ place_start script (written.Name p text) h = (name text, h, refl)
 place_start script (written.Call p text es) h = (name text, h.0, refl)
 place_start script (written.Brackets p e) h = h.0
 place_start script (written.Convert p to e) h = h.0
-place_start script (written.NewArray p of es) h = h.0
+place_start script (written.NewArray p of es) h = (reserved words.Array, h.0, refl)
 place_start script (written.Cast p to e) h = h.0
 place_start script (written.Postfix p e ss) h = h.0
 place_start script (written.Unary p op e) h = h.0
