@@ -25,7 +25,7 @@ use ash_untyped::uses_untyped;
 use std::alloc::{AllocError, Global};
 
 /// A script that was checked.
-#[derive(Debug, Drop)]
+#[derive(Drop)]
 pub struct Checked {
     /// What the script declares, typed.
     pub module: Module,

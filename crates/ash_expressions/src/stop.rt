@@ -8,7 +8,7 @@ use ash_typing::{Fault, Rule};
 use std::alloc::{AllocError, AllocFailed};
 
 /// Why checking stops.
-#[derive(Clone, Copy, Debug)]
+#[derive(Clone, Copy)]
 pub enum Stop {
     /// A rule of typing is broken.
     Fault(Fault),

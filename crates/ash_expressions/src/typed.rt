@@ -16,7 +16,7 @@ use ash_typing::{Form, Rule, Sort, Ty};
 use std::alloc::{AllocError, Global};
 
 /// A typed expression, with the offset of its first token and what it is by itself.
-#[derive(Debug, Drop)]
+#[derive(Drop)]
 pub struct Typed {
     pub at: usize,
     pub ty: Ty,

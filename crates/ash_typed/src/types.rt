@@ -1,7 +1,7 @@
 //! Types of variables (AngelScript manual, "Data types").
 
 /// An integer type.
-#[derive(Clone, Copy, Debug, PartialEq, Eq)]
+#[derive(Clone, Copy, Debug)]
 pub enum Kind {
     /// `int`: 32 bits, signed
     Int,
@@ -14,7 +14,7 @@ pub enum Kind {
 }
 
 /// What the elements of an array are of.
-#[derive(Clone, Copy, Debug, PartialEq, Eq)]
+#[derive(Clone, Copy, Debug)]
 pub enum Element {
     Bool,
     Integer(Kind),
@@ -27,7 +27,7 @@ pub enum Element {
 }
 
 /// What an object is of.
-#[derive(Clone, Copy, Debug, PartialEq, Eq)]
+#[derive(Clone, Copy, Debug)]
 pub enum ObjectType {
     /// A class of the module, by its place among its classes.
     Class(usize),
@@ -40,7 +40,7 @@ pub enum ObjectType {
 }
 
 /// The type of a variable, a parameter or a field, and of what a function gives.
-#[derive(Clone, Copy, Debug, PartialEq, Eq)]
+#[derive(Clone, Copy)]
 pub enum VarType {
     Bool,
     Integer(Kind),

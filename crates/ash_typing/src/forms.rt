@@ -3,7 +3,7 @@
 use ash_typed::{Calculator, Comparator, Lazy, Target, VarType};
 
 /// What an operator between two operands is of.
-#[derive(Clone, Copy, Debug, PartialEq, Eq)]
+#[derive(Clone, Copy)]
 pub enum Sort {
     /// `+ - * / % & ^ |`
     Arithmetic,
@@ -20,7 +20,7 @@ pub enum Sort {
 }
 
 /// What an operator between two operands is in a typed tree.
-#[derive(Clone, Copy, Debug, PartialEq, Eq)]
+#[derive(Clone, Copy)]
 pub enum Operator {
     Calculate(Calculator),
     Compare(Comparator),
@@ -28,7 +28,7 @@ pub enum Operator {
 }
 
 /// What an expression is by itself.
-#[derive(Clone, Copy, Debug, PartialEq, Eq)]
+#[derive(Clone, Copy)]
 pub enum Form {
     /// A number, which takes the type of the other operand; in brackets it is a value.
     Number(u64),
@@ -40,7 +40,7 @@ pub enum Form {
 }
 
 /// What a name before brackets stands for.
-#[derive(Clone, Copy, Debug, PartialEq, Eq)]
+#[derive(Clone, Copy)]
 pub enum Callable {
     /// A method of the object that runs, which is of the class of this place, with what it gives, where it gives a
     /// value.

@@ -3,7 +3,7 @@
 use ash_typed::{Kind, ObjectType};
 
 /// The type of a variable or of an expression.
-#[derive(Clone, Copy, Debug, PartialEq, Eq)]
+#[derive(Clone, Copy, Debug)]
 pub enum Ty {
     Bool,
     Integer(Kind),

@@ -5,13 +5,13 @@ use crate::tree::statements::{Stmt, Vars};
 use crate::tree::types::{Type, TypeName};
 
 /// A script: what it declares, in order.
-#[derive(Debug, PartialEq, Eq, Drop)]
+#[derive(Debug, PartialEq, Drop)]
 pub struct Module {
     pub items: Vec<Item>,
 }
 
 /// A declaration of a module.
-#[derive(Debug, PartialEq, Eq, Drop)]
+#[derive(Debug, PartialEq, Drop)]
 pub enum Item {
     Class(Class),
     Interface(Interface),
@@ -20,7 +20,7 @@ pub enum Item {
 }
 
 /// A class, at its name, with the interfaces that it lists.
-#[derive(Debug, PartialEq, Eq, Drop)]
+#[derive(Debug, PartialEq, Drop)]
 pub struct Class {
     pub place: Place,
     pub name: String,
@@ -29,7 +29,7 @@ pub struct Class {
 }
 
 /// An interface, at its name.
-#[derive(Debug, PartialEq, Eq, Drop)]
+#[derive(Debug, PartialEq, Drop)]
 pub struct Interface {
     pub place: Place,
     pub name: String,
@@ -37,7 +37,7 @@ pub struct Interface {
 }
 
 /// A method that an interface declares, at its name. Without a result type it is `void`.
-#[derive(Debug, PartialEq, Eq, Drop)]
+#[derive(Debug, PartialEq, Drop)]
 pub struct InterfaceMethod {
     pub place: Place,
     pub result: Option<Type>,
@@ -46,7 +46,7 @@ pub struct InterfaceMethod {
 }
 
 /// What a class declares.
-#[derive(Debug, PartialEq, Eq, Drop)]
+#[derive(Debug, PartialEq, Drop)]
 pub enum Member {
     Function(Function),
     Vars(Vars),
@@ -54,7 +54,7 @@ pub enum Member {
 }
 
 /// A function, at its name. Without a result type it is `void`.
-#[derive(Debug, PartialEq, Eq, Drop)]
+#[derive(Debug, PartialEq, Drop)]
 pub struct Function {
     pub place: Place,
     pub result: Option<Type>,
@@ -64,7 +64,7 @@ pub struct Function {
 }
 
 /// `name(parameters) { body }` in a class, at the name.
-#[derive(Debug, PartialEq, Eq, Drop)]
+#[derive(Debug, PartialEq, Drop)]
 pub struct Constructor {
     pub place: Place,
     pub name: String,
@@ -73,7 +73,7 @@ pub struct Constructor {
 }
 
 /// A parameter of a function, at its name.
-#[derive(Debug, PartialEq, Eq, Drop)]
+#[derive(Debug, PartialEq, Drop)]
 pub struct Parameter {
     pub of: Type,
     pub place: Place,
@@ -81,14 +81,14 @@ pub struct Parameter {
 }
 
 /// What a host registers.
-#[derive(Debug, PartialEq, Eq, Drop)]
+#[derive(Debug, Drop)]
 pub enum Declaration {
     Function(Signature),
     Property(Property),
 }
 
 /// A function without a body, at its name. Names of parameters are not kept.
-#[derive(Debug, PartialEq, Eq, Drop)]
+#[derive(Debug, Drop)]
 pub struct Signature {
     pub place: Place,
     pub result: Option<Type>,
@@ -97,7 +97,7 @@ pub struct Signature {
 }
 
 /// A property, at its name.
-#[derive(Debug, PartialEq, Eq, Drop)]
+#[derive(Debug, Drop)]
 pub struct Property {
     pub place: Place,
     pub of: Type,

@@ -18,14 +18,14 @@ pub enum Primitive {
 }
 
 /// A type, at its first token.
-#[derive(Debug, PartialEq, Eq, Drop)]
+#[derive(Debug, PartialEq, Drop)]
 pub struct Type {
     pub place: Place,
     pub kind: TypeKind,
 }
 
 /// What a type is.
-#[derive(Debug, PartialEq, Eq, Drop)]
+#[derive(Debug, PartialEq, Drop)]
 pub enum TypeKind {
     Primitive(Primitive),
     /// A class, an interface or a registered type, by its name.
@@ -39,14 +39,14 @@ pub enum TypeKind {
 }
 
 /// The type of an array's elements, at its first token.
-#[derive(Debug, PartialEq, Eq, Drop)]
+#[derive(Debug, PartialEq, Drop)]
 pub struct Element {
     pub place: Place,
     pub kind: ElementKind,
 }
 
 /// What the elements of an array are.
-#[derive(Debug, PartialEq, Eq, Drop)]
+#[derive(Debug, PartialEq, Drop)]
 pub enum ElementKind {
     Primitive(Primitive),
     /// Handles of a class, an interface or a registered type: `name@`.
@@ -54,7 +54,7 @@ pub enum ElementKind {
 }
 
 /// The name of a class or an interface where a script refers to it.
-#[derive(Debug, PartialEq, Eq, Drop)]
+#[derive(Debug, PartialEq, Drop)]
 pub struct TypeName {
     pub place: Place,
     pub name: String,

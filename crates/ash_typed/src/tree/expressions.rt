@@ -10,7 +10,7 @@ use crate::types::{Element, Kind, ObjectType, VarType};
 
 /// A typed expression.
 #[cycle(typed_expressions)]
-#[derive(Debug, Drop)]
+#[derive(Drop)]
 pub enum Expr {
     /// A number of an integer type that holds it.
     Number {
@@ -85,7 +85,7 @@ pub enum Expr {
 
 /// What can be written to.
 #[cycle(typed_expressions)]
-#[derive(Debug, Drop)]
+#[derive(Drop)]
 pub enum Place {
     Variable(Variable),
     Member { object: Box<Expr>, member: Member },
@@ -99,7 +99,7 @@ pub enum Place {
 
 /// What is made of an object.
 #[cycle(typed_expressions)]
-#[derive(Debug, Drop)]
+#[derive(Drop)]
 pub enum Link {
     /// What it holds.
     Member(Member),
@@ -115,7 +115,7 @@ pub enum Link {
 
 /// An operator with its right operand. What stands before it is converted first, where a conversion is named.
 #[cycle(typed_expressions)]
-#[derive(Debug, Drop)]
+#[derive(Drop)]
 pub struct Operand {
     pub before: Option<Conversion>,
     pub operation: Operation,

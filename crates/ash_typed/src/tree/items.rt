@@ -4,7 +4,7 @@ use crate::tree::statements::{Initialization, Stmt};
 use crate::types::VarType;
 
 /// A module: what it declares, each in source order.
-#[derive(Debug, Drop)]
+#[derive(Drop)]
 pub struct Module {
     pub interfaces: Vec<Interface>,
     pub classes: Vec<Class>,
@@ -13,14 +13,14 @@ pub struct Module {
 }
 
 /// Variables of a module that are declared together, with the line of their first token.
-#[derive(Debug, Drop)]
+#[derive(Drop)]
 pub struct Variables {
     pub line: usize,
     pub initializations: Vec<Initialization>,
 }
 
 /// An interface, with the line of its name.
-#[derive(Debug, Drop)]
+#[derive(Drop)]
 pub struct Interface {
     pub name: String,
     pub line: usize,
@@ -30,7 +30,7 @@ pub struct Interface {
 }
 
 /// A method that an interface declares, with what it gives, where it gives a value.
-#[derive(Debug, Drop)]
+#[derive(Drop)]
 pub struct Signature {
     pub name: String,
     pub result: Option<VarType>,
@@ -38,14 +38,14 @@ pub struct Signature {
 }
 
 /// An interface that a class lists, by its place, and the class's method for each of the interface's, by its place.
-#[derive(Debug, Drop)]
+#[derive(Drop)]
 pub struct Implementation {
     pub interface: usize,
     pub methods: Vec<usize>,
 }
 
 /// A class, with the line of its name. Its fields take no tick, so that they have no line.
-#[derive(Debug, Drop)]
+#[derive(Drop)]
 pub struct Class {
     pub name: String,
     pub line: usize,
@@ -58,7 +58,7 @@ pub struct Class {
 
 /// A function, with the line of its name and what it gives, where it gives a value. Its parameters are its first
 /// locals.
-#[derive(Debug, Drop)]
+#[derive(Drop)]
 pub struct Function {
     pub name: String,
     pub line: usize,

@@ -3,7 +3,7 @@
 use crate::types::{Element, Kind, VarType};
 
 /// A variable, with its type.
-#[derive(Clone, Copy, Debug, PartialEq, Eq)]
+#[derive(Clone, Copy)]
 pub enum Variable {
     /// A local or a parameter, by its slot: how many locals its function has before it. The parameters are the first.
     Local { slot: usize, of: VarType },
@@ -12,7 +12,7 @@ pub enum Variable {
 }
 
 /// What an object holds.
-#[derive(Clone, Copy, Debug, PartialEq, Eq)]
+#[derive(Clone, Copy)]
 pub enum Member {
     /// A field of a class, by the place of the class and its own among the fields, with its type.
     Field {
@@ -28,7 +28,7 @@ pub enum Member {
 }
 
 /// A method of an object. What gives no value has no result.
-#[derive(Clone, Copy, Debug, PartialEq, Eq)]
+#[derive(Clone, Copy)]
 pub enum Method {
     /// A method of a class, by their places, with what it gives.
     Script {
@@ -52,7 +52,7 @@ pub enum Method {
 }
 
 /// A method of arrays (AngelScript manual, "Arrays").
-#[derive(Clone, Copy, Debug, PartialEq, Eq)]
+#[derive(Clone, Copy)]
 pub enum ArrayMethod {
     /// `uint length()`
     Length,
@@ -67,7 +67,7 @@ pub enum ArrayMethod {
 }
 
 /// What a call calls, but for methods. What gives no value has no result.
-#[derive(Clone, Copy, Debug, PartialEq, Eq)]
+#[derive(Clone, Copy)]
 pub enum Target {
     /// A function of the module, by its place among them, with what it gives.
     Function {
@@ -89,7 +89,7 @@ pub enum Target {
 }
 
 /// What is compared: both operands are of it.
-#[derive(Clone, Copy, Debug, PartialEq, Eq)]
+#[derive(Clone, Copy, Debug)]
 pub enum Operands {
     Integers(Kind),
     Bools,
@@ -98,7 +98,7 @@ pub enum Operands {
 }
 
 /// An operator that makes an integer of two.
-#[derive(Clone, Copy, Debug, PartialEq, Eq)]
+#[derive(Clone, Copy)]
 pub enum Calculator {
     /// `*`
     Multiply,
@@ -126,14 +126,14 @@ pub enum Calculator {
 
 /// The calculation of an integer of this type. Both operands are of it, but for the count of a shift, which is of any
 /// integer type.
-#[derive(Clone, Copy, Debug, PartialEq, Eq)]
+#[derive(Clone, Copy)]
 pub struct Calculation {
     pub operator: Calculator,
     pub of: Kind,
 }
 
 /// An operator that makes a truth value of two operands, and evaluates both.
-#[derive(Clone, Copy, Debug, PartialEq, Eq)]
+#[derive(Clone, Copy)]
 pub enum Comparator {
     /// `<`
     Less,
@@ -156,14 +156,14 @@ pub enum Comparator {
 }
 
 /// What is made of two operands.
-#[derive(Clone, Copy, Debug, PartialEq, Eq)]
+#[derive(Clone, Copy)]
 pub enum Operation {
     Calculate(Calculation),
     Compare(Comparator, Operands),
 }
 
 /// An operator whose right operand is evaluated only where the left one leaves open what comes out.
-#[derive(Clone, Copy, Debug, PartialEq, Eq)]
+#[derive(Clone, Copy, PartialEq)]
 pub enum Lazy {
     /// `&&`
     And,
@@ -172,7 +172,7 @@ pub enum Lazy {
 }
 
 /// An operation before its operand.
-#[derive(Clone, Copy, Debug, PartialEq, Eq)]
+#[derive(Clone, Copy)]
 pub enum Change {
     /// Unary `-`.
     Negate(Kind),
@@ -183,14 +183,14 @@ pub enum Change {
 }
 
 /// A conversion among integer types.
-#[derive(Clone, Copy, Debug, PartialEq, Eq)]
+#[derive(Clone, Copy)]
 pub struct Conversion {
     pub from: Kind,
     pub to: Kind,
 }
 
 /// What `++` or `--` does to a place, and which of its values it gives.
-#[derive(Clone, Copy, Debug, PartialEq, Eq)]
+#[derive(Clone, Copy)]
 pub enum Step {
     /// `++p`
     Increment,

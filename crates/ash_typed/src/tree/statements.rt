@@ -7,7 +7,7 @@ use ash_tree::Label;
 
 /// A variable that is declared: its name, its type, and what it begins with; where nothing is written, with zero, `false`
 /// or null.
-#[derive(Debug, Drop)]
+#[derive(Drop)]
 pub struct Initialization {
     pub name: String,
     pub of: VarType,
@@ -15,7 +15,7 @@ pub struct Initialization {
 }
 
 /// The head of a `for`. It takes no tick.
-#[derive(Debug, Drop)]
+#[derive(Drop)]
 pub enum Head {
     Empty,
     /// Variables, which the loop inside sees.
@@ -24,7 +24,7 @@ pub enum Head {
 }
 
 /// When the condition of a loop is evaluated.
-#[derive(Clone, Copy, Debug, PartialEq, Eq)]
+#[derive(Clone, Copy)]
 pub enum Test {
     /// Before each turn.
     First,
@@ -34,7 +34,7 @@ pub enum Test {
 
 /// A statement, with the line of its first token.
 #[cycle(typed_statements)]
-#[derive(Debug, Drop)]
+#[derive(Drop)]
 pub struct Stmt {
     pub line: usize,
     pub kind: StmtKind,
@@ -42,7 +42,7 @@ pub struct Stmt {
 
 /// What a statement does.
 #[cycle(typed_statements)]
-#[derive(Debug, Drop)]
+#[derive(Drop)]
 pub enum StmtKind {
     Empty,
     /// Variables are added to those of the block, in order.
@@ -74,7 +74,7 @@ pub enum StmtKind {
 
 /// What is repeated: the body, then the steps. An absent condition is `true`.
 #[cycle(typed_statements)]
-#[derive(Debug, Drop)]
+#[derive(Drop)]
 pub struct Loop {
     pub test: Test,
     pub condition: Option<Expr>,
@@ -84,7 +84,7 @@ pub struct Loop {
 
 /// A label of a `switch`, with the statements behind it.
 #[cycle(typed_statements)]
-#[derive(Debug, Drop)]
+#[derive(Drop)]
 pub struct Case {
     pub label: Label,
     pub body: Vec<Stmt>,
