@@ -24,6 +24,8 @@ checks 0 "ok" "int n = 2; int f(int k) { n += k; return n; }"
 checks 0 "ok" "bool b = true; int64 n = 3; class A { int k; }"
 checks 0 "ok" "class Box { Counter@ c; }"
 checks 0 "ok" "int f() { for (;;) { } return 1; }"
+checks 0 "ok" "interface I { void m(); } class A : I { void m() { } } I@ i = A(); A@ a = cast<A>(i);"
+checks 0 "ok" "array<int> a(3); int f(int i) { return a[i]; }"
 checks 1 "refused 101 BadCharacter 4" 'int "'
 checks 1 "refused 101 BadCharacter 2" 'ab\377\376'
 checks 1 "refused 101 BadCharacter 6" '// \303\244 \300'
@@ -32,21 +34,23 @@ checks 1 "refused 103 NumberTooLarge 11" 'uint64 x = 18446744073709551616;'
 checks 1 "refused 104 Unexpected 7" 'int f( {'
 checks 1 "refused 105 Unsupported float 0" 'float x;'
 checks 1 "refused 104 Unexpected 6" 'array<array<int>> a;'
-checks 1 "refused 199 NotYet" 'interface I { void m(); } class A : I { void m() { } }'
-checks 1 "refused 199 NotYet" 'class A { } A@ a = cast<A>(null);'
-checks 1 "refused 199 NotYet" 'int n = m; array<int> a(3);'
-checks 1 "refused 199 NotYet" 'void f() { a[0]; }'
 checks 1 "refused 301 UnknownName 11" 'void f() { x = 1; }'
 checks 1 "refused 302 UnknownType 0" 'Foo x;'
+checks 1 "refused 302 UnknownType 10" 'class A : I { }'
 checks 1 "refused 303 NameTaken 11" 'int a; int a;'
 checks 1 "refused 303 NameTaken 4" 'int tally = 1;'
 checks 1 "refused 304 TypeMismatch 9" 'bool b = 1;'
+checks 1 "refused 304 TypeMismatch 35" 'interface I { int v(); } class A : I { }'
+checks 1 "refused 304 TypeMismatch 27" 'class A { } A@ a = cast<A>(null);'
+checks 1 "refused 304 TypeMismatch 24" 'array<int> a; int n = a[true];'
 checks 1 "refused 305 WrongArgumentCount 28" 'void g(int k) {} void f() { g(); }'
 checks 1 "refused 306 NotAssignable 11" 'void f() { 1 = 2; }'
 checks 1 "refused 307 NoReturn 4" 'int f() { }'
 checks 1 "refused 308 Misplaced 11" 'void f() { break; }'
 checks 1 "refused 309 CyclicType B" 'class A { B@ b; } class B { B@ n; }'
 checks 1 "refused 309 CyclicType A B" 'class A { B b; } class B { A@ a; }'
+checks 1 "refused 309 CyclicType A" 'interface I { void g(); } class A : I { I@ n; void g() {} }'
+checks 1 "refused 309 CyclicType A" 'class A { array<A@> all; }'
 checks 1 "refused 312 ConstantOutOfRange 34" 'void f(int k) { switch (k) { case 2147483648: } }'
 checks 1 "refused 313 DuplicateCase 42" 'void f(int k) { switch (k) { case 1: case 1: } }'
 

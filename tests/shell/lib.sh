@@ -54,11 +54,11 @@ put() {
 }
 
 # is_wanted WANTED STATUS OUTPUT: a check that ends with this status and prints this finds what is wanted: `ok`, a fault, or
-# `read`, which is of a script that can be parsed, whatever is found of its types or can't be run so far
+# `read`, which is of a script that can be parsed, whatever is found of its types
 is_wanted() {
     case $1 in
         ok) [ "$2/$3" = "0/ok"$'\n' ] ;;
-        read) [[ $2/$3 = "0/ok"$'\n' || $2/$3 =~ ^1/refused\ (199|3[01][0-9])\ [A-Za-z0-9\ ]+$'\n'$ ]] ;;
+        read) [[ $2/$3 = "0/ok"$'\n' || $2/$3 =~ ^1/refused\ 3[01][0-9]\ [A-Za-z0-9\ ]+$'\n'$ ]] ;;
         *) [ "$2/$3" = "1/refused $1"$'\n' ] ;;
     esac
 }

@@ -41,7 +41,7 @@ printf -v source '%*s' 65536 ''
 loaded "65,536 blanks" runs "$source"
 loaded "65,537 blanks" "107 SourceTooLong" "$source "
 
-# The script in docs/LANGUAGE.md that is read and not typed so far.
+# The script in docs/LANGUAGE.md with an interface, an array, an index and a cast.
 IFS= read -r -d '' source << 'END'
 interface Sink {
     void put(int x);
@@ -60,4 +60,4 @@ int first() {
     return log.all[0];
 }
 END
-loaded "a script with arrays and interfaces" "199 NotYet" "$source"
+loaded "a script with an interface, an array, an index and a cast" sound "$source"

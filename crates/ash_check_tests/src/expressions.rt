@@ -3,11 +3,13 @@
 
 use crate::sources::{Question, check_rows, printed, tree_of};
 use ash_check::CheckFault;
-use ash_expressions::{Class, Declared, Environment, Function, Heads, Typed, expression};
+use ash_expressions::{
+    Class, Declared, Environment, Function, Heads, Interface, Typed, expression,
+};
 use ash_registrations::Registrations;
 use ash_tree as written;
 use ash_tree::{Initializer, Item, Module};
-use ash_typed::{Expr, Kind, ObjectType, Operands, Operation};
+use ash_typed::{Element, Expr, Kind, ObjectType, Operands, Operation};
 use ash_typing::Ty;
 use std::alloc::{AllocError, Global};
 use std::fmt::Debug;
@@ -16,18 +18,21 @@ const INT: Ty = Ty::Integer(Kind::Int);
 
 const NODE: Ty = Ty::Handle(ObjectType::Class(0));
 
+const SHAPE: Ty = Ty::Handle(ObjectType::Interface(0));
+
 /// A name, and its type.
 type Named = (&'static str, Ty);
 
 /// A function or a method: its name, its result and its parameters.
 type Head = (&'static str, Ty, &'static [Ty]);
 
-// `class Node { int v; Node@ next; Node(int k) {} int get(int k) {..} }`
+// `interface Shape { int get(int k); }`, and `class Node : Shape { int v; Node@ next; Node(int k) {} int get(int k) {..} }`
 const FIELDS: &[Named] = &[("v", INT), ("next", NODE)];
 
 const METHODS: &[Head] = &[("get", INT, &[INT])];
 
-// `int a; uint u; int64 l; bool b; Node@ h; Node o(1); void g(int k, bool c) {}` beside the class.
+// `int a; uint u; int64 l; bool b; Node@ h; Node o(1); Shape@ s; array<int> r; array<Node@>@ t; void g(int k, bool c) {}`
+// beside these two.
 const GLOBALS: &[Named] = &[
     ("a", INT),
     ("u", Ty::Integer(Kind::Uint)),
@@ -35,6 +40,12 @@ const GLOBALS: &[Named] = &[
     ("b", Ty::Bool),
     ("h", NODE),
     ("o", Ty::Object(ObjectType::Class(0))),
+    ("s", SHAPE),
+    (
+        "r",
+        Ty::Object(ObjectType::Array(Element::Integer(Kind::Int))),
+    ),
+    ("t", Ty::Handle(ObjectType::Array(Element::Class(0)))),
 ];
 
 const FUNCTIONS: &[Head] = &[("g", Ty::Void, &[INT, Ty::Bool])];
@@ -67,14 +78,27 @@ fn functions(alloc: Global, heads: &[Head]) -> Result<Vec<Function<'static>>, Al
     Ok(found)
 }
 
+/// The interface alone.
+fn interfaces(alloc: Global) -> Result<Vec<Interface<'static>>, AllocError> {
+    let methods = functions(alloc, METHODS)?;
+    let mut found = Vec::new(alloc);
+    found.push(Interface {
+        name: "Shape",
+        methods,
+    })?;
+    Ok(found)
+}
+
 /// The class alone.
 fn classes(alloc: Global) -> Result<Vec<Class<'static>>, AllocError> {
+    let interfaces = Vec::from_slice(alloc, &[0])?;
     let fields = declared(alloc, FIELDS)?;
     let methods = functions(alloc, METHODS)?;
     let parameters = Vec::from_slice(alloc, &[INT])?;
     let mut found = Vec::new(alloc);
     found.push(Class {
         name: "Node",
+        interfaces,
         fields,
         methods,
         parameters,
@@ -82,12 +106,13 @@ fn classes(alloc: Global) -> Result<Vec<Class<'static>>, AllocError> {
     Ok(found)
 }
 
-/// The class, the function and the globals.
+/// The interface, the class, the function and the globals.
 fn heads(alloc: Global) -> Result<Heads<'static>, AllocError> {
+    let interfaces = interfaces(alloc)?;
     let classes = classes(alloc)?;
     let functions = functions(alloc, FUNCTIONS)?;
     let globals = declared(alloc, GLOBALS)?;
-    Heads::new(alloc, classes, functions, globals)
+    Heads::new(alloc, interfaces, classes, functions, globals)
 }
 
 /// A value as it is printed for programmers, or nothing where memory is refused.
@@ -213,9 +238,55 @@ const TYPES_OF_EXPRESSIONS: &str = "
     Bool | int z = bool(b);
     ";
 
+const TYPES_BY_INTERFACES: &str = "
+    Handle(Interface(0)) | int z = @s;
+    Handle(Interface(0)) | int z = @s = h;
+    Handle(Interface(0)) | int z = @s = o;
+    Handle(Interface(0)) | int z = b ? s : null;
+    Integer(Int) | int z = s.get(l);
+    Bool | int z = s is h;
+    Bool | int z = r !is s;
+    Handle(Class(0)) | int z = cast<Node>(s);
+    Handle(Interface(0)) | int z = cast<Shape>(o);
+    Handle(Class(0)) | int z = cast<Node>(r);
+    Integer(Int) | int z = cast<Node>(s).v++;
+    ";
+
+const TYPES_OF_ARRAYS: &str = "
+    Handle(Array(Integer(Int))) | int z = @r;
+    Handle(Array(Class(0))) | int z = @t = null;
+    Handle(Array(Integer(Int))) | int z = array<int32>();
+    Handle(Array(Bool)) | int z = array<bool>(l);
+    Handle(Array(Class(0))) | int z = b ? t : array<Node@>();
+    Handle(Array(Interface(0))) | int z = array<Shape@>(2);
+    Integer(Uint) | int z = r.length();
+    Void | int z = r.resize(a);
+    Void | int z = r.insertLast(l);
+    Void | int z = t.insertLast(o);
+    Void | int z = t.removeLast();
+    Bool | int z = t.isEmpty();
+    Integer(Int) | int z = r[l];
+    Integer(Int) | int z = r[0] += l;
+    Integer(Int) | int z = r[r[0]]++;
+    Handle(Class(0)) | int z = t[u];
+    Handle(Class(0)) | int z = @t[0] = o;
+    Integer(Int) | int z = t[0].next.v;
+    Bool | int z = array<bool>(1)[0];
+    ";
+
 #[test]
 fn types_of_expressions(rt: HostRuntime) {
     check_rows(&rt, rt.alloc(), Question::Type, TYPES_OF_EXPRESSIONS)
+}
+
+#[test]
+fn types_by_interfaces(rt: HostRuntime) {
+    check_rows(&rt, rt.alloc(), Question::Type, TYPES_BY_INTERFACES)
+}
+
+#[test]
+fn types_of_arrays(rt: HostRuntime) {
+    check_rows(&rt, rt.alloc(), Question::Type, TYPES_OF_ARRAYS)
 }
 
 const FAULTS_OF_EXPRESSIONS: &str = "
@@ -272,6 +343,23 @@ const FAULTS_OF_EXPRESSIONS: &str = "
     304 TypeMismatch 12 | int z = int(b);
     304 TypeMismatch 13 | int z = bool(1);
     306 NotAssignable 8 | int z = int(a) = 1;
+    304 TypeMismatch 13 | int z = @h = s;
+    304 TypeMismatch 16 | int z = b ? h : s;
+    301 UnknownName 10 | int z = s.v;
+    305 WrongArgumentCount 10 | int z = s.get();
+    302 UnknownType 13 | int z = cast<Nope>(h);
+    304 TypeMismatch 19 | int z = cast<Node>(null);
+    302 UnknownType 14 | int z = array<Nope@>();
+    305 WrongArgumentCount 8 | int z = array<int>(1, 2);
+    304 TypeMismatch 19 | int z = array<int>(true);
+    304 TypeMismatch 13 | int z = r is t;
+    301 UnknownName 10 | int z = r.push(1);
+    305 WrongArgumentCount 10 | int z = r.resize();
+    304 TypeMismatch 21 | int z = r.insertLast(b);
+    304 TypeMismatch 10 | int z = r[b];
+    304 TypeMismatch 8 | int z = h[0];
+    306 NotAssignable 8 | int z = t[0] = h;
+    304 TypeMismatch 16 | int z = @t[0] = s;
     ";
 
 #[test]
@@ -309,6 +397,9 @@ const OPERANDS_OF_OPERATORS: &str = "
     Bools | int z = b == b;
     Bools | int z = b && b;
     Handles | int z = h is null;
+    Handles | int z = s is h;
+    Integers(Uint) | int z = r.length() + 5;
+    Integers(Int) | int z = r[0] += u;
     ";
 
 #[test]

@@ -1,4 +1,4 @@
-//! Limits: how many variables and classes a module has, and how many members a class.
+//! Limits: how many variables, classes and interfaces a module has, and how many members a class or an interface.
 
 use crate::sources::{Question, check_answer, check_number, checked};
 use std::alloc::{AllocError, Global};
@@ -117,6 +117,71 @@ fn classes_of_a_module(rt: HostRuntime) -> Result<(), Fail> {
     check_limits(&rt, rt.alloc(), &CLASSES_OF_A_MODULE)
 }
 
+static INTERFACES_OF_A_MODULE: [Row; 6] = [
+    // `interface a000{}` has 16 bytes, and its name is at its tenth.
+    Row {
+        name: "256 interfaces",
+        first: "",
+        count: 256,
+        prefix: "interface a",
+        suffix: "{}",
+        last: "",
+        wanted: "ok",
+    },
+    Row {
+        name: "257 interfaces",
+        first: "",
+        count: 257,
+        prefix: "interface a",
+        suffix: "{}",
+        last: "",
+        wanted: "311 TooMany 4106",
+    },
+    // `interface I{}` has 13 bytes, and `class a000{}` 12.
+    Row {
+        name: "an interface and 255 classes",
+        first: "interface I{}",
+        count: 255,
+        prefix: "class a",
+        suffix: "{}",
+        last: "",
+        wanted: "ok",
+    },
+    Row {
+        name: "an interface and 256 classes",
+        first: "interface I{}",
+        count: 256,
+        prefix: "class a",
+        suffix: "{}",
+        last: "",
+        wanted: "311 TooMany 3079",
+    },
+    Row {
+        name: "256 classes and an interface with a fault",
+        first: "",
+        count: 256,
+        prefix: "class a",
+        suffix: "{}",
+        last: "interface I{X x();}",
+        wanted: "311 TooMany 3082",
+    },
+    // Of the two faults of one name the first in the list of faults is reported.
+    Row {
+        name: "256 interfaces and a class named as the first",
+        first: "",
+        count: 256,
+        prefix: "interface a",
+        suffix: "{}",
+        last: "class a000:X{}",
+        wanted: "303 NameTaken 4102",
+    },
+];
+
+#[test]
+fn interfaces_of_a_module(rt: HostRuntime) -> Result<(), Fail> {
+    check_limits(&rt, rt.alloc(), &INTERFACES_OF_A_MODULE)
+}
+
 static FUNCTIONS_HAVE_NO_LIMIT: [Row; 2] = [
     Row {
         name: "300 functions",
@@ -196,6 +261,42 @@ static MEMBERS_OF_A_CLASS: [Row; 5] = [
 #[test]
 fn members_of_a_class(rt: HostRuntime) -> Result<(), Fail> {
     check_limits(&rt, rt.alloc(), &MEMBERS_OF_A_CLASS)
+}
+
+static METHODS_OF_AN_INTERFACE: [Row; 3] = [
+    // `interface I{` has 12 bytes, and so has each `void m000();`.
+    Row {
+        name: "32 methods of an interface",
+        first: "interface I{",
+        count: 32,
+        prefix: "void m",
+        suffix: "();",
+        last: "}",
+        wanted: "ok",
+    },
+    Row {
+        name: "33 methods of an interface",
+        first: "interface I{",
+        count: 32,
+        prefix: "void m",
+        suffix: "();",
+        last: "void x(X x);}",
+        wanted: "311 TooMany 401",
+    },
+    Row {
+        name: "32 methods of an interface and one named as the first",
+        first: "interface I{",
+        count: 32,
+        prefix: "void m",
+        suffix: "();",
+        last: "void m000();}",
+        wanted: "303 NameTaken 401",
+    },
+];
+
+#[test]
+fn methods_of_an_interface(rt: HostRuntime) -> Result<(), Fail> {
+    check_limits(&rt, rt.alloc(), &METHODS_OF_AN_INTERFACE)
 }
 
 /// So many classes, of which each but the first has a field with a handle of the one before.

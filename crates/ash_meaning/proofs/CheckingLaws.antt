@@ -28,7 +28,7 @@ use Rattle.ash_typing.specs.declared.fault.Rule.{Rule}
 use Rattle.ash_typing.specs.declared.fault.Rule.TheVariants as rules
 use Rattle.ash_typed.specs.Modules.{Module as Typed}
 use Rattle.ash_check.specs.declared.faults.CheckFault.{CheckFault}
-use Rattle.ash_check.specs.Checks.{Told, NotYet, Broken, Cyclic, checked, told_of, IsWhatIsTold, Tells}
+use Rattle.ash_check.specs.Checks.{Told, Broken, Cyclic, checked, told_of, IsWhatIsTold, Tells}
 use Rattle.ash_meaning.specs.Lexing.{IsText, Lexes, lexical}
 use Rattle.ash_meaning.specs.Scanning.{scan, told, lexed}
 use Rattle.ash_meaning.specs.Checking.{Checking, tokens_in, end_by, end_in, syntactic, refusal_at, IsNoScript, broken_at, untyped, of_told, of_check, IsUntypedScript, ChecksTokens, Checks, no_tokens, has_tokens, unless_told, items_checked, script_checked, tokens_checked, checked_on, checked_source, TakesToTell, TakesToCheck}
@@ -138,7 +138,6 @@ takes_rule rules.ConstantOutOfRange at = tt
 takes_rule rules.DuplicateCase at = tt
 
 pub takes_untyped : (why : Told) → TakesToTell (untyped why)
-takes_untyped NotYet = tt
 takes_untyped (Broken fault) = takes_rule fault.rule fault.at
 takes_untyped (Cyclic names) = tt
 

@@ -1,5 +1,5 @@
 -- No script that is typed declares a name that is registered.
-use Rattle.std.proofs.Common.{◌≡◌, ℕ, Bool, true, false, cond, ◌||◌, List, [], ◌∷◌, map, find, is_some, Result, Ok, Err, refl, sym, ◌∙◌, ap, subst}
+use Rattle.std.proofs.Common.{◌≡◌, ℕ, Bool, true, false, cond, ◌||◌, List, [], ◌∷◌, map, find, is_some, Ok, Err, refl, sym, ◌∙◌, ap, subst}
 use Rattle.std.specs.List.{list_any, AllByRecursion}
 use Rattle.std.specs.Str.{bytes_eq}
 use Rattle.ash_registry.specs.Calls.{Call, takes_name}
@@ -11,9 +11,9 @@ use Rattle.ash_typing.specs.Declarations.{Initialization, decl_typed}
 use Rattle.ash_typing.specs.Environment.{Environment}
 use Rattle.ash_typing.specs.Heads.{heads}
 use Rattle.ash_typed.specs.Modules.{Module}
-use Rattle.ash_typing.specs.Items.{Names, Row, Walked, is_taken, untaken, one_more, placed, known_ty, at_type, ty_in, result_typed, with_variable, no_variables, decls_typed, vars_typed, routine_of, routine_typed, one_more_class, class_typed, item_typed, items_typed, seen, nothing, module_typed}
+use Rattle.ash_typing.specs.Items.{Names, Row, Walked, is_taken, untaken, one_more, placed, known_ty, at_type, ty_in, result_typed, with_variable, no_variables, decls_typed, vars_typed, routine_of, routine_typed, room_for_type, class_typed, interface_typed, item_typed, items_typed, seen, nothing, module_typed}
 use Rattle.ash_classes.specs.References.{classes_of}
-use Rattle.ash_check.specs.Checks.{Told, NotYet, checked_by, typed_checked, checked}
+use Rattle.ash_check.specs.Checks.{checked_by, checked}
 use Rattle.ash_meaning.specs.Checking.{IsFree, declared_in, DeclareFreeNames}
 
 bound : {A B : Type 0} (c : Checking A) (f : A → Checking B) (b : B) → (c >>= f) ≡ Ok b → (a : A) × (c ≡ Ok a) × (f a ≡ Ok b)
@@ -66,7 +66,7 @@ decls_free env at of row (d ∷ ds) done e =
 vars_free : (env : Environment) (names : Names) (v : written.Vars) (done : Row) → vars_typed env names v ≡ Ok done → AreFree names.registered (map name_of v.decls) × (done.names.registered ≡ names.registered)
 unfolding vars_typed
 vars_free env names v done e =
-    let h = bound (known_ty (at_type v.of) (ty_in env v.of)) (λ (of : Ty). decls_typed env (at_type v.of) of (record { names = names; variables = no_variables v.of }) v.decls) done e in
+    let h = bound (known_ty v.of (ty_in env v.of)) (λ (of : Ty). decls_typed env (at_type v.of) of (record { names = names; variables = no_variables v.of }) v.decls) done e in
     decls_free env (at_type v.of) h.0 (record { names = names; variables = no_variables v.of }) v.decls done h.2
 
 -- items
@@ -78,14 +78,16 @@ item_free : (env : Environment) (w : Walked) (item : written.Item) (done : Walke
 unfolding item_typed
 item_free env w (written.AClass c) done e =
     let h = bound (untaken w.names c.place.at c.name) _ done e in
-    let g = bound (one_more_class c.place.at _) _ done h.2 in
+    let g = bound (room_for_type c.place.at w.typed) _ done h.2 in
     let k = bound (class_typed env g.0 c) _ done g.2 in
     let free = untaken_free w.names c.place.at c.name h.0 h.1 in
     ((free.0, tt), walked_same _ done k.2 ∙ free.1)
 item_free env w (written.AnInterface i) done e =
     let h = bound (untaken w.names i.place.at i.name) _ done e in
+    let g = bound (room_for_type i.place.at w.typed) _ done h.2 in
+    let k = bound (interface_typed env g.0 i) _ done g.2 in
     let free = untaken_free w.names i.place.at i.name h.0 h.1 in
-    ((free.0, tt), walked_same _ done h.2 ∙ free.1)
+    ((free.0, tt), walked_same _ done k.2 ∙ free.1)
 item_free env w (written.AFunction f) done e =
     let h = bound (result_typed env f.result) _ done e in
     let g = bound (untaken w.names f.place.at f.name) _ done h.2 in
@@ -114,15 +116,7 @@ by_typing : (registered : List Call) (items : List written.Item) (r : Checking M
 by_typing registered items (Ok other) typed is e = module_free registered items other is
 by_typing registered items (Err fault) typed is e = absurd (cc)
 
-by_rules : (registered : List Call) (items : List written.Item) (typed : Module) → typed_checked registered items ≡ Ok typed → DeclareFreeNames registered items
-unfolding typed_checked
-by_rules registered items typed e = by_typing registered items (module_typed registered items) typed refl e
-
-unless_not_yet : (b : Bool) (answer : Result Module Told) (typed : Module) → cond b (Err NotYet) answer ≡ Ok typed → answer ≡ Ok typed
-unless_not_yet true answer typed e = absurd (cc)
-unless_not_yet false answer typed e = e
-
 -- a script that is typed
 pub checked_free : (registered : List Call) (items : List written.Item) (typed : Module) → checked registered items ≡ Ok typed → DeclareFreeNames registered items
 unfolding checked
-checked_free registered items typed e = by_rules registered items typed (unless_not_yet _ (typed_checked registered items) typed e)
+checked_free registered items typed e = by_typing registered items (module_typed registered items) typed refl e

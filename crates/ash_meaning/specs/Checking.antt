@@ -19,7 +19,7 @@ use Rattle.ash_registry.specs.Calls.{Call as Registration, takes_name}
 use Rattle.ash_typing.specs.declared.fault.Rule.{Rule}
 use Rattle.ash_typing.specs.declared.fault.Rule.TheVariants as rules
 use Rattle.ash_typed.specs.Modules.{Module}
-use Rattle.ash_check.specs.Checks.{Told, NotYet, Broken, Cyclic, checked, told_of}
+use Rattle.ash_check.specs.Checks.{Told, Broken, Cyclic, checked, told_of}
 use Rattle.ash_check.specs.declared.faults.CheckFault.{CheckFault}
 use Rattle.ash_meaning.specs.Lexing.{Lexes}
 use Rattle.ash_meaning.specs.Scanning.{lexed}
@@ -84,7 +84,6 @@ broken_at rules.DuplicateCase at = refusals.DuplicateCase at
 
 -- the refusal that tells what the check of types tells
 abbrev pub untyped : Told → Refusal
-untyped NotYet = refusals.NotYet
 untyped (Broken fault) = broken_at fault.rule fault.at
 untyped (Cyclic names) = refusals.CyclicType names
 

@@ -47,8 +47,8 @@ fn script_with(alloc: Global, registry: &Registry, tokens: &[Token]) -> Result<M
 /// # Errors
 ///
 /// A source is refused for the first of these that holds: it has more than 65,536 bytes, it is no UTF-8, it has a
-/// lexical fault, its tokens are no script or stand too deep, the script uses what is not typed so far, it breaks a rule of
-/// typing, classes of it could form a cycle. Or memory was refused.
+/// lexical fault, its tokens are no script or stand too deep, the script breaks a rule of typing, classes of it could form
+/// a cycle. Or memory was refused.
 pub(crate) fn checked_script(
     alloc: Global,
     registry: &Registry,
@@ -72,9 +72,8 @@ pub(crate) fn checked_script(
 ///
 /// The first of these that holds: `SourceTooLong`; `BadCharacter`, where it is no UTF-8; `BadCharacter`,
 /// `UnclosedComment` or `NumberTooLarge`, the first in the source; `Unexpected`, `Unsupported` or `TooDeep`, the first in
-/// the source; `NotYet`, where the script uses an interface, a cast, an array or an index; a rule of typing that is broken,
-/// the first in the order in which the script is walked; `CyclicType`. Or `NoMemory`, which a source that is too long never
-/// tells.
+/// the source; a rule of typing that is broken, the first in the order in which the script is walked; `CyclicType`. Or
+/// `NoMemory`, which a source that is too long never tells.
 pub fn check_source(alloc: Global, registry: &Registry, source: &[u8]) -> Result<(), Refusal>
     ensures accepted { OnOk result (IsOk (checked_source (registered registry.now) source.now)) }
     ensures refused { IfErr result (λ refusal.

@@ -129,7 +129,6 @@ impl From<CheckFault> for Refusal {
 
     fn from(fault: CheckFault) -> Self {
         match fault {
-            CheckFault::NotYet => Refusal::NotYet,
             CheckFault::UnknownName { at } => Refusal::UnknownName { at },
             CheckFault::UnknownType { at } => Refusal::UnknownType { at },
             CheckFault::NameTaken { at } => Refusal::NameTaken { at },

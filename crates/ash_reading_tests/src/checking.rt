@@ -101,20 +101,30 @@ fn sound_scripts(rt: HostRuntime) -> Result<(), Fail> {
         (b"int n = -1;", "ok", "NotYet"),
         (b"int a, b;", "ok", "NotYet"),
         (b"class Box { A@ a; } class A { }", "ok", "NotYet"),
+        (b"interface I { }", "ok", "NotYet"),
+        (b"class A : I { } interface I { }", "ok", "NotYet"),
+        (b"array<int> a;", "ok", "NotYet"),
+        (b"int n = array<int>(1)[0];", "ok", "NotYet"),
+        (
+            b"class A { } A@ a; A@ b = cast<A>(a);",
+            "ok",
+            "NotYet",
+        ),
     ];
     check_both(&rt, rt.alloc(), rows)
 }
 
 #[test]
-fn what_is_not_typed_so_far(rt: HostRuntime) -> Result<(), Fail> {
+fn interfaces_arrays_casts_and_indexes(rt: HostRuntime) -> Result<(), Fail> {
     // The last rows have a fault of the grammar or of the tokens too, which comes first.
     let rows = "
-        NotYet | int n = a[0];
-        NotYet | X y; int n = cast<A>(m);
-        NotYet | interface I { }
-        NotYet | X y; class A : I { }
-        NotYet | array<int> a;
-        NotYet | int n = m; array<X@>@ f() { }
+        UnknownName { at: 8 } | int n = a[0];
+        UnknownType { at: 0 } | X y; int n = cast<A>(m);
+        UnknownType { at: 10 } | class A : I { } X y;
+        TypeMismatch { at: 35 } | interface I { int v(); } class A : I { }
+        TypeMismatch { at: 24 } | array<int> a; int n = a[true];
+        UnknownName { at: 8 } | int n = m; array<X@>@ f() { }
+        CyclicType(ClassNames([\"A\"])) | interface I { void g(); } class A : I { I@ n; void g() {} }
         Unexpected { at: 26 } | X y; int n = a[0]; int f( {
         BadCharacter { at: 19 } | X y; int n = a[0]; \"
         ";

@@ -92,7 +92,6 @@ fn refused_for_what_the_profile_does_not_have(rt: HostRuntime) -> Result<(), Fai
         "
         Unsupported { word: Word(Float), at: 0 } | float x;
         Unexpected { at: 10 } | int n; int[] a;
-        NotYet | class A : I { }
         Unsupported { word: Power, at: 10 } | int n = a ** b;
         Unsupported { word: Word(Auto), at: 4 } | int auto;
         ",
