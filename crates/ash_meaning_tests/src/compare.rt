@@ -19,3 +19,8 @@ pub(crate) fn check_text(rt: &impl Abort, found: &str, wanted: &str, what: &str)
 pub(crate) fn check_bytes(rt: &impl Abort, found: &[u8], wanted: &[u8], what: &str) {
     assert_eq!(rt; found, wanted, "{what}");
 }
+
+/// Looks at what is to be true of this row.
+pub(crate) fn check_true(rt: &impl Abort, found: bool, row: &str) {
+    assert!(rt; found, "at {row:?}");
+}
