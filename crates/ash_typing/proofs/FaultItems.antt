@@ -1,5 +1,5 @@
 -- The walk over the items of a module answers a fault at a token.
-use Rattle.std.proofs.Common.{ℕ, ◌+◌, List, [], ◌∷◌, ◌++◌, Bool, Option, Some, None, length, nat_eq, inl, inr, refl}
+use Rattle.std.proofs.Common.{ℕ, ◌+◌, List, [], ◌∷◌, ◌++◌, Option, Some, None, length, nat_eq, inl, inr, refl}
 use Rattle.std.specs.Prelude.{◌||◌, is_some, nat_le}
 use Rattle.std.specs.List.{AllByRecursion, list_any}
 use Rattle.std.specs.Str.{bytes_eq}
