@@ -1,5 +1,5 @@
 -- The walk over the items of a module answers a fault at a token.
-use Rattle.std.proofs.Common.{ℕ, List, [], ◌∷◌, ◌++◌, Bool, Option, Some, None, length, nat_eq, inl, inr, refl}
+use Rattle.std.proofs.Common.{ℕ, ◌+◌, List, [], ◌∷◌, ◌++◌, Option, Some, None, length, nat_eq, inl, inr, refl}
 use Rattle.std.specs.Prelude.{◌||◌, is_some, nat_le}
 use Rattle.std.specs.List.{AllByRecursion, list_any}
 use Rattle.std.specs.Str.{bytes_eq}
@@ -8,17 +8,19 @@ use Rattle.ash_lex.specs.declared.words.ReservedWord.TheVariants as words
 use Rattle.ash_registrations.specs.Calls.{Call}
 use Rattle.ash_tree.specs.Tree as written
 use Rattle.ash_tree.specs.Tokens.{Tokens}
+use Rattle.ash_typed.specs.declared.types.ObjectType.{ObjectType}
+use Rattle.ash_typed.specs.declared.types.ObjectType.TheVariants as objects
 use Rattle.ash_typing.specs.declared.types.Ty.{Ty}
 use Rattle.ash_typing.specs.declared.types.Ty.TheVariants as ty
-use Rattle.ash_typed.specs.Modules.{Class}
+use Rattle.ash_typed.specs.Modules.{Class, Module}
 use Rattle.ash_typing.specs.Environment.{Environment, Declared, Heads, declares, with_locals}
 use Rattle.ash_typing.specs.Expressions.{is_void}
-use Rattle.ash_typing.specs.Heads.{heads}
+use Rattle.ash_typing.specs.Heads.{object_named, heads}
 use Rattle.ash_typing.specs.Bodies.{Body, body_scope, body_typed, returns_in}
-use Rattle.ash_typing.specs.Items.{ty_in, at_type, Names, is_taken, untaken, one_more, placed, passed_ty, result_typed, Row, with_variable, decls_typed, no_variables, vars_typed, parameters_typed, Routine, routine_of, returning, routine_typed, Members, constructor_named, member_typed, members_typed, no_members, inside, class_typed, Walked, one_more_class, item_typed, items_typed, seen, nothing, module_by, module_typed}
-use Rattle.ash_typing.proofs.FaultTokens.{HasToken, DeclIn, VarsIn, StmtsIn, ParameterIn, ResultIn, RoutineIn, MemberIn, ClassIn, ItemIn}
+use Rattle.ash_typing.specs.Items.{ty_in, at_type, at_type_name, Names, is_taken, untaken, one_more, placed, passed_ty, result_typed, Row, with_variable, decls_typed, no_variables, vars_typed, parameters_typed, Routine, routine_of, returning, routine_typed, Signatures, signature_typed, signatures_typed, no_signatures, interface_typed, listed_at, implemented, implemented_at, Listed, listed_typed, all_listed, none_listed, Members, constructor_named, member_typed, members_typed, no_members, inside, class_typed, Walked, room_for_type, item_typed, items_typed, seen, nothing, module_by, module_typed}
+use Rattle.ash_typing.proofs.FaultTokens.{HasToken, NamedIn, TypeNameIn, DeclIn, VarsIn, StmtsIn, ParameterIn, ResultIn, RoutineIn, MemberIn, ClassIn, InterfaceMethodIn, InterfaceIn, ItemIn}
 use Rattle.ash_typing.proofs.FaultAnswers.{Answers, fine, faulty, Fine, bind, either}
-use Rattle.ash_typing.proofs.FaultStatements.{IsWrittenAt, written_at, known_ty_in, decl_in, stmts_in}
+use Rattle.ash_typing.proofs.FaultStatements.{IsNamedAt, IsWrittenAt, named_at, written_at, variables_ty_in, decl_in, stmts_in}
 
 -- names
 
@@ -35,20 +37,26 @@ placed_in script names at text h = bind (untaken_in script names at text h) (λ 
 
 -- types
 
-passed_ty_in : (script : Tokens) (at : ℕ) (of : Ty) → IsWrittenAt script of at → Fine script (passed_ty at of)
+passed_ty_in : (script : Tokens) (of : written.Named) (t : Ty) → IsNamedAt script t (at_type_name of) → IsWrittenAt script t (at_type of) → Fine script (passed_ty of t)
 unfolding passed_ty
-passed_ty_in script at ty.Unknown (inl h) = faulty (reserved words.Array, h, refl)
-passed_ty_in script at ty.Unknown (inr h) = faulty (name h.0, h.1, refl)
-passed_ty_in script at (ty.Object o) h = faulty (name h.0, h.1, refl)
-passed_ty_in script at ty.Void h = fine tt
-passed_ty_in script at ty.Bool h = fine tt
-passed_ty_in script at (ty.Integer k) h = fine tt
-passed_ty_in script at (ty.Handle o) h = fine tt
-passed_ty_in script at ty.Null h = fine tt
+passed_ty_in script of ty.Unknown n w = faulty (name n.0, n.1, refl)
+passed_ty_in script of (ty.Object (objects.Array e)) n (inl w) = faulty (reserved words.Array, w, refl)
+passed_ty_in script of (ty.Object (objects.Array e)) n (inr w) = faulty (name w.0, w.1, refl)
+passed_ty_in script of (ty.Object (objects.Class c)) n w = faulty (name w.0, w.1, refl)
+passed_ty_in script of (ty.Object (objects.Interface i)) n w = faulty (name w.0, w.1, refl)
+passed_ty_in script of (ty.Object (objects.Host kind)) n w = faulty (name w.0, w.1, refl)
+passed_ty_in script of ty.Void n w = fine tt
+passed_ty_in script of ty.Bool n w = fine tt
+passed_ty_in script of (ty.Integer k) n w = fine tt
+passed_ty_in script of (ty.Handle o) n w = fine tt
+passed_ty_in script of ty.Null n w = fine tt
+
+passed_in : (script : Tokens) (env : Environment) (of : written.Named) → NamedIn script of → Fine script (passed_ty of (ty_in env of))
+passed_in script env of h = passed_ty_in script of (ty_in env of) (named_at script env.registered env.heads of h) (written_at script env.registered env.heads of h)
 
 result_in : (script : Tokens) (env : Environment) (of : Option written.Named) → ResultIn script of → Fine script (result_typed env of)
 result_in script env None h = fine tt
-result_in script env (Some of) h = passed_ty_in script (at_type of) (ty_in env of) (written_at script env.registered env.heads.classes of h)
+result_in script env (Some of) h = passed_in script env of h
 
 -- variables
 
@@ -58,13 +66,13 @@ decls_in script env at of row (d ∷ ds) w h = bind (placed_in script row.names 
 
 vars_in : (script : Tokens) (env : Environment) (names : Names) (v : written.Vars) → VarsIn script v → Fine script (vars_typed env names v)
 unfolding vars_typed
-vars_in script env names v h = bind (known_ty_in script (at_type v.of) (ty_in env v.of) (written_at script env.registered env.heads.classes v.of h.0)) (λ of w. decls_in script env (at_type v.of) of (record { names = names; variables = no_variables v.of }) v.decls w h.1)
+vars_in script env names v h = bind (variables_ty_in script env v.of h.0) (λ of w. decls_in script env (at_type v.of) of (record { names = names; variables = no_variables v.of }) v.decls w h.1)
 
 -- functions
 
 parameters_in : (script : Tokens) (env : Environment) (before : List Declared) (ps : List written.Parameter) → AllByRecursion (ParameterIn script) ps → Fine script (parameters_typed env before ps)
 parameters_in script env before [] h = fine tt
-parameters_in script env before (p ∷ ps) h = bind (passed_ty_in script (at_type p.of) (ty_in env p.of) (written_at script env.registered env.heads.classes p.of (h.0).0)) (λ of u. either (list_any (declares p.name) before) (faulty (name p.name, (h.0).1, refl)) (parameters_in script env (before ++ record { name = p.name; of = of } ∷ []) ps h.1))
+parameters_in script env before (p ∷ ps) h = bind (passed_in script env p.of (h.0).0) (λ of u. either (list_any (declares p.name) before) (faulty (name p.name, (h.0).1, refl)) (parameters_in script env (before ++ record { name = p.name; of = of } ∷ []) ps h.1))
 
 body_in : (script : Tokens) (env : Environment) (of : Ty) (body : List written.Stmt) → StmtsIn script (written.stmts body) → Fine script (body_typed env of body)
 unfolding body_typed
@@ -77,6 +85,41 @@ returning_in script at text of statements body h = either (is_void of || returns
 routine_in : (script : Tokens) (env : Environment) (of : Ty) (c : Routine) → RoutineIn script c.place c.name c.parameters c.body → Fine script (routine_typed env of c)
 unfolding routine_typed
 routine_in script env of c h = bind (parameters_in script env [] c.parameters h.1) (λ locals u. bind (body_in script (with_locals env locals) of c.body h.2) (λ body v. bind (returning_in script c.place.at c.name of c.body body h.0) (λ done w. fine tt)))
+
+-- interfaces
+
+signature_in : (script : Tokens) (env : Environment) (ss : Signatures) (m : written.InterfaceMethod) → InterfaceMethodIn script m → Fine script (signature_typed env ss m)
+unfolding signature_typed
+signature_in script env ss m h = bind (result_in script env m.result h.0) (λ of u. bind (placed_in script ss.names m.place.at m.name h.1) (λ names v. bind (parameters_in script env [] m.parameters h.2) (λ parameters w. fine tt)))
+
+signatures_in : (script : Tokens) (env : Environment) (ss : Signatures) (ms : List written.InterfaceMethod) → AllByRecursion (InterfaceMethodIn script) ms → Fine script (signatures_typed env ss ms)
+signatures_in script env ss [] h = fine tt
+signatures_in script env ss (m ∷ ms) h = bind (signature_in script env ss m h.0) (λ next u. signatures_in script env next ms h.1)
+
+interface_in : (script : Tokens) (env : Environment) (classes : ℕ) (i : written.Interface) → InterfaceIn script i → Fine script (interface_typed env classes i)
+unfolding interface_typed
+interface_in script env classes i h = bind (signatures_in script env no_signatures i.methods h.1) (λ ss u. fine tt)
+
+-- the interfaces that a class lists
+
+listed_at_in : (script : Tokens) (at : ℕ) (text : List ℕ) (found : Option ObjectType) → HasToken script (name text) at → Fine script (listed_at at found)
+listed_at_in script at text (Some (objects.Interface place)) h = fine tt
+listed_at_in script at text (Some (objects.Class place)) h = faulty (name text, h, refl)
+listed_at_in script at text (Some (objects.Host kind)) h = faulty (name text, h, refl)
+listed_at_in script at text (Some (objects.Array e)) h = faulty (name text, h, refl)
+listed_at_in script at text None h = faulty (name text, h, refl)
+
+implemented_in : (script : Tokens) (at : ℕ) (text : List ℕ) (interface : ℕ) (methods : Option (List ℕ)) → HasToken script (name text) at → Fine script (implemented_at at interface methods)
+implemented_in script at text interface None h = faulty (name text, h, refl)
+implemented_in script at text interface (Some methods) h = fine tt
+
+listed_in : (script : Tokens) (env : Environment) (class : ℕ) (listed : Listed) (n : written.TypeName) → TypeNameIn script n → Fine script (listed_typed env class listed n)
+unfolding listed_typed
+listed_in script env class listed n h = bind (listed_at_in script n.place.at n.name (object_named env.registered env.heads n.name) h) (λ interface u. bind (untaken_in script listed.names n.place.at n.name h) (λ names v. bind (implemented_in script n.place.at n.name interface (implemented env class interface) h) (λ implementation w. fine tt)))
+
+all_listed_in : (script : Tokens) (env : Environment) (class : ℕ) (listed : Listed) (ns : List written.TypeName) → AllByRecursion (TypeNameIn script) ns → Fine script (all_listed env class listed ns)
+all_listed_in script env class listed [] h = fine tt
+all_listed_in script env class listed (n ∷ ns) h = bind (listed_in script env class listed n h.0) (λ next u. all_listed_in script env class next ns h.1)
 
 -- classes
 
@@ -96,18 +139,18 @@ members_in script env ms (m ∷ rest) h = bind (member_in script env ms m h.0) (
 
 class_in : (script : Tokens) (env : Environment) (place : ℕ) (c : written.Class) → ClassIn script c → Fine script (class_typed env place c)
 unfolding class_typed
-class_in script env place c h = bind (members_in script (inside env place) (no_members c) c.members h.2) (λ ms u. fine tt)
+class_in script env place c h = bind (all_listed_in script env place none_listed c.interfaces h.1) (λ listed u. bind (members_in script (inside env place) (no_members c listed.interfaces) c.members h.2) (λ ms v. fine tt))
 
 -- modules
 
-one_more_class_in : (script : Tokens) (at : ℕ) (text : List ℕ) (count : ℕ) → HasToken script (name text) at → Fine script (one_more_class at count)
-unfolding one_more_class
-one_more_class_in script at text count h = either (nat_le 256 count) (faulty (name text, h, refl)) (fine tt)
+room_in : (script : Tokens) (at : ℕ) (text : List ℕ) (m : Module) → HasToken script (name text) at → Fine script (room_for_type at m)
+unfolding room_for_type
+room_in script at text m h = either (nat_le 256 (length m.classes + length m.interfaces)) (faulty (name text, h, refl)) (fine tt)
 
 item_in : (script : Tokens) (env : Environment) (w : Walked) (i : written.Item) → ItemIn script i → Fine script (item_typed env w i)
 unfolding item_typed
-item_in script env w (written.AClass c) h = bind (untaken_in script w.names c.place.at c.name h.0) (λ names u. bind (one_more_class_in script c.place.at c.name (length w.typed.classes) h.0) (λ place v. bind (class_in script env place c h) (λ t x. fine tt)))
-item_in script env w (written.AnInterface i) h = bind (untaken_in script w.names i.place.at i.name h.0) (λ names u. fine tt)
+item_in script env w (written.AClass c) h = bind (untaken_in script w.names c.place.at c.name h.0) (λ names u. bind (room_in script c.place.at c.name w.typed h.0) (λ place v. bind (class_in script env place c h) (λ t x. fine tt)))
+item_in script env w (written.AnInterface i) h = bind (untaken_in script w.names i.place.at i.name h.0) (λ names u. bind (room_in script i.place.at i.name w.typed h.0) (λ classes v. bind (interface_in script env classes i h) (λ t x. fine tt)))
 item_in script env w (written.AFunction f) h = bind (result_in script env f.result h.0) (λ of u. bind (untaken_in script w.names f.place.at f.name (h.1).0) (λ names v. bind (routine_in script env of (routine_of f) h.1) (λ t x. fine tt)))
 item_in script env w (written.AGlobal v) h = bind (vars_in script env w.names v h) (λ row u. fine tt)
 

@@ -1,6 +1,6 @@
 -- The walk over variables and statements answers a fault at a token.
-use Rattle.std.proofs.Common.{◌≡◌, ℕ, List, [], ◌∷◌, ◌++◌, Bool, true, false, Option, Some, None, ◌⊎◌, inl, inr, refl}
-use Rattle.std.specs.Prelude.{◌||◌}
+use Rattle.std.proofs.Common.{◌≡◌, ℕ, List, [], ◌∷◌, ◌++◌, Bool, true, false, Option, Some, None, ◌⊎◌, inl, inr, refl, length}
+use Rattle.std.specs.Prelude.{◌||◌, option_map}
 use Rattle.std.specs.List.{AllByRecursion, list_any}
 use Rattle.ash_lex.specs.Tokens.{Meaning, name, number, sign, reserved}
 use Rattle.ash_lex.specs.declared.signs.Sign.TheVariants as signs
@@ -14,98 +14,174 @@ use Rattle.ash_tree.specs.declared.tree.types.Primitive.TheVariants as primitive
 use Rattle.ash_tree.specs.declared.tree.statements.Label.{Label}
 use Rattle.ash_tree.specs.declared.tree.statements.Label.TheVariants as labels
 use Rattle.ash_typed.specs.declared.types.Kind.{Kind}
+use Rattle.ash_typed.specs.declared.types.Element.{Element}
+use Rattle.ash_typed.specs.declared.types.ObjectType.{ObjectType}
+use Rattle.ash_typed.specs.declared.types.ObjectType.TheVariants as objects
 use Rattle.ash_typing.specs.declared.types.Ty.{Ty}
 use Rattle.ash_typing.specs.declared.types.Ty.TheVariants as ty
 use Rattle.ash_typed.specs.StatementTree.{Stmt, Head}
 use Rattle.ash_typing.specs.Checking.{Checking}
 use Rattle.ash_typing.specs.Types.{ty_of}
-use Rattle.ash_typing.specs.Environment.{Environment, Class, Callee}
-use Rattle.ash_typing.specs.Expressions.{Typed, typed, all_typed, is_void}
-use Rattle.ash_typing.specs.Heads.{object_named, object_ty, handle_ty, ty_named}
-use Rattle.ash_typing.specs.Declarations.{ty_in, at_type, known_ty, construction, constructed, begun, stored_first, begun_with, begun_by_one, begun_by, initialized, decl_typed}
+use Rattle.ash_typing.specs.Environment.{Environment, Heads, Class, Callee}
+use Rattle.ash_typing.specs.Expressions.{Typed, typed, all_typed, is_void, at_element, array_parameters, array_built}
+use Rattle.ash_typing.specs.Heads.{object_named, element_named, array_named, object_ty, handle_ty, ty_named}
+use Rattle.ash_typing.specs.Declarations.{ty_in, at_type, at_type_name, known_ty, construction, constructed, begun, stored_first, begun_with, begun_by_one, begun_by, initialized, decl_typed}
 use Rattle.ash_typing.specs.Switches.{kind_in, is_within, is_same_constant, constant_typed, label_typed}
 use Rattle.ash_typing.specs.Statements.{Scope, block_of, loop_of, switch_of, with_variables, behind, is_taken, fresh, decls_typed, vars_typed, head_typed, condition_is, if_typed, if_else_typed, while_typed, do_while_typed, maybe_typed, maybe_condition_is, for_typed, break_typed, continue_typed, gives_nothing, returned, return_typed, is_last, stmt_typed, stmts_typed, cases_typed}
 use Rattle.ash_typing.specs.FaultPlaces.{begins_constant}
-use Rattle.ash_typing.proofs.FaultTokens.{HasToken, HasStart, NamedIn, MaybeIn, InitializerIn, DeclIn, VarsIn, IsHeadForm, LabelIn, StmtIn, StmtsIn, CasesIn}
+use Rattle.ash_typing.proofs.FaultTokens.{HasToken, HasStart, ElementIn, NamedIn, MaybeIn, InitializerIn, DeclIn, VarsIn, IsHeadForm, LabelIn, StmtIn, StmtsIn, CasesIn}
 use Rattle.ash_typing.proofs.FaultAnswers.{Answers, fine, faulty, Fine, At, bind, either}
-use Rattle.ash_typing.proofs.FaultExpressions.{AllAt, ListAt, fitted_in, integer_in, bool_in, called_in, typed_in, all_in}
+use Rattle.ash_typing.proofs.FaultExpressions.{AllAt, ListAt, fitted_in, integer_in, bool_in, called_with_in, called_in, typed_in, all_in}
 
 -- types
 
--- a type that has a fault of its own, or is one of objects, is written at such a token
+-- a name of the script is here
+abbrev pub IsNameAt : Tokens → ℕ → Type 0
+IsNameAt script at = (text : List ℕ) × HasToken script (name text) at
+
+-- an unknown type has its name here
+abbrev pub IsNamedAt : Tokens → Ty → ℕ → Type 0
+IsNamedAt script ty.Unknown at = IsNameAt script at
+IsNamedAt script _ at = Unit {0}
+
+-- a type of objects is written here: at its name, or at the word `array`
 abbrev pub IsWrittenAt : Tokens → Ty → ℕ → Type 0
-IsWrittenAt script ty.Unknown at = HasToken script (reserved words.Array) at ⊎ ((text : List ℕ) × HasToken script (name text) at)
-IsWrittenAt script (ty.Object o) at = (text : List ℕ) × HasToken script (name text) at
+IsWrittenAt script (ty.Object (objects.Array e)) at = HasToken script (reserved words.Array) at ⊎ IsNameAt script at
+IsWrittenAt script (ty.Object o) at = IsNameAt script at
 IsWrittenAt script _ at = Unit {0}
 
-named_at : (script : Tokens) (of : Ty) (at : ℕ) (text : List ℕ) → HasToken script (name text) at → IsWrittenAt script of at
-named_at script ty.Unknown at text h = inr (text, h)
-named_at script (ty.Object o) at text h = (text, h)
-named_at script _ at text h = tt
+primitive_named : (script : Tokens) (k : Primitive) (at : ℕ) → IsNamedAt script (ty_of k) at
+primitive_named script primitives.Bool at = tt
+primitive_named script primitives.Int at = tt
+primitive_named script primitives.Int64 at = tt
+primitive_named script primitives.Uint at = tt
+primitive_named script primitives.Uint64 at = tt
 
-primitive_at : (script : Tokens) (k : Primitive) (at : ℕ) → IsWrittenAt script (ty_of k) at
-primitive_at script primitives.Bool at = tt
-primitive_at script primitives.Int at = tt
-primitive_at script primitives.Int64 at = tt
-primitive_at script primitives.Uint at = tt
-primitive_at script primitives.Uint64 at = tt
+object_named_at : (script : Tokens) (found : Option ObjectType) (at : ℕ) → IsNameAt script at → IsNamedAt script (object_ty found) at
+object_named_at script None at h = h
+object_named_at script (Some o) at h = tt
 
-pub written_at : (script : Tokens) (calls : List Call) (classes : List Class) (of : written.Named) → NamedIn script of → IsWrittenAt script (ty_named calls classes of) (at_type of)
+handle_named_at : (script : Tokens) (found : Option ObjectType) (at : ℕ) → IsNameAt script at → IsNamedAt script (handle_ty found) at
+handle_named_at script None at h = h
+handle_named_at script (Some o) at h = tt
+
+array_named_at : (script : Tokens) (calls : List Call) (named : Heads) (of : written.Element) → ElementIn script of → IsNamedAt script (object_ty (array_named calls named of)) (at_element of)
+unfolding element_named
+array_named_at script calls named (written.PrimElement p k) h = tt
+array_named_at script calls named (written.HandleElement p text) h = object_named_at script (array_named calls named (written.HandleElement p text)) p.at (text, h)
+
+array_handle_named_at : (script : Tokens) (calls : List Call) (named : Heads) (of : written.Element) → ElementIn script of → IsNamedAt script (handle_ty (array_named calls named of)) (at_element of)
+unfolding element_named
+array_handle_named_at script calls named (written.PrimElement p k) h = tt
+array_handle_named_at script calls named (written.HandleElement p text) h = handle_named_at script (array_named calls named (written.HandleElement p text)) p.at (text, h)
+
+-- the name of a type that is written
+pub named_at : (script : Tokens) (calls : List Call) (named : Heads) (of : written.Named) → NamedIn script of → IsNamedAt script (ty_named calls named of) (at_type_name of)
 unfolding ty_named
-written_at script calls classes (written.Prim p k) h = primitive_at script k p.at
-written_at script calls classes (written.Object p text) h = named_at script (object_ty (object_named calls classes text)) p.at text h
-written_at script calls classes (written.Handle p text) h = named_at script (handle_ty (object_named calls classes text)) p.at text h
-written_at script calls classes (written.Array p of) h = inl h.0
-written_at script calls classes (written.ArrayHandle p of) h = inl h.0
+named_at script calls named (written.Prim p k) h = primitive_named script k p.at
+named_at script calls named (written.Object p text) h = object_named_at script (object_named calls named text) p.at (text, h)
+named_at script calls named (written.Handle p text) h = handle_named_at script (object_named calls named text) p.at (text, h)
+named_at script calls named (written.Array p of) h = array_named_at script calls named of h.1
+named_at script calls named (written.ArrayHandle p of) h = array_handle_named_at script calls named of h.1
+
+primitive_written : (script : Tokens) (k : Primitive) (at : ℕ) → IsWrittenAt script (ty_of k) at
+primitive_written script primitives.Bool at = tt
+primitive_written script primitives.Int at = tt
+primitive_written script primitives.Int64 at = tt
+primitive_written script primitives.Uint at = tt
+primitive_written script primitives.Uint64 at = tt
+
+object_written : (script : Tokens) (found : Option ObjectType) (at : ℕ) → IsNameAt script at → IsWrittenAt script (object_ty found) at
+object_written script None at h = tt
+object_written script (Some (objects.Class class)) at h = h
+object_written script (Some (objects.Interface interface)) at h = h
+object_written script (Some (objects.Host kind)) at h = h
+object_written script (Some (objects.Array e)) at h = inr h
+
+handle_written : (script : Tokens) (found : Option ObjectType) (at : ℕ) → IsWrittenAt script (handle_ty found) at
+handle_written script None at = tt
+handle_written script (Some o) at = tt
+
+array_written : (script : Tokens) (found : Option Element) (at : ℕ) → HasToken script (reserved words.Array) at → IsWrittenAt script (object_ty (option_map objects.Array found)) at
+array_written script None at h = tt
+array_written script (Some e) at h = inl h
+
+-- where a type is written
+pub written_at : (script : Tokens) (calls : List Call) (named : Heads) (of : written.Named) → NamedIn script of → IsWrittenAt script (ty_named calls named of) (at_type of)
+unfolding ty_named
+written_at script calls named (written.Prim p k) h = primitive_written script k p.at
+written_at script calls named (written.Object p text) h = object_written script (object_named calls named text) p.at (text, h)
+written_at script calls named (written.Handle p text) h = handle_written script (object_named calls named text) p.at
+written_at script calls named (written.Array p of) h = array_written script (element_named calls named of) p.at h.0
+written_at script calls named (written.ArrayHandle p of) h = handle_written script (array_named calls named of) p.at
 
 -- a known type, written where it was
-pub known_ty_in : (script : Tokens) (at : ℕ) (of : Ty) → IsWrittenAt script of at → Answers script (λ (t : Ty). IsWrittenAt script t at) (known_ty at of)
+known_ty_in : (script : Tokens) (of : written.Named) (t : Ty) → IsNamedAt script t (at_type_name of) → IsWrittenAt script t (at_type of) → Answers script (λ (t : Ty). IsWrittenAt script t (at_type of)) (known_ty of t)
 unfolding known_ty
-known_ty_in script at ty.Unknown (inl h) = faulty (reserved words.Array, h, refl)
-known_ty_in script at ty.Unknown (inr h) = faulty (name h.0, h.1, refl)
-known_ty_in script at ty.Void h = fine h
-known_ty_in script at ty.Bool h = fine h
-known_ty_in script at (ty.Integer k) h = fine h
-known_ty_in script at (ty.Object o) h = fine h
-known_ty_in script at (ty.Handle o) h = fine h
-known_ty_in script at ty.Null h = fine h
+known_ty_in script of ty.Unknown n w = faulty (name n.0, n.1, refl)
+known_ty_in script of (ty.Object (objects.Interface i)) n w = faulty (name w.0, w.1, refl)
+known_ty_in script of (ty.Object (objects.Class c)) n w = fine w
+known_ty_in script of (ty.Object (objects.Host kind)) n w = fine w
+known_ty_in script of (ty.Object (objects.Array e)) n w = fine w
+known_ty_in script of ty.Void n w = fine w
+known_ty_in script of ty.Bool n w = fine w
+known_ty_in script of (ty.Integer k) n w = fine w
+known_ty_in script of (ty.Handle o) n w = fine w
+known_ty_in script of ty.Null n w = fine w
+
+-- the type of variables
+pub variables_ty_in : (script : Tokens) (env : Environment) (of : written.Named) → NamedIn script of → Answers script (λ (t : Ty). IsWrittenAt script t (at_type of)) (known_ty of (ty_in env of))
+variables_ty_in script env of h = known_ty_in script of (ty_in env of) (named_at script env.registered env.heads of h) (written_at script env.registered env.heads of h)
 
 -- variables
 
-constructed_in : (script : Tokens) (at : ℕ) (text : List ℕ) (ts : List Typed) (found : Option Callee) → HasToken script (name text) at → AllAt script ts → Fine script (constructed at ts found)
+constructed_in : (script : Tokens) (classes : List Class) (at : ℕ) (ts : List Typed) (found : Option Callee) → IsNameAt script at → AllAt script ts → Fine script (constructed classes at ts found)
 unfolding constructed
-constructed_in script at text ts None h k = faulty (name text, h, refl)
-constructed_in script at text ts (Some callee) h k = bind (called_in script at text callee ts callee.parameters h k) (λ t u. fine tt)
+constructed_in script classes at ts None h k = faulty (name h.0, h.1, refl)
+constructed_in script classes at ts (Some callee) h k = bind (called_in script classes at h.0 callee ts callee.parameters h.1 k) (λ t u. fine tt)
+
+-- an array, which is constructed at its word or at a name
+array_in : (script : Tokens) (classes : List Class) (at : ℕ) (ts : List Typed) (e : Element) (count : ℕ) → HasToken script (reserved words.Array) at ⊎ IsNameAt script at → AllAt script ts → Fine script (constructed classes at ts (Some (array_built e count)))
+unfolding constructed
+array_in script classes at ts e count (inl h) k = bind (called_with_in script classes at (reserved words.Array) (array_built e count) ts (array_parameters count) h refl refl k) (λ t u. fine tt)
+array_in script classes at ts e count (inr h) k = constructed_in script classes at ts (Some (array_built e count)) h k
+
+object_in : (script : Tokens) (env : Environment) (at : ℕ) (o : ObjectType) (ts : List Typed) (count : ℕ) → IsWrittenAt script (ty.Object o) at → AllAt script ts → Fine script (constructed env.heads.classes at ts (construction env o count))
+unfolding construction
+object_in script env at (objects.Array e) ts count w k = array_in script env.heads.classes at ts e count w k
+object_in script env at (objects.Class c) ts count w k = constructed_in script env.heads.classes at ts (construction env (objects.Class c) count) w k
+object_in script env at (objects.Interface i) ts count w k = constructed_in script env.heads.classes at ts (construction env (objects.Interface i) count) w k
+object_in script env at (objects.Host kind) ts count w k = constructed_in script env.heads.classes at ts (construction env (objects.Host kind) count) w k
 
 begun_in : (script : Tokens) (env : Environment) (at : ℕ) (of : Ty) → IsWrittenAt script of at → Fine script (begun env at of)
 unfolding begun
-begun_in script env at (ty.Object o) h = constructed_in script at h.0 [] (construction env o) h.1 tt
+begun_in script env at (ty.Object o) h = object_in script env at o [] 0 h tt
 begun_in script env at _ h = fine tt
 
-stored_first_in : (script : Tokens) (of : Ty) (t : Typed) → HasStart script t.at → Fine script (stored_first of t)
-stored_first_in script of t h = bind (fitted_in script of t h) (λ e u. fine tt)
+stored_first_in : (script : Tokens) (classes : List Class) (of : Ty) (t : Typed) → HasStart script t.at → Fine script (stored_first classes of t)
+stored_first_in script classes of t h = bind (fitted_in script classes of t h) (λ e u. fine tt)
 
-begun_with_in : (script : Tokens) (at : ℕ) (text : List ℕ) (of : Ty) (t : Typed) → HasToken script (name text) at → HasStart script t.at → Fine script (begun_with at of t)
+begun_with_in : (script : Tokens) (classes : List Class) (at : ℕ) (text : List ℕ) (of : Ty) (t : Typed) → HasToken script (name text) at → HasStart script t.at → Fine script (begun_with classes at of t)
 unfolding begun_with
-begun_with_in script at text (ty.Object o) t h k = faulty (name text, h, refl)
-begun_with_in script at text of t h k = stored_first_in script of t k
+begun_with_in script classes at text (ty.Object o) t h k = faulty (name text, h, refl)
+begun_with_in script classes at text of t h k = stored_first_in script classes of t k
 
-begun_by_one_in : (script : Tokens) (at : ℕ) (text : List ℕ) (of : Ty) (ts : List Typed) → HasToken script (name text) at → AllAt script ts → Fine script (begun_by_one at of ts)
+begun_by_one_in : (script : Tokens) (classes : List Class) (at : ℕ) (text : List ℕ) (of : Ty) (ts : List Typed) → HasToken script (name text) at → AllAt script ts → Fine script (begun_by_one classes at of ts)
 unfolding begun_by_one
-begun_by_one_in script at text of [] h k = faulty (name text, h, refl)
-begun_by_one_in script at text of (t ∷ []) h k = stored_first_in script of t k.0
-begun_by_one_in script at text of (t ∷ u ∷ ts) h k = faulty (name text, h, refl)
+begun_by_one_in script classes at text of [] h k = faulty (name text, h, refl)
+begun_by_one_in script classes at text of (t ∷ []) h k = stored_first_in script classes of t k.0
+begun_by_one_in script classes at text of (t ∷ u ∷ ts) h k = faulty (name text, h, refl)
 
 begun_by_in : (script : Tokens) (env : Environment) (of_at at : ℕ) (text : List ℕ) (of : Ty) (ts : List Typed) → IsWrittenAt script of of_at → HasToken script (name text) at → AllAt script ts → Fine script (begun_by env of_at at of ts)
 unfolding begun_by
-begun_by_in script env of_at at text (ty.Object o) ts w h k = constructed_in script of_at w.0 ts (construction env o) w.1 k
+begun_by_in script env of_at at text (ty.Object o) ts w h k = object_in script env of_at o ts (length ts) w k
 begun_by_in script env of_at at text (ty.Handle o) ts w h k = faulty (name text, h, refl)
-begun_by_in script env of_at at text of ts w h k = begun_by_one_in script at text of ts h k
+begun_by_in script env of_at at text of ts w h k = begun_by_one_in script env.heads.classes at text of ts h k
 
 initialized_in : (script : Tokens) (env : Environment) (of_at at : ℕ) (text : List ℕ) (of : Ty) (i : written.Initializer) → IsWrittenAt script of of_at → HasToken script (name text) at → InitializerIn script i → Fine script (initialized env of_at at of i)
 unfolding initialized
 initialized_in script env of_at at text of written.Default w h k = begun_in script env of_at of w
-initialized_in script env of_at at text of (written.Value e) w h k = bind (typed_in script env false e k) (λ t l. begun_with_in script at text of t h l)
+initialized_in script env of_at at text of (written.Value e) w h k = bind (typed_in script env false e k) (λ t l. begun_with_in script env.heads.classes at text of t h l)
 initialized_in script env of_at at text of (written.Arguments es) w h k = bind (all_in script env (written.exprs es) k) (λ ts l. begun_by_in script env of_at at text of ts w h l)
 
 pub decl_in : (script : Tokens) (env : Environment) (at : ℕ) (of : Ty) (d : written.Decl) → IsWrittenAt script of at → DeclIn script d → Fine script (decl_typed env at of d)
@@ -122,7 +198,7 @@ decls_in script scope at of (d ∷ ds) w h = bind (fresh_in script scope of d h.
 
 vars_in : (script : Tokens) (scope : Scope) (v : written.Vars) → VarsIn script v → Fine script (vars_typed scope v)
 unfolding vars_typed
-vars_in script scope v h = bind (known_ty_in script (at_type v.of) (ty_in scope.env v.of) (written_at script scope.env.registered scope.env.heads.classes v.of h.0)) (λ of w. decls_in script scope (at_type v.of) of v.decls w h.1)
+vars_in script scope v h = bind (variables_ty_in script scope.env v.of h.0) (λ of w. decls_in script scope (at_type v.of) of v.decls w h.1)
 
 -- statements, once their parts are walked
 
@@ -177,14 +253,14 @@ continue_in : (script : Tokens) (leaves : Bool) (p : place.Place) → HasToken s
 unfolding continue_typed
 continue_in script leaves p h = either leaves (fine tt) (faulty (reserved words.Continue, h, refl))
 
-returned_in : (script : Tokens) (of : Ty) (at : ℕ) (t : Typed) → HasToken script (reserved words.Return) at → HasStart script t.at → Fine script (returned of at t)
+returned_in : (script : Tokens) (classes : List Class) (of : Ty) (at : ℕ) (t : Typed) → HasToken script (reserved words.Return) at → HasStart script t.at → Fine script (returned classes of at t)
 unfolding returned
-returned_in script of at t h k = either (is_void of) (faulty (reserved words.Return, h, refl)) (fitted_in script of t k)
+returned_in script classes of at t h k = either (is_void of) (faulty (reserved words.Return, h, refl)) (fitted_in script classes of t k)
 
 return_in : (script : Tokens) (scope : Scope) (p : place.Place) (e : Option written.Expr) → HasToken script (reserved words.Return) p.at → MaybeIn script e → Fine script (return_typed scope p e)
 unfolding return_typed
 return_in script scope p None h k = either (gives_nothing scope.gives) (fine tt) (faulty (reserved words.Return, h, refl))
-return_in script scope p (Some e) h k = bind (typed_in script scope.env false e k) (λ t l. bind (returned_in script scope.gives p.at t h l) (λ value u. fine tt))
+return_in script scope p (Some e) h k = bind (typed_in script scope.env false e k) (λ t l. bind (returned_in script scope.env.heads.classes scope.gives p.at t h l) (λ value u. fine tt))
 
 constant_in : (script : Tokens) (kind : Option Kind) (before : List Label) (at : ℕ) (l : Label) (m : Meaning) → HasToken script m at → begins_constant m ≡ true → Fine script (constant_typed kind before at l)
 unfolding constant_typed
