@@ -54,7 +54,7 @@ fn has_types_of(one: &Function, other: &Function) -> bool
 
 /// The place of the method of a class that a method of an interface runs.
 fn matching(method: &Function, found: Option<(usize, &Function)>) -> Option<usize>
-    ensures { result ≡ definition.matching (function_of method.now) (option_map placed_function found) }
+    ensures { result ≡ definition.matching (function_of method.now) (option_map placed_function found.entry) }
 {
     match found {
         Some((place, other)) if has_types_of(method, other) => Some(place),
