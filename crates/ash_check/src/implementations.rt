@@ -70,6 +70,7 @@ fn method_for(methods: &[Function], method: &Function) -> Option<usize>
 }
 
 /// The places of those for each method of an interface, where the class has them all.
+#[tactic(auto, using(crate::proofs::MethodLaws::nothing_before, crate::proofs::MethodLaws::one_before))]
 fn methods_for(
     alloc: Global,
     methods: &[Function],
