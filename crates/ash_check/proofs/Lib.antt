@@ -3,5 +3,5 @@ pub mod ReturnTests
 pub mod CheckLaws
 pub mod StatementLaws
 pub mod NodeLaws
-pub mod TypedUses
 pub mod ExactLaws
+pub mod MethodLaws
