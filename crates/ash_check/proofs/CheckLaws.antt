@@ -1,7 +1,6 @@
 -- What checking tells, from what its parts tell; and the names on a way round.
-use Rattle.std.proofs.Common.{Bool, true, false, ◌≡◌, ℕ, zero, suc, ◌+◌, ◌<◌, List, [], ◌∷◌, ◌++◌, length, map, drop, get_or, slice_get, Some, None, Result, Ok, Err, IsErrAnd, MatchResult, String, Global, string_bytes, refl, sym, ap, ap₂, ◌∙◌, subst, arith, append_assoc}
+use Rattle.std.proofs.Common.{◌≡◌, ℕ, zero, suc, ◌+◌, ◌<◌, List, [], ◌∷◌, ◌++◌, length, map, drop, get_or, slice_get, Some, None, Result, Ok, Err, IsErrAnd, MatchResult, String, Global, string_bytes, refl, sym, ap, ap₂, ◌∙◌, subst, arith, append_assoc}
 use Rattle.std.proofs.Common.{add-one, drop-cons}
-use Rattle.std.specs.Prelude.{if◌then◌else◌}
 use Rattle.std.proofs.lemmas.Option.{slice_get_within, get_or_from_slice_get}
 use Rattle.std.proofs.lemmas.List.{map-append}
 use Rattle.std.specs.Option.{option_map_or}
@@ -18,10 +17,9 @@ use Rattle.ash_expressions.specs.Gives.{Fails}
 use Rattle.ash_classes.specs.Ways.{IsWay}
 use Rattle.ash_classes.specs.References.{Refers, classes_of}
 use Rattle.ash_classes.specs.ToldCycle.{told_cycle}
-use Rattle.ash_untyped.specs.Uses.{uses}
 use Rattle.ash_check.specs.declared.faults.CheckFault.{CheckFault}
 use Rattle.ash_check.specs.Told.{told_at, stopped}
-use Rattle.ash_check.specs.Checks.{Told, NotYet, Cyclic, name_at, round_of, unless_round, checked_by, typed_checked, checked, broken_at, told_of, IsWhatIsTold, Tells, HoldsNamed, LeadsTo, GoesRound}
+use Rattle.ash_check.specs.Checks.{Told, Cyclic, name_at, round_of, unless_round, checked_by, checked, broken_at, told_of, IsWhatIsTold, Tells, HoldsNamed, LeadsTo, GoesRound}
 
 -- what is told
 
@@ -40,9 +38,9 @@ rule_is_told rules.ConstantOutOfRange at = refl
 rule_is_told rules.DuplicateCase at = refl
 
 -- a fault of the walk is what is told
-pub stop_is_told : (calls : List Call) (items : List Item) (stop : Stop) → Fails stop (module_typed calls items) → Tells (typed_checked calls items) (stopped stop)
-unfolding typed_checked
-stop_is_told calls items (stops.Fault f) fails = subst (λ why. IsWhatIsTold why (typed_checked calls items)) (sym (rule_is_told f.rule f.at)) (ap (checked_by (classes_of items)) fails)
+pub stop_is_told : (calls : List Call) (items : List Item) (stop : Stop) → Fails stop (module_typed calls items) → Tells (checked calls items) (stopped stop)
+unfolding checked
+stop_is_told calls items (stops.Fault f) fails = subst (λ why. IsWhatIsTold why (checked calls items)) (sym (rule_is_told f.rule f.at)) (ap (checked_by (classes_of items)) fails)
 stop_is_told calls items stops.NoMemory fails = tt
 
 -- and so what is answered
@@ -51,26 +49,14 @@ tells_if_err (Ok done) why answer P is tells = absurd is
 tells_if_err (Err fault) why answer P is tells = subst (λ f. Tells answer f) (sym is) tells
 
 -- where every rule is kept and no class reaches itself, the typed module
-pub typed_is_checked : (calls : List Call) (items : List Item) (typed : Module) → module_typed calls items ≡ Ok typed → told_cycle (classes_of items) ≡ None → typed_checked calls items ≡ Ok typed
-unfolding typed_checked
+pub typed_is_checked : (calls : List Call) (items : List Item) (typed : Module) → module_typed calls items ≡ Ok typed → told_cycle (classes_of items) ≡ None → checked calls items ≡ Ok typed
+unfolding checked
 typed_is_checked calls items typed fine none = ap (checked_by (classes_of items)) fine ∙ ap (λ way. unless_round (classes_of items) way typed) none
 
 -- else the cycle that is told
-pub cycle_is_told : (calls : List Call) (items : List Item) (typed : Module) (first : ℕ) (others : List ℕ) → module_typed calls items ≡ Ok typed → told_cycle (classes_of items) ≡ Some (first, others) → typed_checked calls items ≡ Err (Cyclic (round_of (classes_of items) (first, others)))
-unfolding typed_checked
+pub cycle_is_told : (calls : List Call) (items : List Item) (typed : Module) (first : ℕ) (others : List ℕ) → module_typed calls items ≡ Ok typed → told_cycle (classes_of items) ≡ Some (first, others) → checked calls items ≡ Err (Cyclic (round_of (classes_of items) (first, others)))
+unfolding checked
 cycle_is_told calls items typed first others fine some = ap (checked_by (classes_of items)) fine ∙ ap (λ way. unless_round (classes_of items) way typed) some
-
--- of each script
-
--- one that uses nothing that is not typed so far
-pub plain_is_checked : (calls : List Call) (items : List Item) → uses items ≡ false → checked calls items ≡ typed_checked calls items
-unfolding checked
-plain_is_checked calls items none = ap (λ (b : Bool). if b then Err NotYet else typed_checked calls items) none
-
--- and each other
-pub other_is_checked : (calls : List Call) (items : List Item) → uses items ≡ true → checked calls items ≡ Err NotYet
-unfolding checked
-other_is_checked calls items some = ap (λ (b : Bool). if b then Err NotYet else typed_checked calls items) some
 
 -- places of classes
 

@@ -1,5 +1,5 @@
 -- What the check answers, by the rules of typing and by which classes reach themselves.
-use Rattle.std.proofs.Common.{◌≡◌, ◌↔◌, ◌∙◌, ℕ, List, Bool, true, false, Option, Some, None, Result, Ok, Err, refl, sym, ap}
+use Rattle.std.proofs.Common.{◌≡◌, ◌↔◌, ◌∙◌, ℕ, List, Option, Some, None, Result, Ok, Err, refl, sym, ap}
 use Rattle.ash_registrations.specs.Calls.{Call}
 use Rattle.ash_tree.specs.Tree.{Class, Item}
 use Rattle.ash_typed.specs.Modules.{Module}
@@ -12,11 +12,8 @@ use Rattle.ash_classes.specs.References.{Refers, classes_of}
 use Rattle.ash_classes.specs.ToldCycle.{told_cycle}
 use Rattle.ash_classes.specs.Ways.{IsTold, Reaches}
 use Rattle.ash_classes.proofs.ToldSearches.{told_is, none_is_told}
-use Rattle.ash_untyped.specs.Uses.{uses}
-use Rattle.ash_check.specs.Checks.{Told, NotYet, Broken, Cyclic, round_of, unless_round, checked_by, typed_checked, checked}
-use Rattle.ash_check.specs.Interfaces.{names_interface}
-use Rattle.ash_check.proofs.CheckLaws.{typed_is_checked, cycle_is_told, plain_is_checked, other_is_checked}
-use Rattle.ash_check.proofs.TypedUses.{typed_uses}
+use Rattle.ash_check.specs.Checks.{Told, Broken, Cyclic, round_of, unless_round, checked_by, checked}
+use Rattle.ash_check.proofs.CheckLaws.{typed_is_checked, cycle_is_told}
 
 -- answers
 
@@ -32,15 +29,6 @@ not_accepted why x h = cc
 not_cyclic : (x : Module) (why : Told) → ◌≡◌ {A = Result Module Told} (Ok x) (Err why) → ⊥
 not_cyclic x why h = cc
 
--- which of two holds
-by_cases : (b : Bool) {Q : Type 0} → (b ≡ true → Q) → (b ≡ false → Q) → Q
-by_cases true one other = one refl
-by_cases false one other = other refl
-
--- a script that is not refused as not typed so far
-plain : (calls : List Call) (items : List Item) (answer : Result Module Told) → checked calls items ≡ answer → (◌≡◌ {A = Result Module Told} (Err NotYet) answer → ⊥) → (uses items ≡ false) × (typed_checked calls items ≡ answer)
-plain calls items answer h other = by_cases (uses items) (λ some. absurd (other (sym (other_is_checked calls items some) ∙ h))) (λ none. (none, sym (plain_is_checked calls items none) ∙ h))
-
 -- what is accepted
 
 unless_accepted : (classes : List Class) (way : Option (ℕ × List ℕ)) (m typed : Module) → unless_round classes way m ≡ Ok typed → (way ≡ None) × (m ≡ typed)
@@ -51,22 +39,21 @@ by_accepted : (classes : List Class) (r : Checking Module) (typed : Module) → 
 by_accepted classes (Ok m) typed h = let u = unless_accepted classes (told_cycle classes) m typed h in (ap Ok u.1, u.0)
 by_accepted classes (Err f) typed h = absurd (not_accepted (Broken f) typed h)
 
-typed_accepted : (calls : List Call) (items : List Item) (typed : Module) → typed_checked calls items ≡ Ok typed → (module_typed calls items ≡ Ok typed) × (told_cycle (classes_of items) ≡ None)
-unfolding typed_checked
+typed_accepted : (calls : List Call) (items : List Item) (typed : Module) → checked calls items ≡ Ok typed → (module_typed calls items ≡ Ok typed) × (told_cycle (classes_of items) ≡ None)
+unfolding checked
 typed_accepted calls items typed h = by_accepted (classes_of items) (module_typed calls items) typed h
 
-pub accepted_is : (calls : List Call) (items : List Item) (typed : Module) → (checked calls items ≡ Ok typed) ↔ (IsTyped calls items typed × (names_interface items ≡ false) × ((class : ℕ) → Reaches (Refers (classes_of items)) class class → ⊥))
+pub accepted_is : (calls : List Call) (items : List Item) (typed : Module) → (checked calls items ≡ Ok typed) ↔ (IsTyped calls items typed × ((class : ℕ) → Reaches (Refers (classes_of items)) class class → ⊥))
 accepted_is calls items typed = (go, back)
   where
-    go : checked calls items ≡ Ok typed → IsTyped calls items typed × (names_interface items ≡ false) × ((class : ℕ) → Reaches (Refers (classes_of items)) class class → ⊥)
+    go : checked calls items ≡ Ok typed → IsTyped calls items typed × ((class : ℕ) → Reaches (Refers (classes_of items)) class class → ⊥)
     go h =
-        let p = plain calls items (Ok typed) h (not_accepted NotYet typed) in
-        let t = typed_accepted calls items typed p.1 in
+        let t = typed_accepted calls items typed h in
         let is : IsTyped calls items typed = (module_typed-exact calls items typed).0 t.0 in
-        (is, sym (typed_uses calls items typed is) ∙ p.0, (none_is_told (classes_of items)).0 t.1)
+        (is, (none_is_told (classes_of items)).0 t.1)
 
-    back : IsTyped calls items typed × (names_interface items ≡ false) × ((class : ℕ) → Reaches (Refers (classes_of items)) class class → ⊥) → checked calls items ≡ Ok typed
-    back h = plain_is_checked calls items (typed_uses calls items typed h.0 ∙ h.1) ∙ typed_is_checked calls items typed ((module_typed-exact calls items typed).1 h.0) ((none_is_told (classes_of items)).1 h.2)
+    back : IsTyped calls items typed × ((class : ℕ) → Reaches (Refers (classes_of items)) class class → ⊥) → checked calls items ≡ Ok typed
+    back h = typed_is_checked calls items typed ((module_typed-exact calls items typed).1 h.0) ((none_is_told (classes_of items)).1 h.1)
 
 -- what is refused for a cycle
 
@@ -81,43 +68,39 @@ by_cyclic : (classes : List Class) (r : Checking Module) (names : List (List ℕ
 by_cyclic classes (Ok m) names h = let u = unless_cyclic classes (told_cycle classes) m names h in (m, refl, u.0, u.1, u.2)
 by_cyclic classes (Err f) names h = absurd (other_fault f names h)
 
-typed_cyclic : (calls : List Call) (items : List Item) (names : List (List ℕ)) → typed_checked calls items ≡ Err (Cyclic names) → (typed : Module) × (module_typed calls items ≡ Ok typed) × (round : ℕ × List ℕ) × (told_cycle (classes_of items) ≡ Some round) × (names ≡ round_of (classes_of items) round)
-unfolding typed_checked
+typed_cyclic : (calls : List Call) (items : List Item) (names : List (List ℕ)) → checked calls items ≡ Err (Cyclic names) → (typed : Module) × (module_typed calls items ≡ Ok typed) × (round : ℕ × List ℕ) × (told_cycle (classes_of items) ≡ Some round) × (names ≡ round_of (classes_of items) round)
+unfolding checked
 typed_cyclic calls items names h = by_cyclic (classes_of items) (module_typed calls items) names h
 
-not_yet_cyclic : (names : List (List ℕ)) → ◌≡◌ {A = Result Module Told} (Err NotYet) (Err (Cyclic names)) → ⊥
-not_yet_cyclic names h = cc
-
 -- by the cycle that is answered
-pub cycle_is : (calls : List Call) (items : List Item) (names : List (List ℕ)) → (checked calls items ≡ Err (Cyclic names)) ↔ ((typed : Module) × (first : ℕ) × (others : List ℕ) × IsTyped calls items typed × (names_interface items ≡ false) × IsTold (Refers (classes_of items)) first others × (names ≡ round_of (classes_of items) (first, others)))
+pub cycle_is : (calls : List Call) (items : List Item) (names : List (List ℕ)) → (checked calls items ≡ Err (Cyclic names)) ↔ ((typed : Module) × (first : ℕ) × (others : List ℕ) × IsTyped calls items typed × IsTold (Refers (classes_of items)) first others × (names ≡ round_of (classes_of items) (first, others)))
 cycle_is calls items names = (go, back)
   where
-    go : checked calls items ≡ Err (Cyclic names) → (typed : Module) × (first : ℕ) × (others : List ℕ) × IsTyped calls items typed × (names_interface items ≡ false) × IsTold (Refers (classes_of items)) first others × (names ≡ round_of (classes_of items) (first, others))
+    go : checked calls items ≡ Err (Cyclic names) → (typed : Module) × (first : ℕ) × (others : List ℕ) × IsTyped calls items typed × IsTold (Refers (classes_of items)) first others × (names ≡ round_of (classes_of items) (first, others))
     go h =
-        let p = plain calls items (Err (Cyclic names)) h (not_yet_cyclic names) in
-        let t = typed_cyclic calls items names p.1 in
+        let t = typed_cyclic calls items names h in
         let is : IsTyped calls items t.0 = (module_typed-exact calls items t.0).0 t.1 in
-        (t.0, (t.2).0, (t.2).1, is, sym (typed_uses calls items t.0 is) ∙ p.0, (told_is (classes_of items) (t.2).0 (t.2).1).0 t.3, t.4)
+        (t.0, (t.2).0, (t.2).1, is, (told_is (classes_of items) (t.2).0 (t.2).1).0 t.3, t.4)
 
-    back : (typed : Module) × (first : ℕ) × (others : List ℕ) × IsTyped calls items typed × (names_interface items ≡ false) × IsTold (Refers (classes_of items)) first others × (names ≡ round_of (classes_of items) (first, others)) → checked calls items ≡ Err (Cyclic names)
+    back : (typed : Module) × (first : ℕ) × (others : List ℕ) × IsTyped calls items typed × IsTold (Refers (classes_of items)) first others × (names ≡ round_of (classes_of items) (first, others)) → checked calls items ≡ Err (Cyclic names)
     back h =
-        let found : told_cycle (classes_of items) ≡ Some (h.1, h.2) = (told_is (classes_of items) h.1 h.2).1 h.5 in
-        plain_is_checked calls items (typed_uses calls items h.0 h.3 ∙ h.4) ∙ cycle_is_told calls items h.0 h.1 h.2 ((module_typed-exact calls items h.0).1 h.3) found ∙ ap (λ ns. Err (Cyclic ns)) (sym h.6)
+        let found : told_cycle (classes_of items) ≡ Some (h.1, h.2) = (told_is (classes_of items) h.1 h.2).1 h.4 in
+        cycle_is_told calls items h.0 h.1 h.2 ((module_typed-exact calls items h.0).1 h.3) found ∙ ap (λ ns. Err (Cyclic ns)) (sym h.5)
 
 some_round : (classes : List Class) (way : Option (ℕ × List ℕ)) → told_cycle classes ≡ way → (class : ℕ) → Reaches (Refers classes) class class → (round : ℕ × List ℕ) × (told_cycle classes ≡ Some round)
 some_round classes None h class reaches = absurd ((none_is_told classes).0 h class reaches)
 some_round classes (Some round) h class reaches = (round, h)
 
 -- by the rules
-pub cyclic_is : (calls : List Call) (items : List Item) → ((names : List (List ℕ)) × (checked calls items ≡ Err (Cyclic names))) ↔ ((typed : Module) × (class : ℕ) × IsTyped calls items typed × (names_interface items ≡ false) × Reaches (Refers (classes_of items)) class class)
+pub cyclic_is : (calls : List Call) (items : List Item) → ((names : List (List ℕ)) × (checked calls items ≡ Err (Cyclic names))) ↔ ((typed : Module) × (class : ℕ) × IsTyped calls items typed × Reaches (Refers (classes_of items)) class class)
 cyclic_is calls items = (go, back)
   where
-    go : (names : List (List ℕ)) × (checked calls items ≡ Err (Cyclic names)) → (typed : Module) × (class : ℕ) × IsTyped calls items typed × (names_interface items ≡ false) × Reaches (Refers (classes_of items)) class class
-    go h = let k = (cycle_is calls items h.0).0 h.1 in (k.0, k.1, k.3, k.4, (k.2, (k.5).round.way))
+    go : (names : List (List ℕ)) × (checked calls items ≡ Err (Cyclic names)) → (typed : Module) × (class : ℕ) × IsTyped calls items typed × Reaches (Refers (classes_of items)) class class
+    go h = let k = (cycle_is calls items h.0).0 h.1 in (k.0, k.1, k.3, (k.2, (k.4).round.way))
 
-    back : (typed : Module) × (class : ℕ) × IsTyped calls items typed × (names_interface items ≡ false) × Reaches (Refers (classes_of items)) class class → (names : List (List ℕ)) × (checked calls items ≡ Err (Cyclic names))
+    back : (typed : Module) × (class : ℕ) × IsTyped calls items typed × Reaches (Refers (classes_of items)) class class → (names : List (List ℕ)) × (checked calls items ≡ Err (Cyclic names))
     back h =
         let classes = classes_of items in
-        let r = some_round classes (told_cycle classes) refl h.1 h.4 in
+        let r = some_round classes (told_cycle classes) refl h.1 h.3 in
         let foremost : IsTold (Refers classes) (r.0).0 (r.0).1 = (told_is classes (r.0).0 (r.0).1).0 r.1 in
-        (round_of classes r.0, (cycle_is calls items (round_of classes r.0)).1 (h.0, (r.0).0, (r.0).1, h.2, h.3, foremost, refl))
+        (round_of classes r.0, (cycle_is calls items (round_of classes r.0)).1 (h.0, (r.0).0, (r.0).1, h.2, foremost, refl))

@@ -3,5 +3,4 @@ pub mod ReturnTests
 pub mod CheckLaws
 pub mod StatementLaws
 pub mod NodeLaws
-pub mod TypedUses
 pub mod ExactLaws

@@ -1,6 +1,6 @@
--- What checking tells of a script: its typed module; or that it uses what is not typed so far; else the first rule that
--- is broken; else classes that could form cycles.
-use Rattle.std.specs.Prelude.{◌≡◌, ℕ, List, [], ◌∷◌, Option, Some, None, Result, Ok, Err, map, slice_get, string_bytes, if◌then◌else◌}
+-- What checking tells of a script: its typed module; or the first rule that is broken; else classes that could form
+-- cycles.
+use Rattle.std.specs.Prelude.{◌≡◌, ℕ, List, [], ◌∷◌, Option, Some, None, Result, Ok, Err, map, slice_get, string_bytes}
 use Rattle.std.specs.List.{Contains}
 use Rattle.std.specs.Option.{option_map_or}
 use Rattle.ash_registrations.specs.Calls.{Call}
@@ -13,14 +13,11 @@ use Rattle.ash_typed.specs.Modules.{Module}
 use Rattle.ash_typing.specs.Items.{module_typed}
 use Rattle.ash_classes.specs.References.{RefersTo, classes_of}
 use Rattle.ash_classes.specs.ToldCycle.{told_cycle}
-use Rattle.ash_untyped.specs.Uses.{uses}
 use Rattle.ash_check.specs.declared.faults.CheckFault.{CheckFault}
 use Rattle.ash_check.specs.declared.faults.CheckFault.TheVariants as faults
 
 -- why a script is refused, without where names lie in memory
 pub data Told : Type 0 where
-  -- something of the language that is not typed so far
-  NotYet : Told
   -- a rule that is broken at an offset
   Broken : Fault → Told
   -- classes that could form a cycle, by their names: the first one told, and the others on the way back to it
@@ -43,14 +40,9 @@ abbrev pub checked_by : List Class → Checking Module → Result Module Told
 checked_by classes (Ok typed) = unless_round classes (told_cycle classes) typed
 checked_by classes (Err fault) = Err (Broken fault)
 
--- The typed module of a script that uses nothing that is not typed so far; or its first fault; or, where every rule is
--- kept, the classes that could form a cycle.
-unfoldable pub typed_checked : List Call → List Item → Result Module Told
-typed_checked calls items = checked_by (classes_of items) (module_typed calls items)
-
--- The same of each script: one that uses an interface, a cast, an array or an index is refused whatever its types are.
+-- The typed module of a script; or its first fault; or, where every rule is kept, the classes that could form a cycle.
 unfoldable pub checked : List Call → List Item → Result Module Told
-checked calls items = if uses items then Err NotYet else typed_checked calls items
+checked calls items = checked_by (classes_of items) (module_typed calls items)
 
 -- what the code's faults tell
 
@@ -59,7 +51,6 @@ broken_at rule at = Some (Broken (record { rule = rule; at = at }))
 
 -- why a script is refused; none where memory ran out, which says nothing of the script
 abbrev pub told_of : CheckFault → Option Told
-told_of faults.NotYet = Some NotYet
 told_of (faults.UnknownName at) = broken_at rules.UnknownName at
 told_of (faults.UnknownType at) = broken_at rules.UnknownType at
 told_of (faults.NameTaken at) = broken_at rules.NameTaken at

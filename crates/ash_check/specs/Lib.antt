@@ -3,4 +3,3 @@ pub mod WalkViews
 pub mod StatementViews
 pub mod Returning
 pub mod Checks
-pub mod Interfaces

@@ -1,6 +1,8 @@
 -- What the structs of the walk over a module's items stand for.
-use Rattle.std.specs.Prelude.{List, [], Option, None, Some, map, option_map}
+use Rattle.std.specs.Prelude.{ℕ, List, [], Option, None, Some, map, option_map}
 use Rattle.std.specs.Borrow.{Bor}
+use Rattle.std.specs.declared.vec.Vec.{Vec}
+use Rattle.std.specs.declared.alloc.Global.{Global}
 use Rattle.ash_registrations.specs.declared.registrations.Registrations.{Registrations}
 use Rattle.ash_registrations.specs.Registered.{registered}
 use Rattle.ash_registrations.specs.Calls as host
@@ -8,14 +10,16 @@ use Rattle.ash_tree.specs.Views.{parameter_of, stmt_of}
 use Rattle.ash_typed.specs.Tree.{Expr}
 use Rattle.ash_typed.specs.Views.{expr_of}
 use Rattle.ash_typed.specs.declared.tree.expressions.Expr as typed_expr
-use Rattle.ash_typing.specs.Items.{Names, Routine, Row, Members, Walked}
-use Rattle.ash_typed.specs.Modules.{variables_of, class_of, module_of}
+use Rattle.ash_typing.specs.Items.{Names, Routine, Row, Signatures, Listed, Members, Walked}
+use Rattle.ash_typed.specs.Modules.{variables_of, signature_of, implementation_of, class_of, module_of}
 use Rattle.ash_typed.specs.declared.tree.items.Variables as variables
 use Rattle.ash_typed.specs.declared.tree.items.Class as class
 use Rattle.ash_typed.specs.declared.tree.items.Module as script
 use Rattle.ash_expressions.specs.Places.{texts}
 use Rattle.ash_check.specs.declared.names.Names as names
-use Rattle.ash_check.specs.declared.items.Routine as routine
+use Rattle.ash_check.specs.declared.routines.Routine as routine
+use Rattle.ash_check.specs.declared.interfaces.Signatures as signatures
+use Rattle.ash_check.specs.declared.implementations.Listed as listed
 
 abbrev pub registered_in : Option (Bor Registrations) → List host.Call
 registered_in None = []
@@ -26,6 +30,18 @@ names_of n = record { registered = registered_in n.registry; taken = texts n.tak
 
 abbrev pub routine_of : routine.Routine → Routine
 routine_of c = record { place = c.place; name = c.name.now; parameters = map parameter_of c.parameters.now; body = map stmt_of c.body.now }
+
+-- the methods of an interface, and the interfaces that a class lists, so far
+
+abbrev pub signatures_of : signatures.Signatures → Signatures
+signatures_of ss = record { names = names_of ss.names; methods = map signature_of ss.methods.items }
+
+abbrev pub listed_of : listed.Listed → Listed
+listed_of l = record { names = names_of l.names; interfaces = map implementation_of l.interfaces.items }
+
+-- the places of methods, where there is one for each
+abbrev pub maybe_places : Option (Vec ℕ Global) → Option (List ℕ)
+maybe_places places = option_map (λ (all : Vec ℕ Global). all.items) places
 
 -- variables, a class and a module so far, with the names that are taken
 

@@ -1,8 +1,7 @@
 //! The check of a script: its typed module with a rank for each class, or why it is refused.
 
-ghost use Rattle.std.specs.Prelude.{◌≡◌, ◌↔◌, ◌<◌, ℕ, false, List, Ok, Err, length, map, string_bytes, All, IfOk, IfErr, OnOk, MatchResult};
+ghost use Rattle.std.specs.Prelude.{◌≡◌, ◌↔◌, ◌<◌, ℕ, List, Ok, Err, length, map, string_bytes, All, IfOk, IfErr, OnOk, MatchResult};
 ghost use Rattle.ash_registrations.specs.Calls.{Call};
-ghost use Rattle.ash_registrations.specs.Registered as table;
 ghost use Rattle.ash_registry.specs.Registered.{registered};
 ghost use Rattle.ash_tree.specs.Tree.{Item};
 ghost use Rattle.ash_tree.specs.Views.{module_of as written_module};
@@ -11,17 +10,14 @@ ghost use Rattle.ash_typed.specs.Modules.{module_of};
 ghost use Rattle.ash_typing.specs.TypedModules.{IsTyped};
 ghost use Rattle.ash_classes.specs.References.{Refers, classes_of, seen};
 ghost use Rattle.ash_classes.specs.Ways.{IsTold, Reaches, AreRanks};
-ghost use Rattle.ash_check.specs.Checks.{Cyclic, checked, typed_checked, Tells, told_of, name_at, round_of, GoesRoundIfCyclic};
-ghost use Rattle.ash_check.specs.Interfaces.{names_interface};
+ghost use Rattle.ash_check.specs.Checks.{Cyclic, checked, Tells, told_of, name_at, round_of, GoesRoundIfCyclic};
 
 use crate::faults::{CheckFault, ClassNames};
 use crate::items::module_typed;
 use ash_classes::{Cycle, class_ranks, classes};
-use ash_registrations::Registrations;
 use ash_registry::Registry;
 use ash_tree::Class;
 use ash_typed::Module;
-use ash_untyped::uses_untyped;
 use std::alloc::{AllocError, Global};
 
 /// A script that was checked.
@@ -63,35 +59,14 @@ fn round_names(
     Ok(ClassNames(names_at(alloc, &classes, &places)?))
 }
 
-/// Checks a script that uses nothing that is not typed so far.
-fn check_typed(
-    alloc: Global,
-    registry: &Registrations,
-    script: &ash_tree::Module,
-) -> Result<Checked, CheckFault>
-    ensures answer { MatchResult result (λ done. typed_checked (table.registered registry.now) (written_module script.now) ≡ Ok (module_of done.module)) (λ fault. Tells (typed_checked (table.registered registry.now) (written_module script.now)) fault) }
-    ensures typed { IfOk result (λ done. IsTyped (table.registered registry.now) (written_module script.now) (module_of done.module)) }
-    ensures ranks { IfOk result (λ done. AreRanks (Refers (classes_of (written_module script.now))) (length (classes_of (written_module script.now))) done.ranks.items) }
-    ensures acyclic { OnOk result ((class : ℕ) → Reaches (Refers (classes_of (written_module script.now))) class class → ⊥) }
-    ensures round { IfErr result (λ fault. GoesRoundIfCyclic (classes_of (written_module script.now)) (told_of fault)) }
-{
-    let module = module_typed(alloc, registry, script)?;
-    match class_ranks(alloc, script)? {
-        Ok(ranks) => Ok(Checked { module, ranks }),
-        Err(cycle) => Err(CheckFault::CyclicType(round_names(alloc, script, &cycle)?)),
-    }
-}
-
 /// Checks a script by itself and against what is registered: names, types, where phrases may stand, limits, and that
 /// none of its classes could form a cycle.
 ///
 /// # Errors
 ///
-/// `CheckFault::NotYet` where the script uses an interface, a cast, an array or an index, which are not typed so far. Else
-/// the first fault in the order of the text: of an item its types and names, then its body; of a phrase its parts, then
+/// The first fault in the order of the text: of an item its types and names, then its body; of a phrase its parts, then
 /// the phrase. Its offset is that of a byte of the source. `CheckFault::CyclicType` comes after all others.
 /// `CheckFault::NoMemory` says nothing of the script.
-#[tactic(auto, using(crate::proofs::CheckLaws::plain_is_checked, crate::proofs::CheckLaws::other_is_checked))]
 pub fn check(
     alloc: Global,
     registry: &Registry,
@@ -103,27 +78,26 @@ pub fn check(
     ensures acyclic { OnOk result ((class : ℕ) → Reaches (Refers (classes_of (written_module script.now))) class class → ⊥) }
     ensures round { IfErr result (λ fault. GoesRoundIfCyclic (classes_of (written_module script.now)) (told_of fault)) }
 {
-    if uses_untyped(script) {
-        return Err(CheckFault::NotYet);
+    let module = module_typed(alloc, registry.registrations(), script)?;
+    match class_ranks(alloc, script)? {
+        Ok(ranks) => Ok(Checked { module, ranks }),
+        Err(cycle) => Err(CheckFault::CyclicType(round_names(alloc, script, &cycle)?)),
     }
-    check_typed(alloc, registry.registrations(), script)
 }
 
-/// That the check accepts a script, with this typed module, exactly where the rules give it this module, it names no
-/// interface, and no class reaches itself. And that it answers a cycle exactly where the rules give it a module, it names
-/// no interface, and some class reaches itself: the cycle from the first class that does, by the first of its shortest
-/// ways back. It does nothing when it runs.
+/// That the check accepts a script, with this typed module, exactly where the rules give it this module and no class
+/// reaches itself. And that it answers a cycle exactly where the rules give it a module and some class reaches itself: the
+/// cycle from the first class that does, by the first of its shortest ways back. It does nothing when it runs.
 pub fn check_is_exact()
     ensures accepted { (calls : List Call) (items : List Item) (typed : modules.Module) →
-        (checked calls items ≡ Ok typed) ↔ (IsTyped calls items typed × (names_interface items ≡ false) ×
+        (checked calls items ≡ Ok typed) ↔ (IsTyped calls items typed ×
         ((class : ℕ) → Reaches (Refers (classes_of items)) class class → ⊥)) }
     ensures cyclic { (calls : List Call) (items : List Item) →
         ((names : List (List ℕ)) × (checked calls items ≡ Err (Cyclic names))) ↔
-        ((typed : modules.Module) × (class : ℕ) × IsTyped calls items typed × (names_interface items ≡ false) ×
+        ((typed : modules.Module) × (class : ℕ) × IsTyped calls items typed ×
         Reaches (Refers (classes_of items)) class class) }
     ensures names { (calls : List Call) (items : List Item) (names : List (List ℕ)) →
         (checked calls items ≡ Err (Cyclic names)) ↔
         ((typed : modules.Module) × (first : ℕ) × (others : List ℕ) × IsTyped calls items typed ×
-        (names_interface items ≡ false) × IsTold (Refers (classes_of items)) first others ×
-        (names ≡ round_of (classes_of items) (first, others))) }
+        IsTold (Refers (classes_of items)) first others × (names ≡ round_of (classes_of items) (first, others))) }
 {}

@@ -3,19 +3,19 @@
 ghost use Rattle.std.specs.Prelude.{◌≡◌, map, option_map, IfOk};
 ghost use Rattle.ash_registrations.specs.Registered.{registered};
 ghost use Rattle.ash_tree.specs.Tree.{place_of_type};
-ghost use Rattle.ash_tree.specs.Views.{type_of, initializer_of, decl_of};
+ghost use Rattle.ash_tree.specs.Views.{element_of, type_of, initializer_of, decl_of};
 ghost use Rattle.ash_typed.specs.BodyViews.{value_of};
+ghost use Rattle.ash_typing.specs.Expressions as typing;
 ghost use Rattle.ash_typing.specs.Declarations as definition;
 ghost use Rattle.ash_expressions.specs.Gives.{Gives};
-ghost use Rattle.ash_expressions.specs.Views.{class_of, typed_of, callee_of, environment_of};
+ghost use Rattle.ash_expressions.specs.Views.{class_of, classes_of, typed_of, callee_of, environment_of};
 ghost use Rattle.ash_check.specs.WalkViews.{maybe_expr};
 
-use crate::heads::ty_named;
 use ash_expressions::{
-    Callee, Checking, Environment, Parameters, Typed, all_typed, broken, called, expression,
-    fitted, var_type,
+    Callee, Checking, Environment, Parameters, Typed, all_typed, array_built, broken, called,
+    expression, fitted, ty_named, var_type,
 };
-use ash_tree::{Decl, Initializer, Place, Type};
+use ash_tree::{Decl, Element, Initializer, Place, Type, TypeKind};
 use ash_typed::{Expr, Initialization, ObjectType, Target};
 use ash_typing::{Callable, Rule, Ty};
 use std::alloc::Global;
@@ -34,14 +34,34 @@ pub(crate) fn ty_in(env: &Environment, of: &Type) -> Ty
     ty_named(env.registry, env.heads, of)
 }
 
-/// The type of variables, which has to be known.
+fn at_element(of: &Element) -> usize
+    ensures { result ≡ typing.at_element (element_of of.now) }
+{
+    of.place.at
+}
+
+/// Where the name in a type is: of an array, that of its elements' type.
+pub(crate) fn at_type_name(of: &Type) -> usize
+    ensures { result ≡ definition.at_type_name (type_of of.now) }
+{
+    match &of.kind {
+        TypeKind::Array(element) | TypeKind::ArrayHandle(element) => at_element(element),
+        _ => of.place.at,
+    }
+}
+
+/// The type of variables, which has to be known, and none of which stands for an object of an
+/// interface.
 #[tactic(auto, unfolding(ash_typing::specs::Declarations::known_ty))]
-pub(crate) fn known(at: usize, of: Ty) -> Checking<Ty>
-    ensures typed { Gives (λ t. t) result (definition.known_ty at of) }
+pub(crate) fn known(written: &Type, of: Ty) -> Checking<Ty>
+    ensures typed { Gives (λ t. t) result (definition.known_ty (type_of written.now) of) }
     ensures same { IfOk result (λ known. known ≡ of) }
 {
     match of {
-        Ty::Unknown => Err(broken(Rule::UnknownType, at)),
+        Ty::Unknown => Err(broken(Rule::UnknownType, at_type_name(written))),
+        Ty::Object(ObjectType::Interface(_)) => {
+            Err(broken(Rule::Misplaced, place_of(written).at))
+        }
         _ => Ok(of),
     }
 }
@@ -66,14 +86,20 @@ fn kind_construction<'a>(env: &Environment<'a, '_>, kind: u16) -> Option<Callee<
     env.host_type(call)
 }
 
-/// The construction of an object.
+/// The construction of an object by so many arguments.
 #[tactic(auto, unfolding(ash_typing::specs::Declarations::construction))]
-fn construction<'a>(env: &Environment<'a, '_>, of: ObjectType) -> Option<Callee<'a>>
-    ensures { option_map callee_of result ≡ definition.construction (environment_of env.now) of }
+fn construction<'a>(
+    env: &Environment<'a, '_>,
+    of: ObjectType,
+    count: usize,
+) -> Option<Callee<'a>>
+    ensures { option_map callee_of result ≡ definition.construction (environment_of env.now) of count }
 {
     match of {
         ObjectType::Class(place) => class_construction(env, place),
+        ObjectType::Interface(_) => None,
         ObjectType::Host(kind) => kind_construction(env, kind),
+        ObjectType::Array(element) => Some(array_built(element, count)),
     }
 }
 
@@ -81,16 +107,17 @@ fn construction<'a>(env: &Environment<'a, '_>, of: ObjectType) -> Option<Callee<
 #[tactic(auto, unfolding(ash_typing::specs::Declarations::constructed))]
 fn constructed(
     alloc: Global,
+    env: &Environment,
     at: usize,
     typed: Vec<Typed>,
     callee: Option<Callee>,
 ) -> Checking<Option<Expr>>
-    ensures { Gives maybe_expr result (definition.constructed at (map typed_of typed.items) (option_map callee_of callee.entry)) }
+    ensures { Gives maybe_expr result (definition.constructed (classes_of env.now) at (map typed_of typed.items) (option_map callee_of callee.entry)) }
 {
     let Some(callee) = callee else {
         return Err(broken(Rule::NoFactory, at));
     };
-    let object = called(alloc, at, &callee, typed)?;
+    let object = called(env, alloc, at, &callee, typed)?;
     Ok(Some(object.tree))
 }
 
@@ -101,41 +128,53 @@ fn begun(alloc: Global, env: &Environment, at: usize, of: Ty) -> Checking<Option
 {
     match of {
         Ty::Object(object) => {
-            let callee = construction(env, object);
-            constructed(alloc, at, Vec::new(alloc), callee)
+            let callee = construction(env, object, 0);
+            constructed(alloc, env, at, Vec::new(alloc), callee)
         }
         _ => Ok(None),
     }
 }
 
-fn stored_first(alloc: Global, of: Ty, typed: Typed) -> Checking<Option<Expr>>
-    ensures { Gives maybe_expr result (definition.stored_first of (typed_of typed)) }
+fn stored_first(alloc: Global, env: &Environment, of: Ty, typed: Typed) -> Checking<Option<Expr>>
+    ensures { Gives maybe_expr result (definition.stored_first (classes_of env.now) of (typed_of typed)) }
 {
-    let value = fitted(alloc, of, typed)?;
+    let value = fitted(env, alloc, of, typed)?;
     Ok(Some(value))
 }
 
 /// `T x = e`, with x at this offset: objects are not assigned.
 #[tactic(auto, unfolding(ash_typing::specs::Declarations::begun_with))]
-fn begun_with(alloc: Global, at: usize, of: Ty, typed: Typed) -> Checking<Option<Expr>>
-    ensures { Gives maybe_expr result (definition.begun_with at of (typed_of typed)) }
+fn begun_with(
+    alloc: Global,
+    env: &Environment,
+    at: usize,
+    of: Ty,
+    typed: Typed,
+) -> Checking<Option<Expr>>
+    ensures { Gives maybe_expr result (definition.begun_with (classes_of env.now) at of (typed_of typed)) }
 {
     match of {
         Ty::Object(_) => Err(broken(Rule::NotAssignable, at)),
-        _ => stored_first(alloc, of, typed),
+        _ => stored_first(alloc, env, of, typed),
     }
 }
 
 /// `T x(e)` is `T x = e` for a primitive type.
 #[tactic(auto, unfolding(ash_typing::specs::Declarations::begun_by_one))]
-fn begun_by_one(alloc: Global, at: usize, of: Ty, mut typed: Vec<Typed>) -> Checking<Option<Expr>>
-    ensures { Gives maybe_expr result (definition.begun_by_one at of (map typed_of typed.items)) }
+fn begun_by_one(
+    alloc: Global,
+    env: &Environment,
+    at: usize,
+    of: Ty,
+    mut typed: Vec<Typed>,
+) -> Checking<Option<Expr>>
+    ensures { Gives maybe_expr result (definition.begun_by_one (classes_of env.now) at of (map typed_of typed.items)) }
 {
     if typed.len() != 1 {
         return Err(broken(Rule::TypeMismatch, at));
     }
     match typed.pop() {
-        Some(one) => stored_first(alloc, of, one),
+        Some(one) => stored_first(alloc, env, of, one),
         None => Err(broken(Rule::TypeMismatch, at)),
     }
 }
@@ -154,11 +193,11 @@ fn begun_by(
 {
     match of {
         Ty::Object(object) => {
-            let callee = construction(env, object);
-            constructed(alloc, of_at, typed, callee)
+            let callee = construction(env, object, typed.len());
+            constructed(alloc, env, of_at, typed, callee)
         }
         Ty::Handle(_) => Err(broken(Rule::TypeMismatch, at)),
-        _ => begun_by_one(alloc, at, of, typed),
+        _ => begun_by_one(alloc, env, at, of, typed),
     }
 }
 
@@ -177,7 +216,7 @@ fn initialized(
         Initializer::Default => begun(alloc, env, of_at, of),
         Initializer::Value(value) => {
             let typed = expression(env, alloc, false, value)?;
-            begun_with(alloc, at, of, typed)
+            begun_with(alloc, env, at, of, typed)
         }
         Initializer::Arguments(arguments) => {
             let typed = all_typed(env, alloc, arguments)?;

@@ -13,9 +13,6 @@ use thiserror::Error;
 /// Why a script is refused. `at` is a byte offset, from 0: that of the first byte of the token that is told.
 #[derive(Debug, PartialEq, Eq, Drop, Error)]
 pub enum CheckFault {
-    /// An interface, a cast, an array or an index, which are not typed so far.
-    #[error("199 NotYet")]
-    NotYet,
     /// A name that nothing has.
     #[error("301 UnknownName {at}")]
     UnknownName { at: usize },

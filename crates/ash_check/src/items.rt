@@ -1,58 +1,27 @@
 //! The walk over a module's items: its types and names, and its bodies in their turn.
 
-ghost use Rattle.std.specs.Prelude.{◌≡◌, [], map, option_map, IfOk};
+ghost use Rattle.std.specs.Prelude.{map};
 ghost use Rattle.ash_registrations.specs.Registered.{registered};
-ghost use Rattle.ash_tree.specs.Views.{type_of, vars_of, parameter_of, member_of, class_of as written_class, function_of as written_function, constructor_of, item_of, module_of as written_module};
+ghost use Rattle.ash_tree.specs.Views.{vars_of, member_of, class_of as written_class, constructor_of, item_of, module_of as written_module};
 ghost use Rattle.ash_typing.specs.Items as definition;
-ghost use Rattle.ash_typed.specs.Modules.{function_of, class_of, module_of};
+ghost use Rattle.ash_typed.specs.Modules.{class_of, module_of};
 ghost use Rattle.ash_expressions.specs.Gives.{Gives};
-ghost use Rattle.ash_expressions.specs.Views.{declared_of, environment_of, heads_of};
+ghost use Rattle.ash_expressions.specs.Views.{environment_of, heads_of};
 ghost use Rattle.ash_check.specs.WalkViews.{names_of, routine_of, row_of, members_of, walked_of};
 
-use crate::bodies::{body_returns, body_typed};
 use crate::declarations::{decl_typed, known, place_of, ty_in};
 use crate::heads::heads;
+use crate::implementations::all_listed;
+use crate::interfaces::interface_typed;
 use crate::names::Names;
-use crate::scopes::any_declares;
-use ash_expressions::{
-    Checking, Declared, Environment, Heads, broken, is_void, result_type, var_type,
-};
+use crate::routines::{Routine, as_routine, result_typed, routine_typed};
+use ash_expressions::{Checking, Environment, Heads, broken};
 use ash_registrations::Registrations;
-use ash_tree::{Constructor, Item, Member, Parameter, Place, Stmt, Type, Vars};
-use ash_typed::{Class, Function, Module, VarType, Variables};
+use ash_tree::{Constructor, Item, Member, Vars};
+use ash_typed::{Class, Module, Variables};
 use ash_typing::{Rule, Ty};
 use indexmap::IndexSet;
-use std::alloc::{AllocError, Global};
-
-/// A function, a method or a constructor, as it is written behind its result.
-#[derive(Clone, Copy)]
-pub(crate) struct Routine<'a> {
-    pub(crate) place: Place,
-    pub(crate) name: &'a str,
-    pub(crate) parameters: &'a [Parameter],
-    pub(crate) body: &'a [Stmt],
-}
-
-/// The type of a parameter or of a result: objects are passed by handles.
-#[tactic(auto, unfolding(ash_typing::specs::Items::passed_ty))]
-fn passed(at: usize, of: Ty) -> Checking<Ty>
-    ensures { Gives (λ t. t) result (definition.passed_ty at of) }
-{
-    match of {
-        Ty::Unknown => Err(broken(Rule::UnknownType, at)),
-        Ty::Object(_) => Err(broken(Rule::Misplaced, at)),
-        _ => Ok(of),
-    }
-}
-
-fn result_typed(env: &Environment, of: &Option<Type>) -> Checking<Ty>
-    ensures { Gives (λ t. t) result (definition.result_typed (environment_of env.now) (option_map type_of of.now)) }
-{
-    match of {
-        None => Ok(Ty::Void),
-        Some(of) => passed(place_of(of).at, ty_in(env, of)),
-    }
-}
+use std::alloc::Global;
 
 /// Variables of a module or of a class.
 #[tactic(auto, unfolding(ash_typing::specs::Items::vars_typed))]
@@ -65,7 +34,7 @@ fn vars_typed<'a>(
     ensures { Gives (row_of (names_of names.new)) result (definition.vars_typed (environment_of env.now) (names_of names.old) (vars_of vars.now)) }
 {
     let place = place_of(&vars.of);
-    let of = known(place.at, ty_in(env, &vars.of))?;
+    let of = known(&vars.of, ty_in(env, &vars.of))?;
     let mut variables = Variables {
         line: place.line,
         initializations: Vec::new(alloc),
@@ -76,72 +45,6 @@ fn vars_typed<'a>(
         variables.initializations.push(value)?;
     }
     Ok(variables)
-}
-
-fn parameters_typed<'a>(
-    alloc: Global,
-    env: &Environment<'_, 'a>,
-    parameters: &'a [Parameter],
-) -> Checking<Vec<Declared<'a>>>
-    ensures { Gives (λ all. map declared_of all.items) result (definition.parameters_typed (environment_of env.now) [] (map parameter_of parameters.now)) }
-{
-    let mut all = Vec::new(alloc);
-    for parameter in parameters {
-        let of = passed(place_of(&parameter.of).at, ty_in(env, &parameter.of))?;
-        let name = parameter.name.as_str();
-        if any_declares(&all, name) {
-            return Err(broken(Rule::NameTaken, parameter.place.at));
-        }
-        all.push(Declared { name, of })?;
-    }
-    Ok(all)
-}
-
-fn types_of(alloc: Global, all: &[Declared]) -> Result<Vec<VarType>, AllocError>
-    ensures { IfOk result (λ types. types.items ≡ map definition.type_of (map declared_of all.now)) }
-{
-    let mut types = Vec::new(alloc);
-    for declared in all {
-        types.push(var_type(declared.of))?;
-    }
-    Ok(types)
-}
-
-/// A function that gives this type, a method or a constructor.
-#[tactic(auto, unfolding(ash_typing::specs::Items::routine_typed, ash_typing::specs::Items::returning))]
-fn routine_typed<'a>(
-    alloc: Global,
-    env: &Environment<'_, 'a>,
-    of: Ty,
-    routine: Routine<'a>,
-) -> Checking<Function>
-    ensures { Gives function_of result (definition.routine_typed (environment_of env.now) of (routine_of routine.entry)) }
-{
-    let locals = parameters_typed(alloc, env, routine.parameters)?;
-    let parameters = types_of(alloc, &locals)?;
-    let body = body_typed(alloc, env, locals, of, routine.body)?;
-    if !is_void(of) && !body_returns(routine.body) {
-        return Err(broken(Rule::NoReturn, routine.place.at));
-    }
-    Ok(Function {
-        name: String::from_str(alloc, routine.name)?,
-        line: routine.place.line,
-        result: result_type(of),
-        parameters,
-        body,
-    })
-}
-
-/// A function, a method or a constructor, without its result.
-fn as_routine(function: &ash_tree::Function) -> Routine<'_>
-    ensures { routine_of result ≡ definition.routine_of (written_function function.now) }
-{
-    Routine {
-        place: function.place,
-        name: function.name.as_str(),
-        parameters: &function.parameters,
-        body: &function.body,
-    }
 }
 
 /// A class has one constructor, which has its name.
@@ -204,6 +107,7 @@ fn class_typed<'a>(
 ) -> Checking<Class>
     ensures { Gives class_of result (definition.class_typed (environment_of env.now) place (written_class class.now)) }
 {
+    let listed = all_listed(alloc, env, place, &class.interfaces)?;
     let inside = Environment {
         heads: env.heads,
         registry: env.registry,
@@ -218,6 +122,7 @@ fn class_typed<'a>(
     let mut typed = Class {
         name: class.name.clone()?,
         line: class.place.line,
+        interfaces: listed.interfaces,
         fields: Vec::new(alloc),
         constructor: None,
         methods: Vec::new(alloc),
@@ -228,15 +133,15 @@ fn class_typed<'a>(
     Ok(typed)
 }
 
-/// There are at most 256 classes in a module.
-#[tactic(auto, unfolding(ash_typing::specs::Items::one_more_class))]
-fn one_more_class(at: usize, count: usize) -> Checking<usize>
-    ensures { Gives (λ place. place) result (definition.one_more_class at count) }
+/// There are at most 256 classes and interfaces in a module.
+#[tactic(auto, unfolding(ash_typing::specs::Items::room_for_type))]
+fn room_for_type(at: usize, typed: &Module) -> Checking<usize>
+    ensures { Gives (λ place. place) result (definition.room_for_type at (module_of typed.now)) }
 {
-    if count >= 256 {
+    if typed.classes.len() + typed.interfaces.len() >= 256 {
         return Err(broken(Rule::TooMany, at));
     }
-    Ok(count)
+    Ok(typed.classes.len())
 }
 
 /// An item of a module, behind those that it has so far.
@@ -253,11 +158,16 @@ fn item_typed<'a>(
     match item {
         Item::Class(class) => {
             names.take(class.place.at, class.name.as_str())?;
-            let place = one_more_class(class.place.at, typed.classes.len())?;
+            let place = room_for_type(class.place.at, typed)?;
             let next = class_typed(alloc, env, place, class)?;
             typed.classes.push(next)?;
         }
-        Item::Interface(interface) => names.take(interface.place.at, interface.name.as_str())?,
+        Item::Interface(interface) => {
+            names.take(interface.place.at, interface.name.as_str())?;
+            let classes = room_for_type(interface.place.at, typed)?;
+            let next = interface_typed(alloc, env, classes, interface)?;
+            typed.interfaces.push(next)?;
+        }
         Item::Function(function) => {
             let of = result_typed(env, &function.result)?;
             names.take(function.place.at, function.name.as_str())?;
@@ -293,6 +203,7 @@ fn items_typed<'a>(
         room: 256,
     };
     let mut typed = Module {
+        interfaces: Vec::new(alloc),
         classes: Vec::new(alloc),
         functions: Vec::new(alloc),
         globals: Vec::new(alloc),

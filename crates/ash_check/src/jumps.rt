@@ -6,11 +6,13 @@ ghost use Rattle.ash_typed.specs.Views.{expr_of};
 ghost use Rattle.ash_typed.specs.BodyViews.{stmt_of};
 ghost use Rattle.ash_typing.specs.Statements as definition;
 ghost use Rattle.ash_expressions.specs.Gives.{Gives};
-ghost use Rattle.ash_expressions.specs.Views.{declared_of, typed_of};
+ghost use Rattle.ash_expressions.specs.Views.{classes_of, declared_of, typed_of};
 ghost use Rattle.ash_check.specs.StatementViews.{scope_of};
 
 use crate::scopes::Scope;
-use ash_expressions::{Checking, Declared, Typed, broken, expression, fitted, is_void};
+use ash_expressions::{
+    Checking, Declared, Environment, Typed, broken, expression, fitted, is_void,
+};
 use ash_tree::{Expr, Place};
 use ash_typed::{Expr as TypedExpr, Stmt as TypedStmt, StmtKind as TypedKind};
 use ash_typing::{Rule, Ty};
@@ -53,13 +55,19 @@ fn gives_nothing(of: Ty) -> bool
 
 /// A value that is returned at this offset.
 #[tactic(auto, unfolding(ash_typing::specs::Statements::returned))]
-fn returned(alloc: Global, of: Ty, at: usize, value: Typed) -> Checking<TypedExpr>
-    ensures { Gives expr_of result (definition.returned of at (typed_of value)) }
+fn returned(
+    alloc: Global,
+    env: &Environment,
+    of: Ty,
+    at: usize,
+    value: Typed,
+) -> Checking<TypedExpr>
+    ensures { Gives expr_of result (definition.returned (classes_of env.now) of at (typed_of value)) }
 {
     if is_void(of) {
         return Err(broken(Rule::TypeMismatch, at));
     }
-    fitted(alloc, of, value)
+    fitted(env, alloc, of, value)
 }
 
 /// `return`, with a value where its function gives one.
@@ -79,8 +87,9 @@ pub(crate) fn return_typed(
         }
         None => None,
         Some(value) => {
-            let value = expression(&(&*scope).environment(locals), alloc, false, value)?;
-            Some(returned(alloc, scope.gives, place.at, value)?)
+            let env = (&*scope).environment(locals);
+            let value = expression(&env, alloc, false, value)?;
+            Some(returned(alloc, &env, scope.gives, place.at, value)?)
         }
     };
     Ok(TypedStmt {

@@ -8,7 +8,7 @@
 //! Expressions are typed by `ash_expressions`.
 //!
 //! In reading order: `checks`, the whole; `faults`, what is told; `items`, the walk over a module, with `names`,
-//! `declarations` and `bodies`; `heads`, what a module declares; `statements`, the walk over a body, with `scopes`, what a
+//! `interfaces`, `implementations`, `routines`, `declarations` and `bodies`; `heads`, what a module declares; `statements`, the walk over a body, with `scopes`, what a
 //! statement sees, `locals`, `conditions`, `loops`, `switches` and `jumps`. Beside them `returning`, which statements return.
 #![tactic(auto)]
 
@@ -18,12 +18,15 @@ mod conditions;
 mod declarations;
 mod faults;
 mod heads;
+mod implementations;
+mod interfaces;
 mod items;
 mod jumps;
 mod locals;
 mod loops;
 mod names;
 mod returning;
+mod routines;
 mod scopes;
 mod statements;
 mod switches;

@@ -51,6 +51,6 @@ pub(crate) fn vars_typed<'n>(
 {
     let place = place_of(&vars.of);
     let env = (&*scope).environment(locals);
-    let of = known(place.at, ty_in(&env, &vars.of))?;
+    let of = known(&vars.of, ty_in(&env, &vars.of))?;
     decls_typed(alloc, scope, locals, place.at, of, &vars.decls)
 }

@@ -110,7 +110,7 @@ pub(crate) fn last_declared(all: &[Declared], name: &str) -> Option<(usize, Ty)>
 }
 
 /// The first function of this name, with its place.
-pub(crate) fn first_function<'a, 'n>(
+pub fn first_function<'a, 'n>(
     all: &'a [Function<'n>],
     name: &str,
 ) -> Option<(usize, &'a Function<'n>)>

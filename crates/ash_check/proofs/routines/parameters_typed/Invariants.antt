@@ -2,7 +2,7 @@ use Rattle.std.proofs.Common.{◌≡◌, [], map, drop}
 use Rattle.ash_tree.specs.Views.{parameter_of}
 use Rattle.ash_typing.specs.Items as definition
 use Rattle.ash_expressions.specs.Views.{declared_of, environment_of}
-use Rattle.ash_check.proofs.items.parameters_typed.Given as goal
+use Rattle.ash_check.proofs.routines.parameters_typed.Given as goal
 
 -- what is left gives what the whole gives
 abbrev pub invariant-loop-parameter : goal.invariant-loop-parameter

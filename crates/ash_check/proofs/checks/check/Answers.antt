@@ -6,15 +6,15 @@ use Rattle.ash_classes.specs.declared.cycles.Cycle.{Cycle}
 use Rattle.ash_classes.specs.References.{Refers, classes_of}
 use Rattle.ash_classes.specs.ToldCycle.{told_cycle}
 use Rattle.ash_classes.specs.Ways.{IsTold}
-use Rattle.ash_check.specs.Checks.{typed_checked, Cyclic, GoesRound}
+use Rattle.ash_check.specs.Checks.{checked, Cyclic, GoesRound}
 use Rattle.ash_check.specs.Told.{stopped}
 use Rattle.ash_check.proofs.CheckLaws.{stop_is_told, tells_if_err, typed_is_checked, cycle_is_told, way_begins_within, way_is_within, goes_round}
 use Rattle.ash_typing.proofs.ModuleLaws.{module_typed-exact}
-use Rattle.ash_check.proofs.checks.check_typed.Goals as goal
+use Rattle.ash_check.proofs.checks.check.Goals as goal
 
 pub returns-in_err-module-clause-answer : goal.returns-in_err-module-clause-answer
 returns-in_err-module-clause-answer c =
-    let answer = typed_checked (registered c.args.registry.now) (written_module c.args.script.now) in
+    let answer = checked (registered c.args.registry.now) (written_module c.args.script.now) in
     tells_if_err c.from_residual.result (stopped c.in_err-module.field-0.0) answer (λ done. answer ≡ Ok (module_of done.module)) c.from_residual.ensures.1 (stop_is_told (registered c.args.registry.now) (written_module c.args.script.now) c.in_err-module.field-0.0 c.in_err-module.ensures)
 
 pub round_names-requires-clause-first : goal.round_names-requires-clause-first
