@@ -28,9 +28,7 @@ mod types;
 
 pub use arrays::array_built;
 pub use calls::called;
-pub use environment::{
-    Callee, Class, Declared, Environment, Function, Interface, Parameters,
-};
+pub use environment::{Callee, Class, Declared, Environment, Function, Interface, Parameters};
 pub use expressions::{all_typed, expression};
 pub use named::{element_named, object_named, result_named, ty_named};
 pub use stop::{Checking, Stop, broken};
