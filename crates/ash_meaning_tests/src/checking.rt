@@ -105,11 +105,7 @@ fn sound_scripts(rt: HostRuntime) -> Result<(), Fail> {
         (b"class A : I { } interface I { }", "ok", "NotYet"),
         (b"array<int> a;", "ok", "NotYet"),
         (b"int n = array<int>(1)[0];", "ok", "NotYet"),
-        (
-            b"class A { } A@ a; A@ b = cast<A>(a);",
-            "ok",
-            "NotYet",
-        ),
+        (b"class A { } A@ a; A@ b = cast<A>(a);", "ok", "NotYet"),
     ];
     check_both(&rt, rt.alloc(), rows)
 }

@@ -15,12 +15,10 @@ mod tree;
 mod types;
 
 pub use tree::expressions::{Expr, Link, Operand, Place};
-pub use tree::items::{
-    Class, Function, Implementation, Interface, Module, Signature, Variables,
-};
+pub use tree::items::{Class, Function, Implementation, Interface, Module, Signature, Variables};
 pub use tree::operations::{
-    ArrayMethod, Calculation, Calculator, Change, Comparator, Conversion, Lazy, Member, Method, Operands,
-    Operation, Step, Target, Variable,
+    ArrayMethod, Calculation, Calculator, Change, Comparator, Conversion, Lazy, Member, Method,
+    Operands, Operation, Step, Target, Variable,
 };
 pub use tree::statements::{Case, Head, Initialization, Loop, Stmt, StmtKind, Test};
 pub use types::{Element, Kind, ObjectType, VarType};

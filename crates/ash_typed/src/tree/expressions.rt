@@ -88,7 +88,10 @@ pub enum Expr {
 #[derive(Drop)]
 pub enum Place {
     Variable(Variable),
-    Member { object: Box<Expr>, member: Member },
+    Member {
+        object: Box<Expr>,
+        member: Member,
+    },
     /// `array[index]`, with an index of type `uint`.
     Element {
         array: Box<Expr>,
@@ -104,7 +107,10 @@ pub enum Link {
     /// What it holds.
     Member(Member),
     /// What an array has at an index of type `uint`.
-    Index { index: Expr, of: Element },
+    Index {
+        index: Expr,
+        of: Element,
+    },
     /// What its method gives. The parameters are the types of the arguments, in order.
     Invoke {
         method: Method,
