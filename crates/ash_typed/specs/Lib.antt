@@ -5,3 +5,5 @@ pub mod Views
 pub mod Flat
 pub mod BodyViews
 pub mod Modules
+pub mod Signatures
+pub mod SoundExpressions
