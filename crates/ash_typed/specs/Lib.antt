@@ -7,3 +7,7 @@ pub mod BodyViews
 pub mod Modules
 pub mod Signatures
 pub mod SoundExpressions
+pub mod Returning
+pub mod SoundStatements
+pub mod SoundModules
+pub mod References

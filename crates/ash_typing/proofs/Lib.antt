@@ -15,6 +15,7 @@ pub mod TypedClasses
 pub mod TypedItems
 pub mod KnownModules
 pub mod ModuleLaws
+pub mod SoundnessNames
 pub mod FaultTokens
 pub mod DerivedPlaces
 pub mod DerivedItems
