@@ -16,6 +16,8 @@ pub mod TypedItems
 pub mod KnownModules
 pub mod ModuleLaws
 pub mod SoundnessNames
+pub mod SoundnessTypes
+pub mod SoundnessExpressions
 pub mod FaultTokens
 pub mod DerivedPlaces
 pub mod DerivedItems

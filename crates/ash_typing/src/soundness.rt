@@ -1,10 +1,15 @@
 //! That what the rules of typing type is sound, as the typed tree alone says it.
 
-ghost use Rattle.std.specs.Prelude.{◌≡◌, ℕ, List, IfSome};
-ghost use Rattle.ash_typing.specs.Environment.{Environment, callee_in};
-ghost use Rattle.ash_typing.specs.Typing.{IsKnown};
+ghost use Rattle.std.specs.Prelude.{Bool};
+ghost use Rattle.ash_tree.specs.Tree as written;
+ghost use Rattle.ash_typed.specs.SoundExpressions as sound;
+ghost use Rattle.ash_typing.specs.Environment.{Environment};
+ghost use Rattle.ash_typing.specs.Soundness.{seen_in};
+ghost use Rattle.ash_typing.specs.Types.{value_type};
+ghost use Rattle.ash_typing.specs.Typing.{IsKnown, Term, HasType};
 
-/// Probe.
+/// That what the rules of typing type is sound. It does nothing when it runs.
 pub fn typed_is_sound()
-    ensures names { (env : Environment) → IsKnown env → env ≡ env }
+    ensures { (env : Environment) → IsKnown env → (left : Bool) (e : written.Expr) (t : Term) →
+        HasType env left e t → sound.HasType (seen_in env) t.tree (value_type t.ty) }
 {}
