@@ -18,6 +18,8 @@ pub mod ModuleLaws
 pub mod SoundnessNames
 pub mod SoundnessTypes
 pub mod SoundnessExpressions
+pub mod SoundnessVariables
+pub mod SoundnessStatements
 pub mod FaultTokens
 pub mod DerivedPlaces
 pub mod DerivedItems

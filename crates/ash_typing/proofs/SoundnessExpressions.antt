@@ -36,7 +36,7 @@ use Rattle.ash_typing.specs.Heads.{object_named, element_named}
 use Rattle.ash_typing.specs.Expressions.{conversion, applied, is_stored, call_of, assignable, bracketed, handle_form, array_parameters}
 use Rattle.ash_typing.specs.Typing.{IsKnown, IsKnownType, IsVariableType, IsResultType, is_known, Term, term, read_term, beside, left_of, right_of, right_by, Meet, converted_to, AreArguments, no_arguments, argument, IsCastType, to_class, to_interface, HasType, AllHaveType, LinksHaveType, SuffixesHaveType, SuffixHasType, number, truth, null, this, name, call, brackets, to_integer, to_bool, new_array, cast, postfix, plus, minus, complement, not, increment, decrement, handle, handle_written, binary as operators, conditional, assign, update, none_left, each, no_more, operated, no_suffixes, suffixed, field, method, index, increment_after, decrement_after}
 use Rattle.ash_typing.specs.Soundness.{seen_in}
-use Rattle.ash_typing.proofs.TypingKnown.{at_some, known_type, element_known, beside_known, outcome_known, variable_known, callee_known, member_known, method_known}
+use Rattle.ash_typing.proofs.TypingKnown.{at_some, known_type, variable_is_known, element_known, beside_known, outcome_known, variable_known, callee_known, member_known, method_known}
 use Rattle.ash_typing.proofs.TypingTypes.{variable_value, result_value, kept_type}
 use Rattle.ash_typing.proofs.SoundnessNames.{IsPlaceOf, IsSoundMethod, IsCalled, Takes, IsSoundCallee, variable_sound, callee_sound, member_sound, method_sound, element_sound, object_sound, element_type}
 use Rattle.ash_typing.proofs.SoundnessTypes.{Gives, number_sound, integer_sound, of_type, converted_sound, beside_sound, operated_sound, chosen_sound, fits_sound}
@@ -101,12 +101,12 @@ signed_is kinds.Uint64 = sound.int64
 
 -- arguments
 
-abbrev IsArgument : Environment → Term → Type 0
+abbrev pub IsArgument : Environment → Term → Type 0
 IsArgument env t = Gives env t.tree t.ty × IsKnownType t.ty
 
 pub arguments_sound : (env : Environment) {parameters : List Ty} {ts : List Term} {trees : Exprs} → AreArguments env.heads.classes parameters ts trees → AllByRecursion IsVariableType parameters → AllByRecursion (IsArgument env) ts → sound.AreArguments (seen_in env) (map var_type parameters) trees
 arguments_sound env no_arguments known h = sound.no_arguments
-arguments_sound env (argument {of = of} {t = t} e rest) known h = sound.argument (fits_sound env of t known.0 h.0.1 h.0.0 e) (arguments_sound env rest known.1 h.1)
+arguments_sound env (argument {of = of} {t = t} e rest) known h = sound.argument (fits_sound env of t (variable_is_known of known.0) h.0.1 h.0.0 e) (arguments_sound env rest known.1 h.1)
 
 called_sound : (env : Environment) (target : Callable) (parameters : List VarType) (gives : Option VarType) (trees : Exprs) → IsCalled env target parameters gives → sound.AreArguments (seen_in env) parameters trees → sound.HasType (seen_in env) (call_of target parameters trees) (given gives)
 called_sound env (callables.OwnMethod class place result) parameters gives trees h args = sound.invoke (sound.this h.0) h.1 args
@@ -206,7 +206,7 @@ mutual
   term_sound {env} (conditional {t = t} {x = x} {y = y} {of = of} h i k l m) known = plain env of (Conditional t.tree (converted_to of x) (converted_to of y)) (chosen_sound env t.tree x.tree y.tree x.ty y.ty of (known_type k known) (known_type l known) (of_type env t.tree t.ty ty.Bool i (term_sound h known).gives) (term_sound k known).gives (term_sound l known).gives m)
   term_sound {env} (assign {t = t} {u = u} {at = at} h i s k l) known =
       let is = stored_type t.form t.ty (known_type h known) s in
-      plain env t.ty (Assign at (converted_to t.ty u)) (subst (sound.HasType (seen_in env) (Assign at (converted_to t.ty u))) (variable_value t.ty is.0) (sound.assign (assigned_place env t.form t.tree t.ty at (term_sound h known).place i) is.1 (fits_sound env t.ty u is.0 (known_type k known) (term_sound k known).gives l)))
+      plain env t.ty (Assign at (converted_to t.ty u)) (subst (sound.HasType (seen_in env) (Assign at (converted_to t.ty u))) (variable_value t.ty is.0) (sound.assign (assigned_place env t.form t.tree t.ty at (term_sound h known).place i) is.1 (fits_sound env t.ty u (known_type h known) (known_type k known) (term_sound k known).gives l)))
   term_sound {env} (update {c = c} {t = t} {u = u} {at = at} {j = j} {k = k} f h i s l m n) known =
       let right = beside (sort_of (binary_of c)) (term t.ty Null) u in
       let made = updated_sound env c (beside (sort_of (binary_of c)) u (term t.ty Null)).ty right j k at (integer_place env t at k (term_sound h known) i l) (beside_sound env (sort_of (binary_of c)) (term t.ty Null) u (term_sound m known).gives) n in

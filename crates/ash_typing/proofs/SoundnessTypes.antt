@@ -29,7 +29,7 @@ use Rattle.ash_typing.specs.Types.{is_same_kind, is_same_element, is_same_object
 use Rattle.ash_typing.specs.Environment.{Environment, Class}
 use Rattle.ash_typing.specs.Fitting.{has_interface, lists, is_of, fits}
 use Rattle.ash_typing.specs.Expressions.{conversion, operand_type, applied}
-use Rattle.ash_typing.specs.Typing.{Term, is_known, IsKnownType, IsVariableType, converted_to, taking, beside, right_by}
+use Rattle.ash_typing.specs.Typing.{Term, is_known, IsKnownType, converted_to, taking, beside, right_by}
 use Rattle.ash_typing.specs.Soundness.{signature_of_class, seen_in}
 use Rattle.ash_typing.proofs.TypingTypes.{equal_kinds}
 use Rattle.ash_typing.proofs.SoundnessNames.{mapped}
@@ -287,7 +287,7 @@ object_stored env o ty.Bool tree k h e = absurd (cc)
 object_stored env o (ty.Integer j) tree k h e = absurd (cc)
 object_stored env o ty.Void tree k h e = absurd (cc)
 
-stored_sound : (env : Environment) (of t : Ty) (tree : Expr) → IsVariableType of → is_known t ≡ true → Gives env tree t → fits env.heads.classes of t ≡ true → IsStored env of t tree
+stored_sound : (env : Environment) (of t : Ty) (tree : Expr) → is_known of ≡ true → is_known t ≡ true → Gives env tree t → fits env.heads.classes of t ≡ true → IsStored env of t tree
 stored_sound env ty.Unknown t tree v k h e = absurd (cc)
 stored_sound env (ty.Object o) t tree v k h e = handle_of_object (object_stored env o t tree k h e)
   where
@@ -300,5 +300,5 @@ stored_sound env (ty.Integer j) (ty.Integer i) tree v k h e = sound.fits (intege
 stored_sound env (ty.Integer j) ty.Unknown tree v k h e = absurd (cc)
 stored_sound env of t tree v k h e = absurd (cc)
 
-pub fits_sound : (env : Environment) (of : Ty) (t : Term) → IsVariableType of → IsKnownType t.ty → Gives env t.tree t.ty → fits env.heads.classes of t.ty ≡ true → sound.Fits (seen_in env) (var_type of) (converted_to of t)
+pub fits_sound : (env : Environment) (of : Ty) (t : Term) → IsKnownType of → IsKnownType t.ty → Gives env t.tree t.ty → fits env.heads.classes of t.ty ≡ true → sound.Fits (seen_in env) (var_type of) (converted_to of t)
 fits_sound env of t v k h e = stored_sound env of t.ty t.tree v k h e

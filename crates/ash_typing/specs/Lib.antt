@@ -16,3 +16,4 @@ pub mod TypedModules
 pub mod FaultPlaces
 pub mod Offered
 pub mod Soundness
+pub mod Nesting

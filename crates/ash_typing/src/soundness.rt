@@ -2,14 +2,21 @@
 
 ghost use Rattle.std.specs.Prelude.{Bool};
 ghost use Rattle.ash_tree.specs.Tree as written;
-ghost use Rattle.ash_typed.specs.SoundExpressions as sound;
+ghost use Rattle.ash_typed.specs.SoundExpressions as expressions;
+ghost use Rattle.ash_typed.specs.SoundStatements as statements;
+ghost use Rattle.ash_typed.specs.StatementTree.{Stmts};
 ghost use Rattle.ash_typing.specs.Environment.{Environment};
-ghost use Rattle.ash_typing.specs.Soundness.{seen_in};
+ghost use Rattle.ash_typing.specs.Nesting.{AllDeclareInBlocks};
+ghost use Rattle.ash_typing.specs.Soundness.{seen_in, seen_at};
+ghost use Rattle.ash_typing.specs.Statements.{Scope};
 ghost use Rattle.ash_typing.specs.Types.{value_type};
+ghost use Rattle.ash_typing.specs.TypedStatements.{IsKnownScope, AreStmts};
 ghost use Rattle.ash_typing.specs.Typing.{IsKnown, Term, HasType};
 
 /// That what the rules of typing type is sound. It does nothing when it runs.
 pub fn typed_is_sound()
-    ensures { (env : Environment) → IsKnown env → (left : Bool) (e : written.Expr) (t : Term) →
-        HasType env left e t → sound.HasType (seen_in env) t.tree (value_type t.ty) }
+    ensures expressions { (env : Environment) → IsKnown env → (left : Bool) (e : written.Expr) (t : Term) →
+        HasType env left e t → expressions.HasType (seen_in env) t.tree (value_type t.ty) }
+    ensures statements { (scope : Scope) → IsKnownScope scope → (ss : written.Stmts) (ts : Stmts) →
+        AllDeclareInBlocks ss → AreStmts scope ss ts → statements.AreStmts (seen_at scope) ts }
 {}

@@ -1,5 +1,9 @@
 use Rattle.ash_typing.proofs.SoundnessExpressions.{term_sound}
+use Rattle.ash_typing.proofs.SoundnessStatements.{stmts_sound}
 use Rattle.ash_typing.proofs.soundness.typed_is_sound.Goals as goal
 
-pub returns : goal.returns
-returns c = λ env known left e t h. (term_sound h known).gives
+pub returns-clause-expressions : goal.returns-clause-expressions
+returns-clause-expressions c = λ env known left e t h. (term_sound h known).gives
+
+pub returns-clause-statements : goal.returns-clause-statements
+returns-clause-statements c = λ scope known ss ts nest h. stmts_sound h known nest
