@@ -20,6 +20,9 @@ pub mod SoundnessTypes
 pub mod SoundnessExpressions
 pub mod SoundnessVariables
 pub mod SoundnessStatements
+pub mod SoundnessNesting
+pub mod SoundnessReturning
+pub mod SoundnessSignatures
 pub mod FaultTokens
 pub mod DerivedPlaces
 pub mod DerivedItems

@@ -1,5 +1,8 @@
 use Rattle.ash_typing.proofs.SoundnessExpressions.{term_sound}
 use Rattle.ash_typing.proofs.SoundnessStatements.{stmts_sound}
+use Rattle.ash_typing.proofs.SoundnessNesting.{derived_proper}
+use Rattle.ash_typing.proofs.SoundnessReturning.{any_typed}
+use Rattle.ash_typing.proofs.SoundnessSignatures.{same_signatures}
 use Rattle.ash_typing.proofs.soundness.typed_is_sound.Goals as goal
 
 pub returns-clause-expressions : goal.returns-clause-expressions
