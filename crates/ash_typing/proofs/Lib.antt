@@ -23,6 +23,9 @@ pub mod SoundnessStatements
 pub mod SoundnessNesting
 pub mod SoundnessReturning
 pub mod SoundnessSignatures
+pub mod SoundnessItems
+pub mod SoundnessClasses
+pub mod SoundnessModules
 pub mod FaultTokens
 pub mod DerivedPlaces
 pub mod DerivedItems
