@@ -5,3 +5,9 @@ pub mod Views
 pub mod Flat
 pub mod BodyViews
 pub mod Modules
+pub mod Signatures
+pub mod SoundExpressions
+pub mod Returning
+pub mod SoundStatements
+pub mod SoundModules
+pub mod References

@@ -11,9 +11,11 @@
 #![tactic(auto)]
 
 pub mod nodes;
+mod soundness;
 mod tree;
 mod types;
 
+pub use soundness::types_of_expressions;
 pub use tree::expressions::{Expr, Link, Operand, Place};
 pub use tree::items::{Class, Function, Implementation, Interface, Module, Signature, Variables};
 pub use tree::operations::{

@@ -286,7 +286,7 @@ same_interface calls named name i (written.AClass c ∷ is) = same_interface cal
 same_interface calls named name i (written.AFunction f ∷ is) = same_interface calls named name i is
 same_interface calls named name i (written.AGlobal v ∷ is) = same_interface calls named name i is
 
-same_object : (calls : List host.Call) (is : List written.Item) (name : List ℕ) → object_named calls (heads calls is) name ≡ object_named calls (names_in is) name
+pub same_object : (calls : List host.Call) (is : List written.Item) (name : List ℕ) → object_named calls (heads calls is) name ≡ object_named calls (names_in is) name
 unfolding object_named heads
 same_object calls is name = rw (same_class calls (names_in is) name 0 is, same_interface calls (names_in is) name 0 is) refl
 
@@ -298,7 +298,7 @@ same_element calls is (written.HandleElement p name) = ap (option_and_then eleme
 same_array : (calls : List host.Call) (is : List written.Item) (of : written.Element) → array_named calls (heads calls is) of ≡ array_named calls (names_in is) of
 same_array calls is of = ap (option_map OfArray) (same_element calls is of)
 
-same_type : (calls : List host.Call) (is : List written.Item) (of : written.Named) → ty_in (environment calls is) of ≡ ty_named calls (names_in is) of
+pub same_type : (calls : List host.Call) (is : List written.Item) (of : written.Named) → ty_in (environment calls is) of ≡ ty_named calls (names_in is) of
 unfolding ty_named
 same_type calls is (written.Prim p k) = refl
 same_type calls is (written.Object p name) = ap object_ty (same_object calls is name)

@@ -15,6 +15,17 @@ pub mod TypedClasses
 pub mod TypedItems
 pub mod KnownModules
 pub mod ModuleLaws
+pub mod SoundnessNames
+pub mod SoundnessTypes
+pub mod SoundnessExpressions
+pub mod SoundnessVariables
+pub mod SoundnessStatements
+pub mod SoundnessNesting
+pub mod SoundnessReturning
+pub mod SoundnessSignatures
+pub mod SoundnessItems
+pub mod SoundnessClasses
+pub mod SoundnessModules
 pub mod FaultTokens
 pub mod DerivedPlaces
 pub mod DerivedItems

@@ -37,7 +37,7 @@ pub decls_known : (of : Ty) (ds : List written.Decl) → IsVariableType of → A
 decls_known of [] h = tt
 decls_known of (d ∷ ds) h = (h, decls_known of ds h)
 
-more_known : (scope : Scope) (vs : List Declared) → IsKnownScope scope → AllByRecursion IsKnownVariable vs → IsKnownScope (with_variables scope vs)
+pub more_known : (scope : Scope) (vs : List Declared) → IsKnownScope scope → AllByRecursion IsKnownVariable vs → IsKnownScope (with_variables scope vs)
 more_known scope vs k h = record {
   env = record { interfaces = k.env.interfaces; classes = k.env.classes; functions = k.env.functions; globals = k.env.globals; locals = all_append IsKnownVariable scope.env.locals vs k.env.locals h };
   gives = k.gives;

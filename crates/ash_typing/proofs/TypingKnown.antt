@@ -63,7 +63,7 @@ pub if_all : {A : Type 0} {Q : A → Type 0} (o : Option A) → ((x : A) → Q x
 if_all None f = tt
 if_all (Some x) f = f x
 
-if_first : {A : Type 0} (P : A → Type 0) (test : A → Bool) (i : ℕ) (xs : List A) → AllByRecursion P xs → IfSome (first_from test i xs) (λ found. P found.1)
+pub if_first : {A : Type 0} (P : A → Type 0) (test : A → Bool) (i : ℕ) (xs : List A) → AllByRecursion P xs → IfSome (first_from test i xs) (λ found. P found.1)
 if_first P test i [] h = h
 if_first {A} P test i (x ∷ xs) h = go (test x) (if_first P test (i + 1) xs h.1)
   where
@@ -71,7 +71,7 @@ if_first {A} P test i (x ∷ xs) h = go (test x) (if_first P test (i + 1) xs h.1
     go true rest = h.0
     go false rest = rest
 
-if_get : {A : Type 0} (P : A → Type 0) (xs : List A) (i : ℕ) → AllByRecursion P xs → IfSome (slice_get xs i) P
+pub if_get : {A : Type 0} (P : A → Type 0) (xs : List A) (i : ℕ) → AllByRecursion P xs → IfSome (slice_get xs i) P
 if_get P [] i h = h
 if_get P (x ∷ xs) zero h = h.0
 if_get P (x ∷ xs) (suc i) h = if_get P xs i h.1

@@ -129,13 +129,13 @@ call_type (callables.Target target) parameters es = refl
 
 -- types of variables and results
 
-variable_value : (of : Ty) → IsVariableType of → value (kept (var_type of)) ≡ value_type of
+pub variable_value : (of : Ty) → IsVariableType of → value (kept (var_type of)) ≡ value_type of
 variable_value ty.Void h = cc
 variable_value ty.Null h = cc
 variable_value ty.Unknown h = cc
 variable_value _ h = refl
 
-result_value : (of : Ty) → IsResultType of → given (result_type of) ≡ value_type of
+pub result_value : (of : Ty) → IsResultType of → given (result_type of) ≡ value_type of
 result_value ty.Void h = refl
 result_value ty.Null h = cc
 result_value ty.Unknown h = cc
@@ -153,7 +153,7 @@ variable_read_back _ = refl
 
 -- conversions
 
-equal_kinds : (j k : Kind) → is_same_kind j k ≡ true → j ≡ k
+pub equal_kinds : (j k : Kind) → is_same_kind j k ≡ true → j ≡ k
 equal_kinds kinds.Int kinds.Int h = refl
 equal_kinds kinds.Int kinds.Uint h = absurd (cc)
 equal_kinds kinds.Int kinds.Int64 h = absurd (cc)
@@ -221,7 +221,7 @@ applied_type binary.Xor o a b x y h = refl
 applied_type binary.And o a b x y h = refl
 applied_type binary.Or o a b x y h = refl
 
-kept_type : (of : Ty) (o : ObjectType) → object_of of ≡ Some o → value_type of ≡ value (vars.Handle o)
+pub kept_type : (of : Ty) (o : ObjectType) → object_of of ≡ Some o → value_type of ≡ value (vars.Handle o)
 kept_type (ty.Object p) o h = ap (λ (x : ObjectType). value (vars.Handle x)) (same_Some p o h)
 kept_type (ty.Handle p) o h = ap (λ (x : ObjectType). value (vars.Handle x)) (same_Some p o h)
 kept_type _ o h = absurd (none-some o h)

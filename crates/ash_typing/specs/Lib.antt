@@ -14,3 +14,6 @@ pub mod Bodies
 pub mod Items
 pub mod TypedModules
 pub mod FaultPlaces
+pub mod Offered
+pub mod Soundness
+pub mod Nesting

@@ -14,12 +14,14 @@
 mod fault;
 mod forms;
 mod modules;
+mod soundness;
 mod types;
 mod typing;
 
 pub use fault::{Fault, Rule};
 pub use forms::{Callable, Form, Operator, Sort};
 pub use modules::{faults_are_at_tokens, typing_of_modules, typing_of_statements};
+pub use soundness::typed_is_sound;
 pub use types::Ty;
 pub use typing::{
     types_of_variables, typing_of_arguments, typing_of_expressions, typing_of_variables,

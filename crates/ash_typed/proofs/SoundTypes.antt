@@ -1,0 +1,67 @@
+-- A sound expression gives what its tree says.
+use Rattle.std.proofs.Common.{◌≡◌, List, Option, refl, sym, ap, ◌∙◌}
+use Rattle.ash_typed.specs.declared.types.VarType.{VarType}
+use Rattle.ash_typed.specs.declared.tree.operations.Member.{Member}
+use Rattle.ash_typed.specs.declared.tree.operations.Method.{Method}
+use Rattle.ash_typed.specs.declared.tree.operations.Target.{Target}
+use Rattle.ash_typed.specs.declared.tree.operations.Change.{Change}
+use Rattle.ash_typed.specs.declared.types.ObjectType.{ObjectType}
+use Rattle.ash_typed.specs.Tree.{Expr, Place}
+use Rattle.ash_typed.specs.TypeOf.{ValueType, value, kept, given, type_of, type_of_place, type_of_member, result_of_method, result_of_target, altered_type, chosen_type}
+use Rattle.ash_typed.specs.Signatures.{Signatures}
+use Rattle.ash_typed.specs.SoundExpressions.{Environment, IsMember, field, property, IsMethod, of_class, of_interface, of_host, of_array, IsTarget, function, service, class, host, empty_array, sized_array, IsChange, negate, complement, not, HasType, number, truth, null, this, read, invoke, convert, cast, alter, calculate, shift, compare, lazily, choose, choose_or_null, null_or_choose, assign, update, update_by_shift, count, call, HasPlace, local, global, member, element}
+
+member_type : {s : Signatures} {o : ObjectType} {held : Member} {of : VarType} → IsMember s o held of → type_of_member held ≡ of
+member_type (field h i) = refl
+member_type (property h) = refl
+
+place_type : {env : Environment} {place : Place} {of : VarType} → HasPlace env place of → type_of_place place ≡ of
+place_type (local h) = refl
+place_type (global h) = refl
+place_type (member h i) = member_type i
+place_type (element h i) = refl
+
+method_result : {s : Signatures} {o : ObjectType} {method : Method} {parameters : List VarType} {result : Option VarType} → IsMethod s o method parameters result → result_of_method method ≡ result
+method_result (of_class h i) = refl
+method_result (of_interface h i) = refl
+method_result (of_host h) = refl
+method_result of_array = refl
+
+target_result : {s : Signatures} {target : Target} {parameters : List VarType} {result : Option VarType} → IsTarget s target parameters result → result_of_target target ≡ result
+target_result (function h) = refl
+target_result (service h) = refl
+target_result (class h) = refl
+target_result (host h) = refl
+target_result (empty_array h) = refl
+target_result (sized_array h) = refl
+
+change_type : {change : Change} {of : VarType} → IsChange change of → altered_type change ≡ of
+change_type (negate h) = refl
+change_type complement = refl
+change_type not = refl
+
+pub type_is : {env : Environment} {e : Expr} {of : ValueType} → HasType env e of → type_of e ≡ of
+type_is (number h) = refl
+type_is truth = refl
+type_is null = refl
+type_is (this h) = refl
+type_is (read h) = ap (λ (of : VarType). value (kept of)) (place_type h)
+type_is (invoke h i args) = ap given (method_result i)
+type_is (convert h) = refl
+type_is (cast h i) = refl
+type_is (alter h i) = ap value (change_type h)
+type_is (calculate h i) = refl
+type_is (shift h i k) = refl
+type_is (compare h i k l m) = refl
+type_is (lazily h i) = refl
+type_is (choose h i k) = rw (type_is i) refl
+type_is (choose_or_null h i k) = rw (type_is i) refl
+type_is (null_or_choose h i k) = rw (type_is i, type_is k) refl
+type_is (assign h i k) = ap (λ (of : VarType). value (kept of)) (place_type h)
+type_is (update h i) = refl
+type_is (update_by_shift h i k) = refl
+type_is (count h) = refl
+type_is (call h args) = ap given (target_result h)
+
+pub one_type : {env : Environment} {e : Expr} {one other : ValueType} → HasType env e one → HasType env e other → one ≡ other
+one_type h k = sym (type_is h) ∙ type_is k

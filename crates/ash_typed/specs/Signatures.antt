@@ -1,0 +1,130 @@
+-- What the items of a module see of one another, and what the host offers them: their types alone, and no body.
+use Rattle.std.specs.Prelude.{◌≡◌, ◌<◌, ℕ, length, List, [], ◌++◌, ◌∷◌, Option, Some, None, map, slice_get}
+use Rattle.std.specs.List.{Contains}
+use Rattle.ash_tree.specs.declared.tree.types.Primitive.{Primitive}
+use Rattle.ash_tree.specs.declared.tree.types.Primitive.TheVariants as primitives
+use Rattle.ash_typed.specs.declared.types.Kind.{Kind}
+use Rattle.ash_typed.specs.declared.types.Kind.TheVariants as kinds
+use Rattle.ash_typed.specs.declared.types.Element.{Element}
+use Rattle.ash_typed.specs.declared.types.Element.TheVariants as elements
+use Rattle.ash_typed.specs.declared.types.ObjectType.{ObjectType}
+use Rattle.ash_typed.specs.declared.types.ObjectType.TheVariants as objects
+use Rattle.ash_typed.specs.declared.types.VarType.{VarType}
+use Rattle.ash_typed.specs.declared.types.VarType.TheVariants as vars
+use Rattle.ash_typed.specs.StatementTree.{Initialization}
+use Rattle.ash_typed.specs.Modules.{Variables, Function, Signature, Interface, Implementation, Class, Module}
+use Rattle.ash_typed.specs.TypeOf.{ValueType, null_value, value}
+
+-- what the host offers, by its numbers
+
+-- what is called of it takes and gives primitives
+pub record HostSignature : Type 0 where
+  pub result : Option Primitive
+  pub parameters : List Primitive
+
+-- the kinds of its objects; what a kind is constructed of; the methods and the properties that a kind has by a number;
+-- and the functions that a service has by a number
+pub record Host : Type 0 where
+  pub kinds : List ℕ
+  pub factories : ℕ → List (List Primitive)
+  pub methods : ℕ → ℕ → List HostSignature
+  pub properties : ℕ → ℕ → List Primitive
+  pub functions : ℕ → ℕ → List HostSignature
+
+abbrev pub type_of_primitive : Primitive → VarType
+type_of_primitive primitives.Bool = vars.Bool
+type_of_primitive primitives.Int = vars.Integer kinds.Int
+type_of_primitive primitives.Int64 = vars.Integer kinds.Int64
+type_of_primitive primitives.Uint = vars.Integer kinds.Uint
+type_of_primitive primitives.Uint64 = vars.Integer kinds.Uint64
+
+-- what a module declares
+
+-- a class: the interfaces that it lists, the types of its fields, the parameters of its construction, and its methods
+pub record ClassSignature : Type 0 where
+  pub interfaces : List ℕ
+  pub fields : List VarType
+  pub parameters : List VarType
+  pub methods : List Signature
+
+-- each interface by its methods; everything by its place
+pub record Signatures : Type 0 where
+  pub host : Host
+  pub interfaces : List (List Signature)
+  pub classes : List ClassSignature
+  pub functions : List Signature
+  pub globals : List VarType
+
+abbrev pub type_declared : Initialization → VarType
+type_declared v = v.of
+
+abbrev pub signature_of : Function → Signature
+signature_of f = record { name = f.name; result = f.result; parameters = f.parameters }
+
+abbrev pub place_of_interface : Implementation → ℕ
+place_of_interface i = i.interface
+
+-- nothing, where no constructor is written
+abbrev pub parameters_of : Option Function → List VarType
+parameters_of None = []
+parameters_of (Some f) = f.parameters
+
+abbrev pub signature_of_class : Class → ClassSignature
+signature_of_class c = record { interfaces = map place_of_interface c.interfaces; fields = map type_declared c.fields; parameters = parameters_of c.constructor; methods = map signature_of c.methods }
+
+abbrev pub methods_of_interface : Interface → List Signature
+methods_of_interface i = i.methods
+
+abbrev pub types_of_globals : List Variables → List VarType
+types_of_globals [] = []
+types_of_globals (v ∷ vs) = map type_declared v.values ++ types_of_globals vs
+
+-- what the items of a module see
+abbrev pub signatures_of : Host → Module → Signatures
+signatures_of host m = record { host = host; interfaces = map methods_of_interface m.interfaces; classes = map signature_of_class m.classes; functions = map signature_of m.functions; globals = types_of_globals m.globals }
+
+-- types whose places are in range
+
+pub data IsElement (s : Signatures) : Element → Type 0 where
+  truths : IsElement s elements.Bool
+  integers : {kind : Kind} → IsElement s (elements.Integer kind)
+  of_class : {class : ℕ} → class < length s.classes → IsElement s (elements.Class class)
+  of_interface : {interface : ℕ} → interface < length s.interfaces → IsElement s (elements.Interface interface)
+  of_host : {kind : ℕ} → Contains s.host.kinds kind → IsElement s (elements.Host kind)
+
+pub data IsObjectType (s : Signatures) : ObjectType → Type 0 where
+  class : {class : ℕ} → class < length s.classes → IsObjectType s (objects.Class class)
+  interface : {interface : ℕ} → interface < length s.interfaces → IsObjectType s (objects.Interface interface)
+  host : {kind : ℕ} → Contains s.host.kinds kind → IsObjectType s (objects.Host kind)
+  array : {of : Element} → IsElement s of → IsObjectType s (objects.Array of)
+
+abbrev pub IsNoInterface : ObjectType → Type 0
+IsNoInterface (objects.Interface _) = ⊥
+IsNoInterface _ = Unit {0}
+
+-- the type of a variable: none has an object of an interface
+pub data IsVariableType (s : Signatures) : VarType → Type 0 where
+  truth : IsVariableType s vars.Bool
+  integer : {kind : Kind} → IsVariableType s (vars.Integer kind)
+  object : {o : ObjectType} → IsObjectType s o → IsNoInterface o → IsVariableType s (vars.Object o)
+  handle : {o : ObjectType} → IsObjectType s o → IsVariableType s (vars.Handle o)
+
+-- the type of a parameter or a result: objects are passed by handles
+pub data IsPassedType (s : Signatures) : VarType → Type 0 where
+  passed_truth : IsPassedType s vars.Bool
+  passed_integer : {kind : Kind} → IsPassedType s (vars.Integer kind)
+  passed_handle : {o : ObjectType} → IsObjectType s o → IsPassedType s (vars.Handle o)
+
+abbrev pub IsResultType : Signatures → Option VarType → Type 0
+IsResultType s None = Unit {0}
+IsResultType s (Some of) = IsPassedType s of
+
+-- A value of the first type may stand where one of the second is awaited: null where there may be any object, and an
+-- object of a class where there is one of an interface that it lists.
+pub data IsSubtype (s : Signatures) : ValueType → ValueType → Type 0 where
+  same : {of : ValueType} → IsSubtype s of of
+  null : {o : ObjectType} → IsSubtype s null_value (value (vars.Handle o))
+  listed : {class interface : ℕ} {c : ClassSignature}
+      → slice_get s.classes class ≡ Some c
+      → Contains c.interfaces interface
+      → IsSubtype s (value (vars.Handle (objects.Class class))) (value (vars.Handle (objects.Interface interface)))

@@ -1,0 +1,83 @@
+-- Sound modules, by the typed tree alone: what a compiler and a machine that walk it may rely on.
+use Rattle.std.specs.Prelude.{◌≡◌, ◌≤◌, ◌+◌, ◌⊎◌, ℕ, length, List, [], ◌∷◌, Option, Some, None, IfSome, slice_get, false}
+use Rattle.std.specs.List.{AllByRecursion, AllZip}
+use Rattle.ash_typed.specs.declared.types.VarType.{VarType}
+use Rattle.ash_typed.specs.Modules.{Variables, Function, Signature, Interface, Implementation, Class, Module}
+use Rattle.ash_typed.specs.Signatures.{Host, Signatures, signature_of, signatures_of, IsPassedType, IsResultType}
+use Rattle.ash_typed.specs.SoundExpressions.{Environment}
+use Rattle.ash_typed.specs.SoundStatements.{Scope, IsInitialized, AreStmts}
+use Rattle.ash_typed.specs.Returning.{AnyReturns}
+
+-- what items see, inside a class and outside of classes
+abbrev pub inside : Signatures → ℕ → Environment
+inside s class = record { signatures = s; this = Some class; locals = [] }
+
+abbrev pub outside : Signatures → Environment
+outside s = record { signatures = s; this = None; locals = [] }
+
+-- functions
+
+-- the parameters are the first locals of a body, and no jump leaves it
+abbrev pub body_scope : Environment → Function → Scope
+body_scope env f = record { env = record { signatures = env.signatures; this = env.this; locals = f.parameters }; gives = f.result; may_break = false; may_continue = false }
+
+-- a function, a method or a constructor: one with a result does not end without it
+pub record IsFunction (env : Environment) (f : Function) : Type 0 where
+  pub parameters : AllByRecursion (IsPassedType env.signatures) f.parameters
+  pub result : IsResultType env.signatures f.result
+  pub body : AreStmts (body_scope env f) f.body
+  pub returns : (f.result ≡ None) ⊎ AnyReturns f.body
+
+-- interfaces
+
+pub record IsSignature (s : Signatures) (f : Signature) : Type 0 where
+  pub parameters : AllByRecursion (IsPassedType s) f.parameters
+  pub result : IsResultType s f.result
+
+-- there are at most 32 methods in an interface
+pub record IsInterface (s : Signatures) (classes : ℕ) (i : Interface) : Type 0 where
+  pub before : i.classes_before ≤ classes
+  pub few : length i.methods ≤ 32
+  pub methods : AllByRecursion (IsSignature s) i.methods
+
+-- classes
+
+-- the method of this place has the name, the result and the parameters that an interface declares
+abbrev pub Implements : List Function → Signature → ℕ → Type 0
+Implements methods declared place = (f : Function) × (slice_get methods place ≡ Some f) × (signature_of f ≡ declared)
+
+-- a class has a method for each of an interface that it lists
+abbrev pub IsImplementation : Signatures → List Function → Implementation → Type 0
+IsImplementation s methods i = (declared : List Signature) × (slice_get s.interfaces i.interface ≡ Some declared) × AllZip (Implements methods) declared i.methods
+
+pub record IsConstructor (env : Environment) (class : List ℕ) (f : Function) : Type 0 where
+  pub named : f.name ≡ class
+  pub gives_nothing : f.result ≡ None
+  pub function : IsFunction env f
+
+-- The class of this place. It has at most 32 fields and methods. Its fields are initialized where there are no locals.
+pub record IsClass (s : Signatures) (place : ℕ) (c : Class) : Type 0 where
+  pub few : length c.fields + length c.methods ≤ 32
+  pub interfaces : AllByRecursion (IsImplementation s c.methods) c.interfaces
+  pub fields : AllByRecursion (IsInitialized (inside s place)) c.fields
+  pub constructor : IfSome c.constructor (IsConstructor (inside s place) c.name)
+  pub methods : AllByRecursion (IsFunction (inside s place)) c.methods
+
+-- classes, of which the first has this place
+abbrev pub AreClasses : Signatures → ℕ → List Class → Type 0
+AreClasses s place [] = Unit {0}
+AreClasses s place (c ∷ cs) = IsClass s place c × AreClasses s (place + 1) cs
+
+-- modules
+
+abbrev pub AreVariables : Environment → Variables → Type 0
+AreVariables env v = AllByRecursion (IsInitialized env) v.values
+
+-- A module where a host offers this. It has at most 256 classes and interfaces, and 256 variables.
+pub record IsSound (host : Host) (m : Module) : Type 0 where
+  pub few_types : length m.classes + length m.interfaces ≤ 256
+  pub few_globals : length (signatures_of host m).globals ≤ 256
+  pub interfaces : AllByRecursion (IsInterface (signatures_of host m) (length m.classes)) m.interfaces
+  pub classes : AreClasses (signatures_of host m) 0 m.classes
+  pub functions : AllByRecursion (IsFunction (outside (signatures_of host m))) m.functions
+  pub globals : AllByRecursion (AreVariables (outside (signatures_of host m))) m.globals

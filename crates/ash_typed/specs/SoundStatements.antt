@@ -1,0 +1,214 @@
+-- Sound statements, by the typed tree alone: each of their expressions gives what is asked for, each local is declared in
+-- the slot that follows those in scope, and a jump stands in what it leaves. One case for each node.
+--
+-- `IsStmt scope s`: the statement `s` is sound in this scope, and declares no variable that is seen behind it.
+-- `AreStmts scope ss`: so are the statements of a block, each of which sees the variables that those before it declare.
+use Rattle.std.specs.Prelude.{◌≡◌, ◌≢◌, ◌<◌, ◌≤◌, ◌^◌, ℕ, zero, suc, ℤ, pos, negsuc, Bool, true, false, List, [], ◌∷◌, ◌++◌, Option, Some, None}
+use Rattle.std.specs.List.{AllByRecursion}
+use Rattle.ash_tree.specs.declared.tree.statements.Label.{Label}
+use Rattle.ash_tree.specs.declared.tree.statements.Label.TheVariants as labels
+use Rattle.ash_typed.specs.declared.types.Kind.{Kind}
+use Rattle.ash_typed.specs.declared.types.Kind.TheVariants as kinds
+use Rattle.ash_typed.specs.declared.types.Element.{Element}
+use Rattle.ash_typed.specs.declared.types.ObjectType.{ObjectType}
+use Rattle.ash_typed.specs.declared.types.ObjectType.TheVariants as objects
+use Rattle.ash_typed.specs.declared.types.VarType.{VarType}
+use Rattle.ash_typed.specs.declared.types.VarType.TheVariants as vars
+use Rattle.ash_typed.specs.declared.tree.operations.Target.{Target}
+use Rattle.ash_typed.specs.declared.tree.operations.Target.TheVariants as targets
+use Rattle.ash_typed.specs.declared.tree.statements.Test.{Test}
+use Rattle.ash_typed.specs.Tree.{Expr, Call, Exprs}
+use Rattle.ash_typed.specs.StatementTree.{Initialization, Stmt, Empty, Declare, Evaluate, Block, If, no_branch, branch, Head, no_head, declared_head, evaluated_head, Repeat, For, Loop, repeated, Switch, Break, Continue, Return, Stmts, no_stmt, stmt, labelled, Cases, no_case, next_case}
+use Rattle.ash_typed.specs.TypeOf.{ValueType, value}
+use Rattle.ash_typed.specs.Signatures.{IsVariableType}
+use Rattle.ash_typed.specs.SoundExpressions.{Environment, IsWithin, HasType, Fits}
+
+-- what a statement sees: what its function gives, and whether it may break out of a loop or a `switch`, and go on with the
+-- next turn of a loop
+pub record Scope : Type 0 where
+  pub env : Environment
+  pub gives : Option VarType
+  pub may_break : Bool
+  pub may_continue : Bool
+
+abbrev pub with_locals : Environment → List VarType → Environment
+with_locals env types = record { signatures = env.signatures; this = env.this; locals = env.locals ++ types }
+
+abbrev pub declaring : Scope → List VarType → Scope
+declaring scope types = record { env = with_locals scope.env types; gives = scope.gives; may_break = scope.may_break; may_continue = scope.may_continue }
+
+abbrev pub in_loop : Scope → Scope
+in_loop scope = record { env = scope.env; gives = scope.gives; may_break = true; may_continue = true }
+
+abbrev pub in_switch : Scope → Scope
+in_switch scope = record { env = scope.env; gives = scope.gives; may_break = true; may_continue = scope.may_continue }
+
+-- variables
+
+-- what is constructed for a variable of this type
+pub data Constructs : Target → ObjectType → Type 0 where
+  class : {class : ℕ} → Constructs (targets.Class class) (objects.Class class)
+  host : {kind : ℕ} → Constructs (targets.Host kind) (objects.Host kind)
+  array : {of : Element} → Constructs (targets.Array of) (objects.Array of)
+
+abbrev pub IsNoObject : VarType → Type 0
+IsNoObject (vars.Object _) = ⊥
+IsNoObject _ = Unit {0}
+
+-- what a variable begins with: an object of its own where it has an object
+pub data BeginsWith (env : Environment) : VarType → Option Expr → Type 0 where
+  default : {of : VarType} → IsNoObject of → BeginsWith env of None
+  stored : {of : VarType} {e : Expr} → IsNoObject of → Fits env of e → BeginsWith env of (Some e)
+  constructed : {o : ObjectType} {target : Target} {parameters : List VarType} {es : Exprs}
+      → Constructs target o
+      → HasType env (Call target parameters es) (value (vars.Handle o))
+      → BeginsWith env (vars.Object o) (Some (Call target parameters es))
+
+pub record IsInitialized (env : Environment) (v : Initialization) : Type 0 where
+  pub type : IsVariableType env.signatures v.of
+  pub value : BeginsWith env v.of v.value
+
+-- variables of these types, each seen from the end of its own on
+pub data AreDeclared : Environment → List Initialization → List VarType → Type 0 where
+  none_declared : {env : Environment} → AreDeclared env [] []
+  and_declared : {env : Environment} {v : Initialization} {vs : List Initialization} {types : List VarType}
+      → IsInitialized env v
+      → AreDeclared (with_locals env (v.of ∷ [])) vs types
+      → AreDeclared env (v ∷ vs) (v.of ∷ types)
+
+-- expressions of statements
+
+abbrev pub IsEvaluated : Environment → Expr → Type 0
+IsEvaluated env e = (of : ValueType) × HasType env e of
+
+abbrev pub IsCondition : Environment → Expr → Type 0
+IsCondition env e = HasType env e (value vars.Bool)
+
+abbrev pub MayBeCondition : Environment → Option Expr → Type 0
+MayBeCondition env None = Unit {0}
+MayBeCondition env (Some e) = IsCondition env e
+
+-- the head of a `for`, which declares variables of these types
+pub data IsHead (env : Environment) : Head → List VarType → Type 0 where
+  heads_nothing : IsHead env no_head []
+  heads_variables : {vs : List Initialization} {types : List VarType}
+      → AreDeclared env vs types
+      → IsHead env (declared_head vs) types
+  heads_expression : {e : Expr}
+      → IsEvaluated env e
+      → IsHead env (evaluated_head e) []
+
+-- labels
+
+-- what a type holds, of numbers that are this much below zero
+abbrev pub IsWithinMinus : Kind → ℕ → Type 0
+IsWithinMinus kinds.Int n = n ≤ 2 ^ 31
+IsWithinMinus kinds.Uint n = n ≡ 0
+IsWithinMinus kinds.Int64 n = n ≤ 2 ^ 63
+IsWithinMinus kinds.Uint64 n = n ≡ 0
+
+abbrev pub minus : ℕ → ℤ
+minus zero = pos 0
+minus (suc n) = negsuc n
+
+abbrev pub constant_of : Label → Option ℤ
+constant_of (labels.Case n) = Some (pos n)
+constant_of (labels.CaseMinus n) = Some (minus n)
+constant_of labels.Default = None
+
+abbrev pub IsConstant : Kind → Label → Type 0
+IsConstant kind (labels.Case n) = IsWithin kind n
+IsConstant kind (labels.CaseMinus n) = IsWithinMinus kind n
+IsConstant kind labels.Default = ⊥
+
+abbrev pub Differs : Label → Label → Type 0
+Differs l other = constant_of l ≢ constant_of other
+
+-- a label before these: its constant is of the type, and no label before it has the constant; `default` is the last one
+pub data IsLabel (kind : Kind) : List Label → Label → Cases → Type 0 where
+  constant : {before : List Label} {l : Label} {behind : Cases}
+      → IsConstant kind l
+      → AllByRecursion (Differs l) before
+      → IsLabel kind before l behind
+  otherwise : {before : List Label} → IsLabel kind before labels.Default no_case
+
+-- statements
+
+mutual
+  pub data IsStmt : Scope → Stmt → Type 0 where
+    empty : {scope : Scope} {line : ℕ} → IsStmt scope (Empty line)
+    evaluate : {scope : Scope} {line : ℕ} {e : Expr}
+        → IsEvaluated scope.env e
+        → IsStmt scope (Evaluate line e)
+    block : {scope : Scope} {line : ℕ} {ss : Stmts}
+        → AreStmts scope ss
+        → IsStmt scope (Block line ss)
+    if_only : {scope : Scope} {line : ℕ} {c : Expr} {s : Stmt}
+        → IsCondition scope.env c
+        → IsStmt scope s
+        → IsStmt scope (If line c s no_branch)
+    if_else : {scope : Scope} {line : ℕ} {c : Expr} {s t : Stmt}
+        → IsCondition scope.env c
+        → IsStmt scope s
+        → IsStmt scope t
+        → IsStmt scope (If line c s (branch t))
+    repeat : {scope : Scope} {line : ℕ} {inside : Loop}
+        → IsLoop scope inside
+        → IsStmt scope (Repeat line inside)
+    -- the loop sees what the head declares
+    for : {scope : Scope} {line : ℕ} {head : Head} {types : List VarType} {inside : Loop}
+        → IsHead scope.env head types
+        → IsLoop (declaring scope types) inside
+        → IsStmt scope (For line head inside)
+    switch : {scope : Scope} {line : ℕ} {kind : Kind} {e : Expr} {cs : Cases}
+        → HasType scope.env e (value (vars.Integer kind))
+        → AreCases (in_switch scope) kind [] cs
+        → IsStmt scope (Switch line kind e cs)
+    break_out : {scope : Scope} {line : ℕ}
+        → scope.may_break ≡ true
+        → IsStmt scope (Break line)
+    continue_on : {scope : Scope} {line : ℕ}
+        → scope.may_continue ≡ true
+        → IsStmt scope (Continue line)
+    return_nothing : {scope : Scope} {line : ℕ}
+        → scope.gives ≡ None
+        → IsStmt scope (Return line None)
+    return_value : {scope : Scope} {line : ℕ} {of : VarType} {e : Expr}
+        → scope.gives ≡ Some of
+        → Fits scope.env of e
+        → IsStmt scope (Return line (Some e))
+
+  pub data IsLoop : Scope → Loop → Type 0 where
+    loop : {scope : Scope} {test : Test} {c : Option Expr} {steps : List Expr} {s : Stmt}
+        → MayBeCondition scope.env c
+        → AllByRecursion (IsEvaluated scope.env) steps
+        → IsStmt (in_loop scope) s
+        → IsLoop scope (repeated test c steps s)
+
+  -- the statements of a block
+  pub data AreStmts : Scope → Stmts → Type 0 where
+    no_stmts : {scope : Scope} → AreStmts scope no_stmt
+    declare : {scope : Scope} {line : ℕ} {vs : List Initialization} {types : List VarType} {ss : Stmts}
+        → AreDeclared scope.env vs types
+        → AreStmts (declaring scope types) ss
+        → AreStmts scope (stmt (Declare line vs) ss)
+    more_stmts : {scope : Scope} {s : Stmt} {ss : Stmts}
+        → IsStmt scope s
+        → AreStmts scope ss
+        → AreStmts scope (stmt s ss)
+
+  -- labels, behind those before them, with the statements behind each, none of which declares variables
+  pub data AreCases : Scope → Kind → List Label → Cases → Type 0 where
+    no_cases : {scope : Scope} {kind : Kind} {before : List Label} → AreCases scope kind before no_case
+    more_cases : {scope : Scope} {kind : Kind} {before : List Label} {l : Label} {ss : Stmts} {cs : Cases}
+        → IsLabel kind before l cs
+        → AreLabelled scope ss
+        → AreCases scope kind (before ++ l ∷ []) cs
+        → AreCases scope kind before (next_case (labelled l ss) cs)
+
+  pub data AreLabelled : Scope → Stmts → Type 0 where
+    none_labelled : {scope : Scope} → AreLabelled scope no_stmt
+    and_labelled : {scope : Scope} {s : Stmt} {ss : Stmts}
+        → IsStmt scope s
+        → AreLabelled scope ss
+        → AreLabelled scope (stmt s ss)

@@ -1,0 +1,48 @@
+-- What the accepted calls of a registry offer to typed modules, by numbers.
+use Rattle.std.specs.Prelude.{ℕ, ◌&&◌, List, Option, Some, None, find, filter_map, nat_eq, if◌then◌else◌}
+use Rattle.std.specs.Option.{option_and_then}
+use Rattle.std.specs.Str.{bytes_eq}
+use Rattle.ash_tree.specs.declared.tree.types.Primitive.{Primitive}
+use Rattle.ash_registrations.specs.Calls as host
+use Rattle.ash_typed.specs.Signatures.{HostSignature, Host}
+use Rattle.ash_typing.specs.Environment.{name_of_kind}
+
+abbrev pub host_signature : host.Operation → HostSignature
+host_signature o = record { result = o.result; parameters = o.parameters }
+
+-- the kind of a registered type
+abbrev pub kind_in : host.Call → Option ℕ
+kind_in (host.AType name kind) = Some kind
+kind_in _ = None
+
+-- what the factory of a registered type of this kind takes
+abbrev pub factory_taking : host.Call → Option (List Primitive)
+factory_taking (host.AFactory of parameters) = Some parameters
+factory_taking _ = None
+
+abbrev pub factory_at : List host.Call → ℕ → host.Call → Option (List Primitive)
+factory_at calls kind (host.AType name other) = if nat_eq kind other then option_and_then factory_taking (find (host.is_factory_of name) calls) else None
+factory_at calls kind _ = None
+
+-- the method, the property and the function of a number
+abbrev pub method_at : List ℕ → ℕ → host.Call → Option HostSignature
+method_at of id (host.AMethod other taken operation) = if bytes_eq of other && nat_eq id taken then Some (host_signature operation) else None
+method_at of id _ = None
+
+abbrev pub property_at : List ℕ → ℕ → host.Call → Option Primitive
+property_at of id (host.AProperty other taken value name) = if bytes_eq of other && nat_eq id taken then Some value else None
+property_at of id _ = None
+
+abbrev pub function_at : ℕ → ℕ → host.Call → Option HostSignature
+function_at service id (host.AFunction other taken operation) = if nat_eq service other && nat_eq id taken then Some (host_signature operation) else None
+function_at service id _ = None
+
+-- what is offered where these calls are accepted
+abbrev pub offered : List host.Call → Host
+offered calls = record {
+  kinds = filter_map kind_in calls;
+  factories = λ kind. filter_map (factory_at calls kind) calls;
+  methods = λ kind id. filter_map (method_at (name_of_kind calls kind) id) calls;
+  properties = λ kind id. filter_map (property_at (name_of_kind calls kind) id) calls;
+  functions = λ service id. filter_map (function_at service id) calls;
+}

@@ -1,0 +1,36 @@
+-- What expressions and statements see, as sound typed trees speak of it.
+use Rattle.std.specs.Prelude.{◌||◌, List, map}
+use Rattle.ash_registrations.specs.Calls as host
+use Rattle.ash_typed.specs.declared.types.VarType.{VarType}
+use Rattle.ash_typed.specs.Modules.{Signature}
+use Rattle.ash_typed.specs.Signatures.{ClassSignature, Signatures}
+use Rattle.ash_typed.specs.SoundExpressions as expressions
+use Rattle.ash_typed.specs.SoundStatements as statements
+use Rattle.ash_typing.specs.Types.{var_type, result_type}
+use Rattle.ash_typing.specs.Environment.{Declared, Function, Interface, Class, Heads, Environment}
+use Rattle.ash_typing.specs.Statements.{Scope}
+use Rattle.ash_typing.specs.Offered.{offered}
+
+abbrev pub type_declared : Declared → VarType
+type_declared v = var_type v.of
+
+abbrev pub signature_of : Function → Signature
+signature_of f = record { name = f.name; result = result_type f.result; parameters = map var_type f.parameters }
+
+abbrev pub signatures_of_interface : Interface → List Signature
+signatures_of_interface i = map signature_of i.methods
+
+abbrev pub signature_of_class : Class → ClassSignature
+signature_of_class c = record { interfaces = c.interfaces; fields = map type_declared c.fields; parameters = map var_type c.parameters; methods = map signature_of c.methods }
+
+-- what a module declares, where these calls are registered
+abbrev pub signatures_in : List host.Call → Heads → Signatures
+signatures_in calls heads = record { host = offered calls; interfaces = map signatures_of_interface heads.interfaces; classes = map signature_of_class heads.classes; functions = map signature_of heads.functions; globals = map type_declared heads.globals }
+
+-- what an expression sees
+abbrev pub seen_in : Environment → expressions.Environment
+seen_in env = record { signatures = signatures_in env.registered env.heads; this = env.this; locals = map type_declared env.locals }
+
+-- what a statement sees
+abbrev pub seen_at : Scope → statements.Scope
+seen_at scope = record { env = seen_in scope.env; gives = result_type scope.gives; may_break = scope.in_loop || scope.in_switch; may_continue = scope.in_loop }

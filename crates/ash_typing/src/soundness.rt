@@ -1,0 +1,33 @@
+//! That what the rules of typing type is sound, as the typed tree alone says it.
+
+ghost use Rattle.std.specs.Prelude.{ℕ, Bool, List};
+ghost use Rattle.ash_registrations.specs.Calls.{Call};
+ghost use Rattle.ash_tree.specs.Grammar.{Derives};
+ghost use Rattle.ash_tree.specs.Tokens.{Tokens};
+ghost use Rattle.ash_tree.specs.Tree as written;
+ghost use Rattle.ash_typed.specs.Modules.{Module};
+ghost use Rattle.ash_typed.specs.SoundExpressions as expressions;
+ghost use Rattle.ash_typed.specs.SoundModules.{IsSound};
+ghost use Rattle.ash_typed.specs.SoundStatements as statements;
+ghost use Rattle.ash_typed.specs.StatementTree.{Stmts};
+ghost use Rattle.ash_typing.specs.Environment.{Environment};
+ghost use Rattle.ash_typing.specs.Nesting.{AllDeclareInBlocks, ItemsDeclareInBlocks};
+ghost use Rattle.ash_typing.specs.Offered.{offered};
+ghost use Rattle.ash_typing.specs.Soundness.{seen_in, seen_at};
+ghost use Rattle.ash_typing.specs.Statements.{Scope};
+ghost use Rattle.ash_typing.specs.Types.{value_type};
+ghost use Rattle.ash_typing.specs.TypedModules.{IsTyped};
+ghost use Rattle.ash_typing.specs.TypedStatements.{IsKnownScope, AreStmts};
+ghost use Rattle.ash_typing.specs.Typing.{IsKnown, Term, HasType};
+
+/// That what the rules of typing type is sound. It does nothing when it runs.
+pub fn typed_is_sound()
+    ensures expressions { (env : Environment) → IsKnown env → (left : Bool) (e : written.Expr) (t : Term) →
+        HasType env left e t → expressions.HasType (seen_in env) t.tree (value_type t.ty) }
+    ensures statements { (scope : Scope) → IsKnownScope scope → (ss : written.Stmts) (ts : Stmts) →
+        AllDeclareInBlocks ss → AreStmts scope ss ts → statements.AreStmts (seen_at scope) ts }
+    ensures modules { (calls : List Call) (is : List written.Item) (typed : Module) →
+        ItemsDeclareInBlocks is → IsTyped calls is typed → IsSound (offered calls) typed }
+    ensures derived { (calls : List Call) (free : ℕ) (tokens : Tokens) (is : List written.Item) (typed : Module) →
+        Derives free tokens is → IsTyped calls is typed → IsSound (offered calls) typed }
+{}
