@@ -45,6 +45,7 @@ first_at {A} test i (x ∷ xs) = go (test x) (first_at test (i + 1) xs)
   where
     Is : ℕ × A → Type 0
     Is found = (k : ℕ) × (found.0 ≡ i + k) × (slice_get (x ∷ xs) k ≡ Some found.1)
+
     go : (b : Bool) → IfSome (first_from test (i + 1) xs) (λ (found : ℕ × A). (k : ℕ) × (found.0 ≡ i + 1 + k) × (slice_get xs k ≡ Some found.1)) → IfSome (cond b (Some (i, x)) (first_from test (i + 1) xs)) (λ (found : ℕ × A). (k : ℕ) × (found.0 ≡ i + k) × (slice_get (x ∷ xs) k ≡ Some found.1))
     go true rest = (zero, omega arith, refl)
     go false rest = if_weaker (first_from test (i + 1) xs) (λ found h. let e = h.1 in (suc h.0, omega arith, h.2)) rest
