@@ -88,11 +88,7 @@ fn kind_construction<'a>(env: &Environment<'a, '_>, kind: u16) -> Option<Callee<
 
 /// The construction of an object by so many arguments.
 #[tactic(auto, unfolding(ash_typing::specs::Declarations::construction))]
-fn construction<'a>(
-    env: &Environment<'a, '_>,
-    of: ObjectType,
-    count: usize,
-) -> Option<Callee<'a>>
+fn construction<'a>(env: &Environment<'a, '_>, of: ObjectType, count: usize) -> Option<Callee<'a>>
     ensures { option_map callee_of result ≡ definition.construction (environment_of env.now) of count }
 {
     match of {
