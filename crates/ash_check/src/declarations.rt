@@ -50,8 +50,7 @@ pub(crate) fn at_type_name(of: &Type) -> usize
     }
 }
 
-/// The type of variables, which has to be known, and none of which stands for an object of an
-/// interface.
+/// The type of variables, which has to be known, and none of which stands for an object of an interface.
 #[tactic(auto, unfolding(ash_typing::specs::Declarations::known_ty))]
 pub(crate) fn known(written: &Type, of: Ty) -> Checking<Ty>
     ensures typed { Gives (λ t. t) result (definition.known_ty (type_of written.now) of) }
