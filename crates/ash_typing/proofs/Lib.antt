@@ -10,6 +10,7 @@ pub mod TypedVariables
 pub mod StatementsComplete
 pub mod StatementsSound
 pub mod TypedRoutines
+pub mod TypedInterfaces
 pub mod TypedClasses
 pub mod TypedItems
 pub mod KnownModules

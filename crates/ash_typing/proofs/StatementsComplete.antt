@@ -12,7 +12,7 @@ use Rattle.ash_typing.specs.Fitting.{fits}
 use Rattle.ash_typing.specs.Checking.{Checking}
 use Rattle.ash_typed.specs.declared.tree.statements.Test.TheVariants.{First, Last}
 use Rattle.ash_typed.specs.Tree.{Expr}
-use Rattle.ash_typed.specs.StatementTree.{Initialization, Stmt, If, no_branch, branch, Head, no_head, declared_head, evaluated_head, Repeat, For, repeated, Switch, Break, Continue, Return, Stmts, Cases}
+use Rattle.ash_typed.specs.StatementTree.{Initialization, Stmt, If, no_branch, branch, Head, Repeat, For, repeated, Switch, Break, Continue, Return, Stmts, Cases}
 use Rattle.ash_typing.specs.Environment.{Environment, Class}
 use Rattle.ash_typing.specs.Expressions.{Typed, typed, all_typed, integer_of, bool_of, is_void}
 use Rattle.ash_typing.specs.Heads.{declared}

@@ -12,7 +12,7 @@ use Rattle.ash_typing.specs.Fitting.{fits}
 use Rattle.ash_typing.specs.Checking.{Checking}
 use Rattle.ash_typed.specs.declared.tree.statements.Test.TheVariants.{First, Last}
 use Rattle.ash_typed.specs.Tree.{Expr}
-use Rattle.ash_typed.specs.StatementTree.{Initialization, Stmt, Declare, If, no_branch, branch, Head, no_head, declared_head, evaluated_head, Repeat, For, repeated, Return, Stmts, labelled, Cases, next_case}
+use Rattle.ash_typed.specs.StatementTree.{Initialization, Stmt, Declare, If, no_branch, branch, Head, Repeat, For, repeated, Return, Stmts, labelled, Cases, next_case}
 use Rattle.ash_typing.specs.Environment.{Environment, Declared, Class}
 use Rattle.ash_typing.specs.Expressions.{Typed, typed, all_typed, integer_of, bool_of, is_void}
 use Rattle.ash_typing.specs.Heads.{declared}

@@ -48,6 +48,11 @@ distinct_new (x ∷ xs) ys y h = none_before y x true (list_any (bytes_eq y) xs)
 
 -- names that are taken
 
+-- nothing is registered among the members of a class or of an interface
+pub all_free : (names : List (List ℕ)) → AllByRecursion (IsFree []) names
+all_free [] = tt
+all_free (n ∷ ns) = (refl, all_free ns)
+
 abbrev pub grown : Names → List (List ℕ) → ℕ → Names
 grown n names k = record { registered = n.registered; taken = n.taken ++ names; room = n.room - k }
 

@@ -1,7 +1,7 @@
 -- Classes are typed exactly as the rules say.
-use Rattle.std.proofs.Common.{◌≡◌, ◌+◌, ℕ, suc, true, false, List, [], ◌∷◌, ◌++◌, length, Option, Some, None, is_some, Ok, refl, sym, ◌∙◌, ap, subst, arith}
+use Rattle.std.proofs.Common.{◌≡◌, ◌+◌, ℕ, suc, true, false, List, [], ◌∷◌, ◌++◌, map, length, Option, Some, None, is_some, Ok, refl, sym, ◌∙◌, ap, subst, arith}
 use Rattle.std.specs.Str.{bytes_eq}
-use Rattle.std.specs.List.{AllByRecursion, AllZip, IsDistinct}
+use Rattle.std.specs.List.{AllZip, IsDistinct}
 use Rattle.std.proofs.lemmas.List.{append_assoc, append-nil, length-append, length-map}
 use Rattle.std.proofs.lemmas.Slice.Eq.{bytes_eq-Decides}
 use Rattle.ash_tree.specs.Tree as written
@@ -9,30 +9,31 @@ use Rattle.ash_typing.specs.declared.types.Ty.TheVariants as ty
 use Rattle.ash_typing.specs.Environment.{Environment}
 use Rattle.ash_typing.specs.Typing.{IsKnown}
 use Rattle.ash_typed.specs.StatementTree.{Initialization}
-use Rattle.ash_typed.specs.Modules.{Variables, Function, Class}
-use Rattle.ash_typing.specs.Items.{Names, placed, vars_typed, result_typed, Routine, routine_of, constructing, routine_typed, Members, constructor_named, member_typed, members_typed, no_members, inside, class_of_members, class_typed}
-use Rattle.ash_typing.specs.TypedModules.{decl_name, names_of, fields_of, methods_of, constructors_of, member_names, IsFree, AreVariables, AreFields, IsFunction, IsConstructor, HasConstructor, result_in, IsClass}
+use Rattle.ash_typed.specs.Modules.{Variables, Function, Implementation, Class}
+use Rattle.ash_typing.specs.Items.{Names, placed, vars_typed, result_typed, Routine, routine_of, constructing, routine_typed, Members, constructor_named, member_typed, members_typed, no_members, inside, class_of_members, Listed, all_listed, none_listed, class_typed}
+use Rattle.ash_typing.specs.TypedModules.{decl_name, names_of, fields_of, methods_of, constructors_of, member_names, listed_name, AreVariables, AreFields, IsFunction, IsConstructor, HasConstructor, result_in, IsListed, IsClass}
 use Rattle.ash_typing.proofs.Bindings.{no_err, ok_is, bind_ok, bind_is, if_ok}
-use Rattle.ash_typing.proofs.TakenNames.{Distinct, grown, grown-none, grown-then, CanTake, takes_none, takes_then, takes_first, takes_rest, placed_sound, placed_complete}
+use Rattle.ash_typing.proofs.TakenNames.{all_free, Distinct, grown, grown-none, grown-then, CanTake, takes_none, takes_then, takes_first, takes_rest, placed_sound, placed_complete}
 use Rattle.ash_typing.proofs.TypedVariables.{vars_sound, vars_complete}
+use Rattle.ash_typing.proofs.TypedInterfaces.{listed_with, listed_sound, listed_complete}
 use Rattle.ash_typing.proofs.TypedRoutines.{routine_sound, routine_complete, result_complete, function_sound}
 
 -- a class so far
 
-abbrev members_of : List ℕ → ℕ → Names → List Initialization → Option Function → List Function → Members
-members_of name line names fields constructor methods = record { names = names; class = record { name = name; line = line; fields = fields; constructor = constructor; methods = methods } }
+abbrev members_of : List ℕ → ℕ → List Implementation → Names → List Initialization → Option Function → List Function → Members
+members_of name line listed names fields constructor methods = record { names = names; class = record { name = name; line = line; interfaces = listed; fields = fields; constructor = constructor; methods = methods } }
 
 abbrev members_with : Members → List (List ℕ) → ℕ → List Initialization → List Function → Option Function → Members
-members_with ms names k fields methods constructor = members_of ms.class.name ms.class.line (grown ms.names names k) (ms.class.fields ++ fields) constructor (ms.class.methods ++ methods)
+members_with ms names k fields methods constructor = members_of ms.class.name ms.class.line ms.class.interfaces (grown ms.names names k) (ms.class.fields ++ fields) constructor (ms.class.methods ++ methods)
 
-same_members : (name : List ℕ) (line : ℕ) (n m : Names) (fs gs : List Initialization) (c : Option Function) (ts us : List Function) → n ≡ m → fs ≡ gs → ts ≡ us → members_of name line n fs c ts ≡ members_of name line m gs c us
-same_members name line n m fs gs c ts us h i j = rw (h, i, j) refl
+same_members : (name : List ℕ) (line : ℕ) (listed : List Implementation) (n m : Names) (fs gs : List Initialization) (c : Option Function) (ts us : List Function) → n ≡ m → fs ≡ gs → ts ≡ us → members_of name line listed n fs c ts ≡ members_of name line listed m gs c us
+same_members name line listed n m fs gs c ts us h i j = rw (h, i, j) refl
 
 members_with-none : (ms : Members) → members_with ms [] 0 [] [] ms.class.constructor ≡ ms
-members_with-none ms = same_members ms.class.name ms.class.line (grown ms.names [] 0) ms.names _ _ ms.class.constructor _ _ (grown-none ms.names) (append-nil ms.class.fields) (append-nil ms.class.methods)
+members_with-none ms = same_members ms.class.name ms.class.line ms.class.interfaces (grown ms.names [] 0) ms.names _ _ ms.class.constructor _ _ (grown-none ms.names) (append-nil ms.class.fields) (append-nil ms.class.methods)
 
 members_with-then : (ms : Members) (xs ys : List (List ℕ)) (j k l : ℕ) (fs gs : List Initialization) (ts us : List Function) (b c : Option Function) → l ≡ j + k → members_with (members_with ms xs j fs ts b) ys k gs us c ≡ members_with ms (xs ++ ys) l (fs ++ gs) (ts ++ us) c
-members_with-then ms xs ys j k l fs gs ts us b c e = same_members ms.class.name ms.class.line (grown (grown ms.names xs j) ys k) (grown ms.names (xs ++ ys) l) _ _ c _ _ (grown-then ms.names xs ys j k l e) (append_assoc ms.class.fields fs gs) (append_assoc ms.class.methods ts us)
+members_with-then ms xs ys j k l fs gs ts us b c e = same_members ms.class.name ms.class.line ms.class.interfaces (grown (grown ms.names xs j) ys k) (grown ms.names (xs ++ ys) l) _ _ c _ _ (grown-then ms.names xs ys j k l e) (append_assoc ms.class.fields fs gs) (append_assoc ms.class.methods ts us)
 
 pub count_names : (v : written.Vars) (rest : List (List ℕ)) → length (names_of v ++ rest) ≡ length v.decls + length rest
 count_names v rest = length-append (names_of v) rest ∙ ap (λ (n : ℕ). n + length rest) (length-map v.decls decl_name)
@@ -112,13 +113,13 @@ members_sound env known (written.AField v ∷ xs) ms after d h =
     let r = bind_ok (vars_typed env ms.names v) _ m.0 m.1 in
     let g = vars_sound env known ms.names v r.0 d r.1 in
     let next : Members = members_with ms (names_of v) (length v.decls) r.0.variables.values [] ms.class.constructor in
-    let step : m.0 ≡ next = sym (ok_is _ m.0 r.2) ∙ same_members ms.class.name ms.class.line r.0.names next.names _ _ ms.class.constructor _ _ g.taken refl (sym (append-nil ms.class.methods)) in
+    let step : m.0 ≡ next = sym (ok_is _ m.0 r.2) ∙ same_members ms.class.name ms.class.line ms.class.interfaces r.0.names next.names _ _ ms.class.constructor _ _ g.taken refl (sym (append-nil ms.class.methods)) in
     let go = members_sound env known xs next after g.can.distinct (subst (λ (x : Members). members_typed env x xs ≡ Ok after) step m.2) in
     let count = count_names v (member_names xs) in
     record {
       can = takes_then ms.names (names_of v) (member_names xs) (length v.decls) (length (member_names xs)) _ count g.can go.can;
       fields = r.0.variables.values ++ go.fields;
-      are_fields = (r.0.variables.values, go.fields, g.typed.known, g.typed.values, go.are_fields, refl);
+      are_fields = (r.0.variables.values, go.fields, g.typed.variable, g.typed.values, go.are_fields, refl);
       methods = go.methods;
       are_methods = go.are_methods;
       constructor = go.constructor;
@@ -132,7 +133,7 @@ members_sound env known (written.AMethod f ∷ xs) ms after d h =
     let t = bind_ok (routine_typed env o.0 (routine_of f)) _ m.0 p.2 in
     let g = placed_sound ms.names f.place.at f.name p.0 d p.1 in
     let next : Members = members_with ms (f.name ∷ []) 1 [] (t.0 ∷ []) ms.class.constructor in
-    let step : m.0 ≡ next = sym (ok_is _ m.0 t.2) ∙ same_members ms.class.name ms.class.line p.0 next.names _ _ ms.class.constructor _ _ g.1 (sym (append-nil ms.class.fields)) refl in
+    let step : m.0 ≡ next = sym (ok_is _ m.0 t.2) ∙ same_members ms.class.name ms.class.line ms.class.interfaces p.0 next.names _ _ ms.class.constructor _ _ g.1 (sym (append-nil ms.class.fields)) refl in
     let go = members_sound env known xs next after g.0.distinct (subst (λ (x : Members). members_typed env x xs ≡ Ok after) step m.2) in
     let k = length (member_names xs) in
     record {
@@ -151,7 +152,7 @@ members_sound env known (written.AConstructor c ∷ xs) ms after d h =
     let t = bind_ok (routine_typed env ty.Void n.0) _ m.0 n.2 in
     let g = named_sound ms.class c n.0 n.1 in
     let next : Members = members_with ms [] 0 [] [] (Some t.0) in
-    let step : m.0 ≡ next = sym (ok_is _ m.0 t.2) ∙ same_members ms.class.name ms.class.line ms.names next.names _ _ (Some t.0) _ _ (sym (grown-none ms.names)) (sym (append-nil ms.class.fields)) (sym (append-nil ms.class.methods)) in
+    let step : m.0 ≡ next = sym (ok_is _ m.0 t.2) ∙ same_members ms.class.name ms.class.line ms.class.interfaces ms.names next.names _ _ (Some t.0) _ _ (sym (grown-none ms.names)) (sym (append-nil ms.class.fields)) (sym (append-nil ms.class.methods)) in
     let none = takes_none ms.names d in
     let go = members_sound env known xs next after none.distinct (subst (λ (x : Members). members_typed env x xs ≡ Ok after) step m.2) in
     let k = length (member_names xs) in
@@ -175,7 +176,7 @@ members_complete env known (written.AField v ∷ xs) ms fs ts o can are_fs are_t
     let values = are_fs.0 in
     let more = are_fs.1 in
     let f : Variables = record { line = (written.place_of_type v.of).line; values = values } in
-    let are : AreVariables env v f = record { known = are_fs.2; line = refl; values = are_fs.3 } in
+    let are : AreVariables env v f = record { variable = are_fs.2; line = refl; values = are_fs.3 } in
     let j = length v.decls in
     let k = length (member_names xs) in
     let count = count_names v (member_names xs) in
@@ -184,7 +185,7 @@ members_complete env known (written.AField v ∷ xs) ms fs ts o can are_fs are_t
     let next : Members = members_with ms (names_of v) j values [] ms.class.constructor in
     bind_is (member_typed env ms (written.AField v)) _ next _
     (bind_is (vars_typed env ms.names v) _ _ next (vars_complete env known ms.names v f first are)
-    (ap (λ (x : Members). Ok x) (same_members ms.class.name ms.class.line next.names next.names _ _ ms.class.constructor _ _ refl refl (sym (append-nil ms.class.methods)))))
+    (ap (λ (x : Members). Ok x) (same_members ms.class.name ms.class.line ms.class.interfaces next.names next.names _ _ ms.class.constructor _ _ refl refl (sym (append-nil ms.class.methods)))))
     (members_complete env known xs next more ts o rest are_fs.4 are_ts constructs
     ∙ ap (λ (x : Members). Ok x) (members_with-then ms (names_of v) (member_names xs) j k _ values more [] ts ms.class.constructor o count ∙ ap (λ (fields : List Initialization). members_with ms (member_names (written.AField v ∷ xs)) (length (member_names (written.AField v ∷ xs))) fields ts o) (sym are_fs.5)))
 members_complete env known (written.AMethod f ∷ xs) ms fs [] o can are_fs are_ts constructs = absurd are_ts
@@ -198,7 +199,7 @@ members_complete env known (written.AMethod f ∷ xs) ms fs (t ∷ ts) o can are
     (bind_is (result_typed env f.result) _ (result_in env f.result) next (result_complete env f.result is.passed)
     (bind_is (placed ms.names f.place.at f.name) _ next.names next (placed_complete ms.names f.place.at f.name first)
     (bind_is (routine_typed env (result_in env f.result) (routine_of f)) _ t next (routine_complete env (result_in env f.result) (routine_of f) t is.routine)
-    (ap (λ (x : Members). Ok x) (same_members ms.class.name ms.class.line next.names next.names _ _ ms.class.constructor _ _ refl (sym (append-nil ms.class.fields)) refl)))))
+    (ap (λ (x : Members). Ok x) (same_members ms.class.name ms.class.line ms.class.interfaces next.names next.names _ _ ms.class.constructor _ _ refl (sym (append-nil ms.class.fields)) refl)))))
     (members_complete env known xs next fs ts o rest are_fs are_ts.1 constructs ∙ ap (λ (x : Members). Ok x) (members_with-then ms (f.name ∷ []) (member_names xs) 1 k (suc k) [] fs (t ∷ []) ts ms.class.constructor o (omega arith)))
 members_complete env known (written.AConstructor c ∷ xs) ms fs ts o can are_fs are_ts constructs =
     let k = length (member_names xs) in
@@ -208,23 +209,27 @@ members_complete env known (written.AConstructor c ∷ xs) ms fs ts o can are_fs
     bind_is (member_typed env ms (written.AConstructor c)) _ next _
     (bind_is (constructor_named ms.class c) _ (constructing c) next (named_complete ms.class c none is.named)
     (bind_is (routine_typed env ty.Void (constructing c)) _ t next (routine_complete env ty.Void (constructing c) t is.routine)
-    (ap (λ (x : Members). Ok x) (same_members ms.class.name ms.class.line ms.names next.names _ _ (Some t) _ _ (sym (grown-none ms.names)) (sym (append-nil ms.class.fields)) (sym (append-nil ms.class.methods))))))
+    (ap (λ (x : Members). Ok x) (same_members ms.class.name ms.class.line ms.class.interfaces ms.names next.names _ _ (Some t) _ _ (sym (grown-none ms.names)) (sym (append-nil ms.class.fields)) (sym (append-nil ms.class.methods))))))
     (members_complete env known xs next fs ts o rest are_fs are_ts (subst (λ cs. Constructs env ms.class.name (Some t) cs o) (sym alone) made) ∙ ap (λ (x : Members). Ok x) (members_with-then ms [] (member_names xs) 0 k k [] fs [] ts (Some t) o (omega arith))))
 
 -- classes
 
 within_known : (env : Environment) (place : ℕ) → IsKnown env → IsKnown (inside env place)
-within_known env place k = record { classes = k.classes; functions = k.functions; globals = k.globals; locals = tt }
+within_known env place k = record { interfaces = k.interfaces; classes = k.classes; functions = k.functions; globals = k.globals; locals = tt }
 
 pub class_sound : (env : Environment) → IsKnown env → (place : ℕ) (c : written.Class) (typed : Class) → class_typed env place c ≡ Ok typed → IsClass env place c typed
 unfolding class_typed IsDistinct
 class_sound env known place c typed h =
-    let m = bind_ok (members_typed (inside env place) (no_members c) c.members) _ typed h in
-    let go = members_sound (inside env place) (within_known env place known) c.members (no_members c) m.0 tt m.1 in
-    let is : typed ≡ (members_with (no_members c) (member_names c.members) (length (member_names c.members)) go.fields go.methods go.constructor).class = sym (ok_is _ typed m.2) ∙ ap class_of_members go.is in
+    let l = bind_ok (all_listed env place none_listed c.interfaces) _ typed h in
+    let m = bind_ok (members_typed (inside env place) (no_members c l.0.interfaces) c.members) _ typed l.2 in
+    let list = listed_sound env place c.interfaces none_listed l.0 tt l.1 in
+    let go = members_sound (inside env place) (within_known env place known) c.members (no_members c l.0.interfaces) m.0 tt m.1 in
+    let is : typed ≡ (members_with (no_members c l.0.interfaces) (member_names c.members) (length (member_names c.members)) go.fields go.methods go.constructor).class = sym (ok_is _ typed m.2) ∙ ap class_of_members go.is in
     subst (λ (t : Class). IsClass env place c t) (sym is) (record {
       name = refl;
       line = refl;
+      listed_once = list.can.distinct;
+      interfaces = subst (λ (x : Listed). AllZip (IsListed env place) c.interfaces x.interfaces) (sym list.is) list.are;
       differ = go.can.distinct;
       few = go.can.room;
       fields = go.are_fields;
@@ -232,16 +237,15 @@ class_sound env known place c typed h =
       constructor = go.constructs;
     })
 
-all_free : (names : List (List ℕ)) → AllByRecursion (IsFree []) names
-all_free [] = tt
-all_free (n ∷ ns) = (refl, all_free ns)
-
 pub class_complete : (env : Environment) → IsKnown env → (place : ℕ) (c : written.Class) (typed : Class) → IsClass env place c typed → class_typed env place c ≡ Ok typed
 unfolding class_typed IsDistinct
 class_complete env known place c typed is =
     let n = is.name in
     let l = is.line in
-    let can : CanTake (no_members c).names (member_names c.members) (length (member_names c.members)) = record { free = all_free (member_names c.members); distinct = is.differ; room = is.few } in
-    bind_is (members_typed (inside env place) (no_members c) c.members) _ _ typed
-    (members_complete (inside env place) (within_known env place known) c.members (no_members c) typed.fields typed.methods typed.constructor can is.fields is.methods is.constructor)
-    (ap (λ (t : Class). Ok t) (rw (sym n, sym l) refl))
+    let once : CanTake none_listed.names (map listed_name c.interfaces) 0 = record { free = all_free (map listed_name c.interfaces); distinct = is.listed_once; room = omega arith } in
+    let can : CanTake (no_members c typed.interfaces).names (member_names c.members) (length (member_names c.members)) = record { free = all_free (member_names c.members); distinct = is.differ; room = is.few } in
+    bind_is (all_listed env place none_listed c.interfaces) _ (listed_with none_listed (map listed_name c.interfaces) typed.interfaces) typed
+    (listed_complete env place c.interfaces none_listed typed.interfaces once is.interfaces)
+    (bind_is (members_typed (inside env place) (no_members c typed.interfaces) c.members) _ _ typed
+    (members_complete (inside env place) (within_known env place known) c.members (no_members c typed.interfaces) typed.fields typed.methods typed.constructor can is.fields is.methods is.constructor)
+    (ap (λ (t : Class). Ok t) (rw (sym n, sym l) refl)))

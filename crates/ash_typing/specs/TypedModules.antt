@@ -250,8 +250,8 @@ AreClasses env place _ _ = ⊥
 abbrev pub environment : List host.Call → List written.Item → Environment
 environment calls is = seen calls (heads calls is)
 
--- A module, where these calls are registered. It has at most 256 classes and interfaces, and 256 variables. What it declares differs in
--- name, and has no registered name.
+-- A module, where these calls are registered. It has at most 256 classes and interfaces, and 256 variables. What it
+-- declares differs in name, and has no registered name.
 pub record IsTyped (calls : List host.Call) (is : List written.Item) (typed : Module) : Type 0 where
   pub differ : IsDistinct bytes_eq (item_names is)
   pub free : AllByRecursion (IsFree calls) (item_names is)
