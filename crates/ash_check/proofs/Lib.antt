@@ -4,3 +4,4 @@ pub mod CheckLaws
 pub mod StatementLaws
 pub mod NodeLaws
 pub mod ExactLaws
+pub mod MethodLaws

@@ -54,7 +54,7 @@ fn has_types_of(one: &Function, other: &Function) -> bool
 
 /// The place of the method of a class that a method of an interface runs.
 fn matching(method: &Function, found: Option<(usize, &Function)>) -> Option<usize>
-    ensures { result ≡ definition.matching (function_of method.now) (option_map placed_function found) }
+    ensures { result ≡ definition.matching (function_of method.now) (option_map placed_function found.entry) }
 {
     match found {
         Some((place, other)) if has_types_of(method, other) => Some(place),
@@ -70,6 +70,7 @@ fn method_for(methods: &[Function], method: &Function) -> Option<usize>
 }
 
 /// The places of those for each method of an interface, where the class has them all.
+#[tactic(auto, using(crate::proofs::MethodLaws::nothing_before, crate::proofs::MethodLaws::one_before))]
 fn methods_for(
     alloc: Global,
     methods: &[Function],

@@ -7,7 +7,7 @@ use Rattle.ash_typed.specs.declared.tree.expressions.Expr as code
 use Rattle.ash_typing.specs.Checking.{Checking, ◌>>=◌}
 use Rattle.ash_typed.specs.Tree.{Expr, Exprs, no_expr, expr, exprs}
 use Rattle.ash_typed.specs.Views.{expr_of}
-use Rattle.ash_typing.specs.Environment.{Environment}
+use Rattle.ash_typing.specs.Environment.{Environment, Class}
 use Rattle.ash_typing.specs.Expressions.{Typed, fitted, all_fitted, typed, all_typed}
 use Rattle.ash_expressions.specs.declared.stop.Stop.{Stop}
 use Rattle.ash_expressions.specs.declared.stop.Stop.TheVariants as reasons
@@ -19,9 +19,6 @@ use Rattle.ash_expressions.specs.Views.{first_and_rest}
 abbrev pub before : List Expr → Exprs → Exprs
 before [] es = es
 before (e ∷ done) es = expr e (before done es)
-
-abbrev pub fitted_after : List Expr → List Ty → List Typed → Checking Exprs
-fitted_after done ps ts = all_fitted ps ts >>= λ es. Ok (before done es)
 
 before-none : (done : List Expr) → before done no_expr ≡ exprs done
 before-none [] = refl
@@ -35,20 +32,8 @@ bind_same : {A : Type 0} (r : Checking A) → (r >>= λ x. Ok x) ≡ r
 bind_same (Ok x) = refl
 bind_same (Err f) = refl
 
-pub none_before : (ps : List Ty) (ts : List Typed) → fitted_after [] ps ts ≡ all_fitted ps ts
-none_before ps ts = bind_same (all_fitted ps ts)
-
-pub no_argument : (done : List Expr) (ps : List Ty) (ts : List Typed) → length ts ≤ 0 → fitted_after done ps ts ≡ Ok (exprs done)
-no_argument done [] [] h = ap Ok (before-none done)
-no_argument done (p ∷ ps) [] h = ap Ok (before-none done)
-no_argument done ps (t ∷ ts) h = absurd (omega arith)
-
 no_first : (p : Ty) (ps : List Ty) → ◌≡◌ {A = Option (Ty × List Ty)} (Some (p, ps)) None → ⊥
 no_first p ps h = cc
-
-pub no_parameter : (done : List Expr) (ps : List Ty) (ts : List Typed) → first_and_rest ps ≡ None → fitted_after done ps ts ≡ Ok (exprs done)
-no_parameter done [] ts h = ap Ok (before-none done)
-no_parameter done (p ∷ ps) ts h = absurd (no_first p ps h)
 
 same_split : (q : Ty) (ps : List Ty) (p : Ty) (qs : List Ty) → ◌≡◌ {A = Option (Ty × List Ty)} (Some (q, ps)) (Some (p, qs)) → ◌≡◌ {A = Ty × List Ty} (q, ps) (p, qs)
 same_split q ps p qs h = cc
@@ -61,28 +46,44 @@ push_more : (done : List Expr) (e : Expr) (r : Checking Exprs) → ((r >>= λ es
 push_more done e (Ok es) = ap Ok (before-push done e es)
 push_more done e (Err f) = refl
 
--- what comes out of one argument, and then of those behind it
-abbrev first_then : List Expr → List Ty → List Typed → Checking Expr → Checking Exprs
-first_then done ps ts r = (r >>= λ e. all_fitted ps ts >>= λ es. Ok (expr e es)) >>= λ es. Ok (before done es)
-
-one_more : (done : List Expr) (ps : List Ty) (ts : List Typed) (p : Ty) (qs : List Ty) (t : Typed) (us : List Typed) → first_and_rest ps ≡ Some (p, qs) → ts ≡ t ∷ us → fitted_after done ps ts ≡ first_then done qs us (fitted p t)
-one_more done ps ts p qs t us h k = ap (λ x. fitted_after done x ts) (split_is ps p qs h) ∙ ap (λ x. fitted_after done (p ∷ qs) x) k
-
-pub stops : (done : List Expr) (ps : List Ty) (ts : List Typed) (p : Ty) (qs : List Ty) (t : Typed) (us : List Typed) (e : Stop) (whole : Checking Exprs) → first_and_rest ps ≡ Some (p, qs) → ts ≡ t ∷ us → Fails e (fitted p t) → fitted_after done ps ts ≡ whole → Fails e whole
-stops done ps ts p qs t us (reasons.Fault f) whole h k broken so = sym so ∙ one_more done ps ts p qs t us h k ∙ ap (first_then done qs us) broken
-stops done ps ts p qs t us reasons.NoMemory whole h k broken so = tt
-
 map_push : (es : List code.Expr) (e : code.Expr) → map expr_of (es ++ e ∷ []) ≡ map expr_of es ++ expr_of e ∷ []
 map_push [] e = refl
 map_push (x ∷ es) e = ap (λ r. expr_of x ∷ r) (map_push es e)
 
-pub goes_on : (done : List code.Expr) (e : code.Expr) (new : List code.Expr) (ps : List Ty) (ts : List Typed) (p : Ty) (qs : List Ty) (t : Typed) (us : List Typed) (whole : Checking Exprs) → new ≡ done ++ e ∷ [] → first_and_rest ps ≡ Some (p, qs) → ts ≡ t ∷ us → fitted p t ≡ Ok (expr_of e) → fitted_after (map expr_of done) ps ts ≡ whole → fitted_after (map expr_of new) qs us ≡ whole
-goes_on done e new ps ts p qs t us whole same h k fine so =
-    ap (λ x. fitted_after x qs us) (ap (map expr_of) same ∙ map_push done e)
-    ∙ sym (push_more (map expr_of done) (expr_of e) (all_fitted qs us))
-    ∙ sym (ap (first_then (map expr_of done) qs us) fine)
-    ∙ sym (one_more (map expr_of done) ps ts p qs t us h k)
-    ∙ so
+abbrev pub fitted_after : List Class → List Expr → List Ty → List Typed → Checking Exprs
+fitted_after classes done ps ts = all_fitted classes ps ts >>= λ es. Ok (before done es)
+
+-- what comes out of one argument, and then of those behind it
+abbrev first_then : List Class → List Expr → List Ty → List Typed → Checking Expr → Checking Exprs
+first_then classes done ps ts r = (r >>= λ e. all_fitted classes ps ts >>= λ es. Ok (expr e es)) >>= λ es. Ok (before done es)
+
+module _ (classes : List Class) where
+  pub none_before : (ps : List Ty) (ts : List Typed) → fitted_after classes [] ps ts ≡ all_fitted classes ps ts
+  none_before ps ts = bind_same (all_fitted classes ps ts)
+
+  pub no_argument : (done : List Expr) (ps : List Ty) (ts : List Typed) → length ts ≤ 0 → fitted_after classes done ps ts ≡ Ok (exprs done)
+  no_argument done [] [] h = ap Ok (before-none done)
+  no_argument done (p ∷ ps) [] h = ap Ok (before-none done)
+  no_argument done ps (t ∷ ts) h = absurd (omega arith)
+
+  pub no_parameter : (done : List Expr) (ps : List Ty) (ts : List Typed) → first_and_rest ps ≡ None → fitted_after classes done ps ts ≡ Ok (exprs done)
+  no_parameter done [] ts h = ap Ok (before-none done)
+  no_parameter done (p ∷ ps) ts h = absurd (no_first p ps h)
+
+  one_more : (done : List Expr) (ps : List Ty) (ts : List Typed) (p : Ty) (qs : List Ty) (t : Typed) (us : List Typed) → first_and_rest ps ≡ Some (p, qs) → ts ≡ t ∷ us → fitted_after classes done ps ts ≡ first_then classes done qs us (fitted classes p t)
+  one_more done ps ts p qs t us h k = ap (λ x. fitted_after classes done x ts) (split_is ps p qs h) ∙ ap (λ x. fitted_after classes done (p ∷ qs) x) k
+
+  pub stops : (done : List Expr) (ps : List Ty) (ts : List Typed) (p : Ty) (qs : List Ty) (t : Typed) (us : List Typed) (e : Stop) (whole : Checking Exprs) → first_and_rest ps ≡ Some (p, qs) → ts ≡ t ∷ us → Fails e (fitted classes p t) → fitted_after classes done ps ts ≡ whole → Fails e whole
+  stops done ps ts p qs t us (reasons.Fault f) whole h k broken so = sym so ∙ one_more done ps ts p qs t us h k ∙ ap (first_then classes done qs us) broken
+  stops done ps ts p qs t us reasons.NoMemory whole h k broken so = tt
+
+  pub goes_on : (done : List code.Expr) (e : code.Expr) (new : List code.Expr) (ps : List Ty) (ts : List Typed) (p : Ty) (qs : List Ty) (t : Typed) (us : List Typed) (whole : Checking Exprs) → new ≡ done ++ e ∷ [] → first_and_rest ps ≡ Some (p, qs) → ts ≡ t ∷ us → fitted classes p t ≡ Ok (expr_of e) → fitted_after classes (map expr_of done) ps ts ≡ whole → fitted_after classes (map expr_of new) qs us ≡ whole
+  goes_on done e new ps ts p qs t us whole same h k fine so =
+      ap (λ x. fitted_after classes x qs us) (ap (map expr_of) same ∙ map_push done e)
+      ∙ sym (push_more (map expr_of done) (expr_of e) (all_fitted classes qs us))
+      ∙ sym (ap (first_then classes (map expr_of done) qs us) fine)
+      ∙ sym (one_more (map expr_of done) ps ts p qs t us h k)
+      ∙ so
 
 -- arguments that are typed
 

@@ -1,0 +1,7 @@
+use Rattle.std.proofs.Common.{◌≡◌, drop}
+use Rattle.ash_typing.specs.Items as definition
+use Rattle.ash_check.proofs.implementations.are_same.Given as goal
+
+-- what is left gives what the whole gives
+abbrev pub invariant-loop-of : goal.invariant-loop-of
+invariant-loop-of l = definition.are_same (drop l.of-index l.some) l.rest ≡ definition.are_same l.some l.others
