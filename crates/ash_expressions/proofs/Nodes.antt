@@ -5,16 +5,17 @@ use Rattle.std.specs.declared.vec.Vec.{Vec}
 use Rattle.std.specs.declared.string.String.{String}
 use Rattle.std.specs.declared.alloc.Global.{Global}
 use Rattle.ash_tree.specs.declared.tree.places.Place.{Place}
+use Rattle.ash_tree.specs.declared.tree.types.Element as code_element
 use Rattle.ash_tree.specs.declared.tree.expressions.ExprKind.TheViews as kinds
 use Rattle.ash_tree.specs.declared.tree.expressions.Expr as code_expr
 use Rattle.ash_tree.specs.declared.tree.expressions.Suffix as code_suffix
 use Rattle.ash_tree.specs.declared.tree.expressions.Link as code_link
 use Rattle.ash_tree.specs.Tree as written
-use Rattle.ash_tree.specs.Views.{expr_at, expr_of, suffix_of, operation_of}
-use Rattle.ash_tree.proofs.Rows.{call_is, method_is, binary_is, postfix_is}
+use Rattle.ash_tree.specs.Views.{element_of, expr_at, expr_of, suffix_of, operation_of}
+use Rattle.ash_tree.proofs.Rows.{call_is, new_array_is, method_is, binary_is, postfix_is}
 use Rattle.ash_typing.specs.Checking.{◌>>=◌}
 use Rattle.ash_typing.specs.Environment.{Environment}
-use Rattle.ash_typing.specs.Expressions.{typed, all_typed, call_typed, invocation_typed, links_typed, suffixes_typed, suffix_typed}
+use Rattle.ash_typing.specs.Expressions.{typed, all_typed, call_typed, array_typed, invocation_typed, links_typed, suffixes_typed, suffix_typed}
 use Rattle.ash_expressions.specs.declared.typed.Typed as code_typed
 use Rattle.ash_expressions.specs.declared.stop.Stop.{Stop}
 use Rattle.ash_expressions.specs.Gives.{Gives}
@@ -27,6 +28,14 @@ typed_call env left source name es text items outcome is t i h =
     let Q : List ℕ → Type 0 = λ x. Gives typed_of outcome (call_typed env source.place.at x (all_typed env (written.exprs (map expr_of items)))) in
     let R : List code_expr.Expr → Type 0 = λ x. Gives typed_of outcome (call_typed env source.place.at (string_bytes name) (all_typed env (written.exprs (map expr_of x)))) in
     subst P (sym whole) (subst R i (subst Q t h))
+
+pub typed_new_array : (env : Environment) (left : Bool) (source : code_expr.Expr) (of : Box code_element.Element Global) (es : Vec code_expr.Expr Global) (element : code_element.Element) (items : List code_expr.Expr) (outcome : Result code_typed.Typed Stop) → source.kind ≡ kinds.NewArray of es → element ≡ of.value → items ≡ es.items → Gives typed_of outcome (array_typed env source.place.at (element_of element) (all_typed env (written.exprs (map expr_of items)))) → Gives typed_of outcome (typed env left (expr_of source))
+typed_new_array env left source of es element items outcome is f i h =
+    let whole : expr_of source ≡ written.NewArray source.place (element_of of.value) (written.exprs (map expr_of es.items)) = ap (expr_at source.place) is ∙ new_array_is source.place of es in
+    let P : written.Expr → Type 0 = λ x. Gives typed_of outcome (typed env left x) in
+    let Q : code_element.Element → Type 0 = λ x. Gives typed_of outcome (array_typed env source.place.at (element_of x) (all_typed env (written.exprs (map expr_of items)))) in
+    let R : List code_expr.Expr → Type 0 = λ x. Gives typed_of outcome (array_typed env source.place.at (element_of of.value) (all_typed env (written.exprs (map expr_of x)))) in
+    subst P (sym whole) (subst R i (subst Q f h))
 
 pub typed_postfix : (env : Environment) (left : Bool) (source : code_expr.Expr) (operand : Box code_expr.Expr Global) (ss : Vec code_suffix.Suffix Global) (first : code_expr.Expr) (items : List code_suffix.Suffix) (outcome : Result code_typed.Typed Stop) → source.kind ≡ kinds.Postfix operand ss → first ≡ operand.value → items ≡ ss.items → Gives typed_of outcome (typed env false (expr_of first) >>= λ t. suffixes_typed env t (written.suffixes (map suffix_of items))) → Gives typed_of outcome (typed env left (expr_of source))
 typed_postfix env left source operand ss first items outcome is f i h =

@@ -13,9 +13,7 @@ use crate::arrays::{array_built, indexed, known_element};
 use crate::calls::{bracketed, called, callee, field, invoked, known, method, this};
 use crate::environment::Environment;
 use crate::named::{element_named, object_named};
-use crate::operators::{
-    assigned, cast_at, cast_type, choice, converted, counted, operate, unary,
-};
+use crate::operators::{assigned, cast_at, cast_type, choice, converted, counted, operate, unary};
 use crate::stop::Checking;
 use crate::typed::{Typed, made, numeral};
 use crate::types::is_assign;
@@ -87,13 +85,7 @@ fn conversion(
 /// `cast<to>(value)`
 #[cycle(expressions)]
 #[inline(never)]
-fn cast(
-    env: &Environment,
-    alloc: Global,
-    at: usize,
-    to: &TypeName,
-    value: &Expr,
-) -> Checking<Typed>
+fn cast(env: &Environment, alloc: Global, at: usize, to: &TypeName, value: &Expr) -> Checking<Typed>
     ensures { Gives typed_of result (typing.cast_type to.now.place.at (object_named (environment_of env.now).registered (environment_of env.now).heads (written.type_name_of to.now).name) and_then λ o. typing.typed (environment_of env.now) false (written.expr_of value.now) and_then λ t. typing.cast_at at o t) }
 {
     let object = object_named(env.registry, env.heads, to.name.as_str());

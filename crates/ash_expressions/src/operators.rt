@@ -340,10 +340,7 @@ fn stored(
 }
 
 /// An assignment, once both sides are typed.
-#[tactic(
-    auto,
-    unfolding(ash_typing::specs::Expressions::assigned, ash_typing::specs::Expressions::stored)
-)]
+#[tactic(auto, unfolding(ash_typing::specs::Expressions::assigned, ash_typing::specs::Expressions::stored))]
 pub(crate) fn assigned(
     env: &Environment,
     alloc: Global,

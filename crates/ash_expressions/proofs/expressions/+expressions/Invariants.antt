@@ -22,6 +22,12 @@ decreases-brackets l = 3 * size-Expr l.inner.now + 1
 abbrev pub decreases-conversion : goal.decreases-conversion
 decreases-conversion l = 3 * size-Expr l.value.now + 1
 
+abbrev pub decreases-cast : goal.decreases-cast
+decreases-cast l = 3 * size-Expr l.value.now + 1
+
+abbrev pub decreases-new_array : goal.decreases-new_array
+decreases-new_array l = 3 * most size-Expr l.arguments.now + 2
+
 abbrev pub decreases-prefixed : goal.decreases-prefixed
 decreases-prefixed l = 3 * size-Expr l.operand.now + 1
 
@@ -40,6 +46,9 @@ decreases-suffixed l = 3 * max (size-Expr l.operand.now) (most size-Suffix l.beh
 
 abbrev pub decreases-one_suffix : goal.decreases-one_suffix
 decreases-one_suffix l = 3 * size-Suffix l.suffix.now
+
+abbrev pub decreases-index : goal.decreases-index
+decreases-index l = 3 * size-Expr l.value.now + 1
 
 abbrev pub decreases-invocation : goal.decreases-invocation
 decreases-invocation l = 3 * most size-Expr l.arguments.now + 2
