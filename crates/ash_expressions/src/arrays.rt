@@ -57,13 +57,7 @@ fn index_in(alloc: Global, index: Typed) -> Checking<Expr>
     Ok(brought(alloc, Ty::Integer(Kind::Uint), index)?)
 }
 
-fn indexed_at(
-    alloc: Global,
-    array: Typed,
-    index: Typed,
-    ty: Ty,
-    of: Element,
-) -> Checking<Typed>
+fn indexed_at(alloc: Global, array: Typed, index: Typed, ty: Ty, of: Element) -> Checking<Typed>
     ensures { Gives typed_of result (typing.indexed_at (typed_of array) (typed_of index) ty of) }
 {
     let index = index_in(alloc, index)?;
@@ -71,12 +65,7 @@ fn indexed_at(
     Ok(read(array.at, ty, tree))
 }
 
-fn indexed_object(
-    alloc: Global,
-    array: Typed,
-    index: Typed,
-    object: ObjectType,
-) -> Checking<Typed>
+fn indexed_object(alloc: Global, array: Typed, index: Typed, object: ObjectType) -> Checking<Typed>
     ensures { Gives typed_of result (typing.indexed_object (typed_of array) (typed_of index) object) }
 {
     match object {
