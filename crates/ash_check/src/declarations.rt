@@ -50,8 +50,7 @@ pub(crate) fn at_type_name(of: &Type) -> usize
     }
 }
 
-/// The type of variables, which has to be known, and none of which stands for an object of an
-/// interface.
+/// The type of variables, which has to be known, and none of which stands for an object of an interface.
 #[tactic(auto, unfolding(ash_typing::specs::Declarations::known_ty))]
 pub(crate) fn known(written: &Type, of: Ty) -> Checking<Ty>
     ensures typed { Gives (λ t. t) result (definition.known_ty (type_of written.now) of) }
@@ -88,11 +87,7 @@ fn kind_construction<'a>(env: &Environment<'a, '_>, kind: u16) -> Option<Callee<
 
 /// The construction of an object by so many arguments.
 #[tactic(auto, unfolding(ash_typing::specs::Declarations::construction))]
-fn construction<'a>(
-    env: &Environment<'a, '_>,
-    of: ObjectType,
-    count: usize,
-) -> Option<Callee<'a>>
+fn construction<'a>(env: &Environment<'a, '_>, of: ObjectType, count: usize) -> Option<Callee<'a>>
     ensures { option_map callee_of result ≡ definition.construction (environment_of env.now) of count }
 {
     match of {

@@ -320,13 +320,7 @@ fn named<'a>(alloc: Global, items: &'a [Item]) -> Result<Heads<'a>, AllocError>
 {
     let interfaces = named_interfaces(alloc, items)?;
     let classes = named_classes(alloc, items)?;
-    let heads = Heads::new(
-        alloc,
-        interfaces,
-        classes,
-        Vec::new(alloc),
-        Vec::new(alloc),
-    )?;
+    let heads = Heads::new(alloc, interfaces, classes, Vec::new(alloc), Vec::new(alloc))?;
     Ok(heads)
 }
 

@@ -33,7 +33,8 @@ fn signature_typed<'a>(
     ensures { Gives (λ _. signatures_of signatures.new) result (definition.signature_typed (environment_of env.now) (signatures_of signatures.old) (interface_method_of method.now)) }
 {
     let of = result_typed(env, &method.result)?;
-    signatures.names.place(method.place.at, method.name.as_str())?;
+    let at = method.place.at;
+    signatures.names.place(at, method.name.as_str())?;
     let parameters = parameters_typed(alloc, env, &method.parameters)?;
     let signature = Signature {
         name: method.name.clone()?,
