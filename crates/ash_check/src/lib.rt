@@ -8,8 +8,9 @@
 //! Expressions are typed by `ash_expressions`.
 //!
 //! In reading order: `checks`, the whole; `faults`, what is told; `items`, the walk over a module, with `names`,
-//! `interfaces`, `implementations`, `routines`, `declarations` and `bodies`; `heads`, what a module declares; `statements`, the walk over a body, with `scopes`, what a
-//! statement sees, `locals`, `conditions`, `loops`, `switches` and `jumps`. Beside them `returning`, which statements return.
+//! `interfaces`, `implementations`, `routines`, `declarations` and `bodies`; `heads`, what a module declares;
+//! `statements`, the walk over a body, with `scopes`, what a statement sees, `locals`, `conditions`, `loops`, `switches`
+//! and `jumps`. Beside them `returning`, which statements return.
 #![tactic(auto)]
 
 mod bodies;
