@@ -1,5 +1,5 @@
 -- What the structs of the walk over a module's items stand for.
-use Rattle.std.specs.Prelude.{ℕ, List, [], Option, None, Some, map, option_map}
+use Rattle.std.specs.Prelude.{ℕ, List, [], Option, None, Some, Ok, map, option_map}
 use Rattle.std.specs.Borrow.{Bor}
 use Rattle.std.specs.declared.vec.Vec.{Vec}
 use Rattle.std.specs.declared.alloc.Global.{Global}
@@ -10,8 +10,11 @@ use Rattle.ash_tree.specs.Views.{parameter_of, stmt_of}
 use Rattle.ash_typed.specs.Tree.{Expr}
 use Rattle.ash_typed.specs.Views.{expr_of}
 use Rattle.ash_typed.specs.declared.tree.expressions.Expr as typed_expr
-use Rattle.ash_typing.specs.Items.{Names, Routine, Row, Signatures, Listed, Members, Walked}
-use Rattle.ash_typed.specs.Modules.{variables_of, signature_of, implementation_of, class_of, module_of}
+use Rattle.ash_tree.specs.Tree as written
+use Rattle.ash_typing.specs.Checking.{Checking, ◌>>=◌}
+use Rattle.ash_typing.specs.Environment.{Environment}
+use Rattle.ash_typing.specs.Items.{Names, Routine, Row, Signatures, Listed, Members, Walked, inside, no_members, members_typed, class_of_members}
+use Rattle.ash_typed.specs.Modules.{Implementation, Class, variables_of, signature_of, implementation_of, class_of, module_of}
 use Rattle.ash_typed.specs.declared.tree.items.Variables as variables
 use Rattle.ash_typed.specs.declared.tree.items.Class as class
 use Rattle.ash_typed.specs.declared.tree.items.Module as script
@@ -57,3 +60,7 @@ walked_of names m = record { names = names; typed = module_of m }
 -- what a variable begins with
 abbrev pub maybe_expr : Option typed_expr.Expr → Option Expr
 maybe_expr value = option_map expr_of value
+
+-- the class of this place, with the interfaces that it lists
+abbrev pub class_with : Environment → ℕ → written.Class → List Implementation → Checking Class
+class_with env place c listed = members_typed (inside env place) (no_members c listed) c.members >>= λ ms. Ok (class_of_members ms)

@@ -2,6 +2,7 @@
 
 ghost use Rattle.std.specs.Prelude.{◌≡◌, ◌↔◌, ◌<◌, ℕ, List, Ok, Err, length, map, string_bytes, All, IfOk, IfErr, OnOk, MatchResult};
 ghost use Rattle.ash_registrations.specs.Calls.{Call};
+ghost use Rattle.ash_registrations.specs.Registered as table;
 ghost use Rattle.ash_registry.specs.Registered.{registered};
 ghost use Rattle.ash_tree.specs.Tree.{Item};
 ghost use Rattle.ash_tree.specs.Views.{module_of as written_module};
@@ -15,6 +16,7 @@ ghost use Rattle.ash_check.specs.Checks.{Cyclic, checked, Tells, told_of, name_a
 use crate::faults::{CheckFault, ClassNames};
 use crate::items::module_typed;
 use ash_classes::{Cycle, class_ranks, classes};
+use ash_registrations::Registrations;
 use ash_registry::Registry;
 use ash_tree::Class;
 use ash_typed::Module;
@@ -59,6 +61,25 @@ fn round_names(
     Ok(ClassNames(names_at(alloc, &classes, &places)?))
 }
 
+/// Checks a script where this is registered.
+fn check_by(
+    alloc: Global,
+    registry: &Registrations,
+    script: &ash_tree::Module,
+) -> Result<Checked, CheckFault>
+    ensures answer { MatchResult result (λ done. checked (table.registered registry.now) (written_module script.now) ≡ Ok (module_of done.module)) (λ fault. Tells (checked (table.registered registry.now) (written_module script.now)) fault) }
+    ensures typed { IfOk result (λ done. IsTyped (table.registered registry.now) (written_module script.now) (module_of done.module)) }
+    ensures ranks { IfOk result (λ done. AreRanks (Refers (classes_of (written_module script.now))) (length (classes_of (written_module script.now))) done.ranks.items) }
+    ensures acyclic { OnOk result ((class : ℕ) → Reaches (Refers (classes_of (written_module script.now))) class class → ⊥) }
+    ensures round { IfErr result (λ fault. GoesRoundIfCyclic (classes_of (written_module script.now)) (told_of fault)) }
+{
+    let module = module_typed(alloc, registry, script)?;
+    match class_ranks(alloc, script)? {
+        Ok(ranks) => Ok(Checked { module, ranks }),
+        Err(cycle) => Err(CheckFault::CyclicType(round_names(alloc, script, &cycle)?)),
+    }
+}
+
 /// Checks a script by itself and against what is registered: names, types, where phrases may stand, limits, and that
 /// none of its classes could form a cycle.
 ///
@@ -78,11 +99,7 @@ pub fn check(
     ensures acyclic { OnOk result ((class : ℕ) → Reaches (Refers (classes_of (written_module script.now))) class class → ⊥) }
     ensures round { IfErr result (λ fault. GoesRoundIfCyclic (classes_of (written_module script.now)) (told_of fault)) }
 {
-    let module = module_typed(alloc, registry.registrations(), script)?;
-    match class_ranks(alloc, script)? {
-        Ok(ranks) => Ok(Checked { module, ranks }),
-        Err(cycle) => Err(CheckFault::CyclicType(round_names(alloc, script, &cycle)?)),
-    }
+    check_by(alloc, registry.registrations(), script)
 }
 
 /// That the check accepts a script, with this typed module, exactly where the rules give it this module and no class

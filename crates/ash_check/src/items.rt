@@ -4,10 +4,10 @@ ghost use Rattle.std.specs.Prelude.{map};
 ghost use Rattle.ash_registrations.specs.Registered.{registered};
 ghost use Rattle.ash_tree.specs.Views.{vars_of, member_of, class_of as written_class, constructor_of, item_of, module_of as written_module};
 ghost use Rattle.ash_typing.specs.Items as definition;
-ghost use Rattle.ash_typed.specs.Modules.{class_of, module_of};
+ghost use Rattle.ash_typed.specs.Modules.{implementation_of, class_of, module_of};
 ghost use Rattle.ash_expressions.specs.Gives.{Gives};
 ghost use Rattle.ash_expressions.specs.Views.{environment_of, heads_of};
-ghost use Rattle.ash_check.specs.WalkViews.{names_of, routine_of, row_of, members_of, walked_of};
+ghost use Rattle.ash_check.specs.WalkViews.{names_of, routine_of, row_of, members_of, walked_of, class_with};
 
 use crate::declarations::{decl_typed, known, place_of, ty_in};
 use crate::heads::heads;
@@ -18,7 +18,7 @@ use crate::routines::{Routine, as_routine, result_typed, routine_typed};
 use ash_expressions::{Checking, Environment, Heads, broken};
 use ash_registrations::Registrations;
 use ash_tree::{Constructor, Item, Member, Vars};
-use ash_typed::{Class, Module, Variables};
+use ash_typed::{Class, Implementation, Module, Variables};
 use ash_typing::{Rule, Ty};
 use indexmap::IndexSet;
 use std::alloc::Global;
@@ -97,17 +97,16 @@ fn member_typed<'a>(
     Ok(())
 }
 
-/// The class of this place.
-#[tactic(auto, unfolding(ash_typing::specs::Items::class_typed))]
-fn class_typed<'a>(
+/// The class of this place, with the interfaces that it lists.
+fn class_listing<'a>(
     alloc: Global,
     env: &Environment<'_, 'a>,
     place: usize,
     class: &'a ash_tree::Class,
+    interfaces: Vec<Implementation>,
 ) -> Checking<Class>
-    ensures { Gives class_of result (definition.class_typed (environment_of env.now) place (written_class class.now)) }
+    ensures { Gives class_of result (class_with (environment_of env.now) place (written_class class.now) (map implementation_of interfaces.items)) }
 {
-    let listed = all_listed(alloc, env, place, &class.interfaces)?;
     let inside = Environment {
         heads: env.heads,
         registry: env.registry,
@@ -122,7 +121,7 @@ fn class_typed<'a>(
     let mut typed = Class {
         name: class.name.clone()?,
         line: class.place.line,
-        interfaces: listed.interfaces,
+        interfaces,
         fields: Vec::new(alloc),
         constructor: None,
         methods: Vec::new(alloc),
@@ -131,6 +130,20 @@ fn class_typed<'a>(
         member_typed(alloc, &inside, &mut names, &mut typed, member)?;
     }
     Ok(typed)
+}
+
+/// The class of this place.
+#[tactic(auto, unfolding(ash_typing::specs::Items::class_typed))]
+fn class_typed<'a>(
+    alloc: Global,
+    env: &Environment<'_, 'a>,
+    place: usize,
+    class: &'a ash_tree::Class,
+) -> Checking<Class>
+    ensures { Gives class_of result (definition.class_typed (environment_of env.now) place (written_class class.now)) }
+{
+    let listed = all_listed(alloc, env, place, &class.interfaces)?;
+    class_listing(alloc, env, place, class, listed.interfaces)
 }
 
 /// There are at most 256 classes and interfaces in a module.

@@ -3,7 +3,7 @@ use Rattle.ash_tree.specs.Views.{member_of}
 use Rattle.ash_typing.specs.Items.{members_typed}
 use Rattle.ash_expressions.specs.Views.{environment_of}
 use Rattle.ash_check.specs.WalkViews.{names_of, members_of}
-use Rattle.ash_check.proofs.items.class_typed.Given as goal
+use Rattle.ash_check.proofs.items.class_listing.Given as goal
 
 -- what is left gives what the whole gives
 abbrev pub invariant-loop-member : goal.invariant-loop-member

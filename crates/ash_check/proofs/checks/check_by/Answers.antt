@@ -10,7 +10,7 @@ use Rattle.ash_check.specs.Checks.{checked, Cyclic, GoesRound}
 use Rattle.ash_check.specs.Told.{stopped}
 use Rattle.ash_check.proofs.CheckLaws.{stop_is_told, tells_if_err, typed_is_checked, cycle_is_told, way_begins_within, way_is_within, goes_round}
 use Rattle.ash_typing.proofs.ModuleLaws.{module_typed-exact}
-use Rattle.ash_check.proofs.checks.check.Goals as goal
+use Rattle.ash_check.proofs.checks.check_by.Goals as goal
 
 pub returns-in_err-module-clause-answer : goal.returns-in_err-module-clause-answer
 returns-in_err-module-clause-answer c =
