@@ -9,13 +9,14 @@ use Rattle.ash_typed.specs.declared.types.ObjectType.{ObjectType}
 use Rattle.ash_typed.specs.Tree.{Expr, Place}
 use Rattle.ash_typed.specs.TypeOf.{ValueType, value, kept, given, type_of, type_of_place, type_of_member, result_of_method, result_of_target, altered_type, chosen_type}
 use Rattle.ash_typed.specs.Signatures.{Signatures}
-use Rattle.ash_typed.specs.SoundExpressions.{Environment, IsMember, field, property, IsMethod, of_class, of_interface, of_host, of_array, IsTarget, function, service, class, host, empty_array, sized_array, IsChange, negate, complement, not, HasType, number, truth, null, this, read, invoke, convert, cast, alter, calculate, shift, compare, lazily, choose, choose_or_null, null_or_choose, assign, update, update_by_shift, count, call, HasPlace, local, global, member, element}
+use Rattle.ash_typed.specs.SoundOperations.{IsMember, field, property, IsMethod, of_class, of_interface, of_host, of_array, IsTarget, function, service, class, host, empty_array, sized_array, IsChange, negate, complement, not}
+use Rattle.ash_typed.specs.SoundExpressions.{Environment, HasType, number, truth, null, this, read, invoke, convert, cast, alter, calculate, shift, compare, lazily, choose, choose_or_null, null_or_choose, assign, update, update_by_shift, count, call, HasPlace, local, global, member, element}
 
 member_type : {s : Signatures} {o : ObjectType} {held : Member} {of : VarType} → IsMember s o held of → type_of_member held ≡ of
 member_type (field h i) = refl
 member_type (property h) = refl
 
-place_type : {env : Environment} {place : Place} {of : VarType} → HasPlace env place of → type_of_place place ≡ of
+pub place_type : {env : Environment} {place : Place} {of : VarType} → HasPlace env place of → type_of_place place ≡ of
 place_type (local h) = refl
 place_type (global h) = refl
 place_type (member h i) = member_type i

@@ -6,6 +6,7 @@ pub mod Flat
 pub mod BodyViews
 pub mod Modules
 pub mod Signatures
+pub mod SoundOperations
 pub mod SoundExpressions
 pub mod Returning
 pub mod SoundStatements

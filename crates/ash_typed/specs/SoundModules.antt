@@ -1,7 +1,8 @@
 -- Sound modules, by the typed tree alone: what a compiler and a machine that walk it may rely on.
-use Rattle.std.specs.Prelude.{◌≡◌, ◌≤◌, ◌+◌, ◌⊎◌, ℕ, length, List, [], ◌∷◌, Option, Some, None, IfSome, slice_get, false}
-use Rattle.std.specs.List.{AllByRecursion, AllZip}
-use Rattle.ash_typed.specs.declared.types.VarType.{VarType}
+use Rattle.std.specs.Prelude.{◌≡◌, ◌≤◌, ◌+◌, ◌⊎◌, ℕ, length, List, [], ◌∷◌, ◌++◌, map, Some, None, IfSome, slice_get, false}
+use Rattle.std.specs.List.{AllByRecursion, AllZip, IsDistinct}
+use Rattle.std.specs.Str.{bytes_eq}
+use Rattle.ash_typed.specs.StatementTree.{Initialization}
 use Rattle.ash_typed.specs.Modules.{Variables, Function, Signature, Interface, Implementation, Class, Module}
 use Rattle.ash_typed.specs.Signatures.{Host, Signatures, signature_of, signatures_of, IsPassedType, IsResultType}
 use Rattle.ash_typed.specs.SoundExpressions.{Environment}
@@ -73,10 +74,23 @@ AreClasses s place (c ∷ cs) = IsClass s place c × AreClasses s (place + 1) cs
 abbrev pub AreVariables : Environment → Variables → Type 0
 AreVariables env v = AllByRecursion (IsInitialized env) v.values
 
--- A module where a host offers this. It has at most 256 classes and interfaces, and 256 variables.
+abbrev pub name_of_function : Function → List ℕ
+name_of_function f = f.name
+
+abbrev pub name_of_variable : Initialization → List ℕ
+name_of_variable v = v.name
+
+abbrev pub names_of_globals : List Variables → List (List ℕ)
+names_of_globals [] = []
+names_of_globals (v ∷ vs) = map name_of_variable v.values ++ names_of_globals vs
+
+-- A module where a host offers this. It has at most 256 classes and interfaces, and 256 variables. Its functions differ in
+-- name, and so do its variables.
 pub record IsSound (host : Host) (m : Module) : Type 0 where
   pub few_types : length m.classes + length m.interfaces ≤ 256
   pub few_globals : length (signatures_of host m).globals ≤ 256
+  pub functions_differ : IsDistinct bytes_eq (map name_of_function m.functions)
+  pub globals_differ : IsDistinct bytes_eq (names_of_globals m.globals)
   pub interfaces : AllByRecursion (IsInterface (signatures_of host m) (length m.classes)) m.interfaces
   pub classes : AreClasses (signatures_of host m) 0 m.classes
   pub functions : AllByRecursion (IsFunction (outside (signatures_of host m))) m.functions

@@ -21,7 +21,8 @@ use Rattle.ash_typed.specs.Tree.{Expr, Call, Exprs}
 use Rattle.ash_typed.specs.StatementTree.{Initialization, Stmt, Empty, Declare, Evaluate, Block, If, no_branch, branch, Head, no_head, declared_head, evaluated_head, Repeat, For, Loop, repeated, Switch, Break, Continue, Return, Stmts, no_stmt, stmt, labelled, Cases, no_case, next_case}
 use Rattle.ash_typed.specs.TypeOf.{ValueType, value}
 use Rattle.ash_typed.specs.Signatures.{IsVariableType}
-use Rattle.ash_typed.specs.SoundExpressions.{Environment, IsWithin, HasType, Fits}
+use Rattle.ash_typed.specs.SoundOperations.{IsWithin}
+use Rattle.ash_typed.specs.SoundExpressions.{Environment, HasType, Fits}
 
 -- what a statement sees: what its function gives, and whether it may break out of a loop or a `switch`, and go on with the
 -- next turn of a loop

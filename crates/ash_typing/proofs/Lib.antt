@@ -23,6 +23,7 @@ pub mod SoundnessStatements
 pub mod SoundnessNesting
 pub mod SoundnessReturning
 pub mod SoundnessSignatures
+pub mod SoundnessNaming
 pub mod SoundnessItems
 pub mod SoundnessClasses
 pub mod SoundnessModules

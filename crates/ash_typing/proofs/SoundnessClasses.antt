@@ -4,9 +4,8 @@ use Rattle.std.specs.Option.{option_map_or, option_map}
 use Rattle.std.proofs.lemmas.Option.{none-some, same_Some, slice_get-map, slice_get_cases, cond_some}
 use Rattle.std.proofs.lemmas.List.{length-map}
 use Rattle.std.proofs.lemmas.Slice.Eq.{bytes_eq-Decides}
-use Rattle.std.proofs.Common.{◌≡◌, ◌<◌, ◌≤◌, ◌+◌, ◌&&◌, ◌⊎◌, inl, inr, ⊎_elim, ℕ, zero, suc, length, List, [], ◌∷◌, ◌++◌, length-append, map, Bool, true, false, cond, Option, Some, None, IfSome, slice_get, bytes_eq, refl, sym, ap, ap₂, subst, subst₂, ◌∙◌, arith}
+use Rattle.std.proofs.Common.{◌≡◌, ◌<◌, ◌+◌, ◌&&◌, ⊎_elim, ℕ, zero, suc, length, List, [], ◌∷◌, length-append, map, Bool, true, false, cond, Option, Some, None, IfSome, slice_get, bytes_eq, refl, sym, ap, ap₂, subst, subst₂, ◌∙◌, arith}
 use Rattle.ash_tree.specs.Tree as written
-use Rattle.ash_typed.specs.declared.types.ObjectType.{ObjectType}
 use Rattle.ash_typed.specs.declared.types.ObjectType.TheVariants as objects
 use Rattle.ash_typed.specs.StatementTree.{Initialization}
 use Rattle.ash_typed.specs.Modules as modules
@@ -17,10 +16,10 @@ use Rattle.ash_typing.specs.declared.types.Ty.TheVariants as ty
 use Rattle.ash_typing.specs.Types.{is_same, var_type, result_type}
 use Rattle.ash_typing.specs.Environment.{Environment, Function, Interface, Class, first_from, is_called}
 use Rattle.ash_typing.specs.Heads.{object_named}
-use Rattle.ash_typing.specs.Typing.{IsKnown, IsKnownType, IsVariableType, IsKnownFunction, IsKnownInterface, IsKnownClass, is_known, IsDeclared}
+use Rattle.ash_typing.specs.Typing.{IsKnown, IsVariableType, IsKnownFunction, IsKnownInterface, IsKnownClass, is_known, IsDeclared}
 use Rattle.ash_typing.specs.Declarations.{ty_in}
 use Rattle.ash_typing.specs.Items.{constructing, inside, are_same, has_types_of, matching, method_for, with_first, methods_for, methods_of_class, methods_of_interface, implemented}
-use Rattle.ash_typing.specs.TypedModules.{names_of, member_names, fields_of, methods_of, constructors_of, AreFields, IsFunction, IsListed, HasConstructor, IsClass, AreClasses}
+use Rattle.ash_typing.specs.TypedModules.{member_names, fields_of, methods_of, constructors_of, AreFields, IsFunction, IsListed, HasConstructor, IsClass, AreClasses}
 use Rattle.ash_typing.specs.Nesting.{ConstructorDeclaresInBlocks, ClassDeclaresInBlocks}
 use Rattle.ash_typing.specs.Soundness.{signature_of, signatures_of_interface, signature_of_class, seen_in}
 use Rattle.ash_typing.proofs.TypingTypes.{equal_kinds}
@@ -59,7 +58,7 @@ equal_lists (t ∷ ts) (u ∷ us) h k e =
 
 -- methods of a class for those of an interface
 
-first_passes : {A : Type 0} (test : A → Bool) (i : ℕ) (xs : List A) → IfSome (first_from test i xs) (λ found. test found.1 ≡ true)
+pub first_passes : {A : Type 0} (test : A → Bool) (i : ℕ) (xs : List A) → IfSome (first_from test i xs) (λ found. test found.1 ≡ true)
 first_passes test i [] = tt
 first_passes {A} test i (x ∷ xs) = go (test x) refl (first_passes test (i + 1) xs)
   where
@@ -101,7 +100,7 @@ methods_found methods (f ∷ fs) places known is h =
     subst (AllZip (IsAt (map signature_of methods)) (signature_of f ∷ map signature_of fs)) found.4 (method_found methods f found.0 known is.0 found.2, methods_found methods fs found.1 known is.1 found.3)
 
 -- what is at a place, before each is changed
-unmapped : {A B : Type 0} (f : A → B) (xs : List A) (k : ℕ) (y : B) → slice_get (map f xs) k ≡ Some y → (x : A) × (slice_get xs k ≡ Some x) × (f x ≡ y)
+pub unmapped : {A B : Type 0} (f : A → B) (xs : List A) (k : ℕ) (y : B) → slice_get (map f xs) k ≡ Some y → (x : A) × (slice_get xs k ≡ Some x) × (f x ≡ y)
 unmapped {A} {B} f xs k y h = go (slice_get xs k) refl (sym (slice_get-map f xs k) ∙ h)
   where
     go : (o : Option A) → slice_get xs k ≡ o → option_map f o ≡ Some y → (x : A) × (slice_get xs k ≡ Some x) × (f x ≡ y)

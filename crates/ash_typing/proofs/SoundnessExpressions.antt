@@ -22,6 +22,7 @@ use Rattle.ash_typed.specs.declared.tree.operations.Member.{Member}
 use Rattle.ash_typed.specs.Tree.{Expr, Exprs, Truth, Null, This, Read, Invoke, Cast, Alter, Conditional, Assign, Update, Count, Call, Place, Held, Indexed, place_in, converted}
 use Rattle.ash_typed.specs.TypeOf.{given, kept, value}
 use Rattle.ash_typed.specs.Signatures.{IsElement, IsObjectType}
+use Rattle.ash_typed.specs.SoundOperations as operations
 use Rattle.ash_typed.specs.SoundExpressions as sound
 use Rattle.ash_typing.specs.declared.types.Ty.{Ty}
 use Rattle.ash_typing.specs.declared.types.Ty.TheVariants as ty
@@ -30,11 +31,11 @@ use Rattle.ash_typing.specs.declared.forms.Callable.TheVariants as callables
 use Rattle.ash_typing.specs.declared.forms.Form.{Form}
 use Rattle.ash_typing.specs.declared.forms.Form.TheVariants as form
 use Rattle.ash_typing.specs.declared.forms.Sort.TheVariants as sort
-use Rattle.ash_typing.specs.Types.{signed, object_of, result_type, sort_of, binary_of, meets, outcome, ty_of_element, var_type, value_type}
+use Rattle.ash_typing.specs.Types.{signed, object_of, result_type, sort_of, binary_of, meets, outcome, ty_of_element, var_type}
 use Rattle.ash_typing.specs.Environment.{Environment, Known, Callee, Invoked, variable_in, callee_in, member_in, method_in}
 use Rattle.ash_typing.specs.Heads.{object_named, element_named}
 use Rattle.ash_typing.specs.Expressions.{conversion, applied, is_stored, call_of, assignable, bracketed, handle_form, array_parameters}
-use Rattle.ash_typing.specs.Typing.{IsKnown, IsKnownType, IsVariableType, IsResultType, is_known, Term, term, read_term, beside, left_of, right_of, right_by, Meet, converted_to, AreArguments, no_arguments, argument, IsCastType, to_class, to_interface, HasType, AllHaveType, LinksHaveType, SuffixesHaveType, SuffixHasType, number, truth, null, this, name, call, brackets, to_integer, to_bool, new_array, cast, postfix, plus, minus, complement, not, increment, decrement, handle, handle_written, binary as operators, conditional, assign, update, none_left, each, no_more, operated, no_suffixes, suffixed, field, method, index, increment_after, decrement_after}
+use Rattle.ash_typing.specs.Typing.{IsKnown, IsKnownType, IsVariableType, IsResultType, is_known, Term, term, read_term, beside, left_of, right_of, right_by, converted_to, AreArguments, no_arguments, argument, IsCastType, to_class, to_interface, HasType, AllHaveType, LinksHaveType, SuffixesHaveType, SuffixHasType, number, truth, null, this, name, call, brackets, to_integer, to_bool, new_array, cast, postfix, plus, minus, complement, not, increment, decrement, handle, handle_written, binary as operators, conditional, assign, update, none_left, each, no_more, operated, no_suffixes, suffixed, field, method, index, increment_after, decrement_after}
 use Rattle.ash_typing.specs.Soundness.{seen_in}
 use Rattle.ash_typing.proofs.TypingKnown.{at_some, known_type, variable_is_known, element_known, beside_known, outcome_known, variable_known, callee_known, member_known, method_known}
 use Rattle.ash_typing.proofs.TypingTypes.{variable_value, result_value, kept_type}
@@ -82,10 +83,10 @@ handle_place : (env : Environment) (f : Form) (tree : Expr) (of : Ty) → IsPlac
 handle_place env form.Place tree of h = h
 handle_place env _ tree of h = tt
 
-stored_type : (f : Form) (of : Ty) → is_known of ≡ true → is_stored f of ≡ true → IsVariableType of × sound.IsAssigned (var_type of)
-stored_type form.Place ty.Bool k h = (refl, sound.truth)
-stored_type form.Place (ty.Integer j) k h = (refl, sound.integer)
-stored_type form.HandlePlace (ty.Handle o) k h = (refl, sound.handle)
+stored_type : (f : Form) (of : Ty) → is_known of ≡ true → is_stored f of ≡ true → IsVariableType of × operations.IsAssigned (var_type of)
+stored_type form.Place ty.Bool k h = (refl, operations.truth)
+stored_type form.Place (ty.Integer j) k h = (refl, operations.integer)
+stored_type form.HandlePlace (ty.Handle o) k h = (refl, operations.handle)
 stored_type _ ty.Unknown k h = absurd (cc)
 stored_type _ _ k h = absurd (cc)
 
@@ -93,11 +94,11 @@ stored_type _ _ k h = absurd (cc)
 handle_sound : (env : Environment) (t : Term) (o : ObjectType) → object_of t.ty ≡ Some o → Gives env t.tree t.ty → sound.HasType (seen_in env) t.tree (value (vars.Handle o))
 handle_sound env t o e h = subst (sound.HasType (seen_in env) t.tree) (kept_type t.ty o e) h
 
-signed_is : (k : Kind) → sound.IsSigned (signed k)
-signed_is kinds.Int = sound.int
-signed_is kinds.Uint = sound.int
-signed_is kinds.Int64 = sound.int64
-signed_is kinds.Uint64 = sound.int64
+signed_is : (k : Kind) → operations.IsSigned (signed k)
+signed_is kinds.Int = operations.int
+signed_is kinds.Uint = operations.int
+signed_is kinds.Int64 = operations.int64
+signed_is kinds.Uint64 = operations.int64
 
 -- arguments
 
@@ -116,17 +117,17 @@ called_sound env (callables.Target target) parameters gives trees h args = sound
 pub call_sound : (env : Environment) (callee : Callee) (parameters : List Ty) (trees : Exprs) → IsResultType callee.result → Takes env callee parameters → sound.AreArguments (seen_in env) (map var_type parameters) trees → Gives env (call_of callee.target (map var_type parameters) trees) callee.result
 call_sound env callee parameters trees r takes args = subst (sound.HasType (seen_in env) (call_of callee.target (map var_type parameters) trees)) (result_value callee.result r) (called_sound env callee.target (map var_type parameters) (result_type callee.result) trees takes.0 args)
 
-array_if : (env : Environment) (of : Element) (b : Bool) → IsElement (seen_in env).signatures of → sound.IsTarget (seen_in env).signatures (targets.Array of) (map var_type (cond b [] (ty.Integer kinds.Uint ∷ []))) (Some (vars.Handle (objects.Array of))) × AllByRecursion IsVariableType (cond b [] (ty.Integer kinds.Uint ∷ []))
-array_if env of true h = (sound.empty_array h, tt)
-array_if env of false h = (sound.sized_array h, (refl, tt))
+array_if : (env : Environment) (of : Element) (b : Bool) → IsElement (seen_in env).signatures of → operations.IsTarget (seen_in env).signatures (targets.Array of) (map var_type (cond b [] (ty.Integer kinds.Uint ∷ []))) (Some (vars.Handle (objects.Array of))) × AllByRecursion IsVariableType (cond b [] (ty.Integer kinds.Uint ∷ []))
+array_if env of true h = (operations.empty_array h, tt)
+array_if env of false h = (operations.sized_array h, (refl, tt))
 
 -- what the construction of an array takes
-pub array_takes : (env : Environment) (of : Element) (count : ℕ) → IsElement (seen_in env).signatures of → sound.IsTarget (seen_in env).signatures (targets.Array of) (map var_type (array_parameters count)) (Some (vars.Handle (objects.Array of))) × AllByRecursion IsVariableType (array_parameters count)
+pub array_takes : (env : Environment) (of : Element) (count : ℕ) → IsElement (seen_in env).signatures of → operations.IsTarget (seen_in env).signatures (targets.Array of) (map var_type (array_parameters count)) (Some (vars.Handle (objects.Array of))) × AllByRecursion IsVariableType (array_parameters count)
 array_takes env of count h = array_if env of (nat_eq count 0) h
 
-cast_is : (env : Environment) (o : ObjectType) → IsCastType o → IsObjectType (seen_in env).signatures o → sound.IsCastType (seen_in env).signatures o
-cast_is env o to_class h = sound.to_class h
-cast_is env o to_interface h = sound.to_interface h
+cast_is : (env : Environment) (o : ObjectType) → IsCastType o → IsObjectType (seen_in env).signatures o → operations.IsCastType (seen_in env).signatures o
+cast_is env o to_class h = operations.to_class h
+cast_is env o to_interface h = operations.to_interface h
 
 -- updates
 
@@ -141,7 +142,7 @@ shift_right env _ _ y o h e = absurd (none-some o e)
 by_arithmetic : (env : Environment) (c : Calculator) (a : Ty) (u : Term) (j k : Kind) (at : Place) → sound.HasPlace (seen_in env) at (vars.Integer k) → Gives env u.tree u.ty → meets sort.Arithmetic a u.ty ≡ Some (operands.Integers j) → Gives env (Update at k (record { operator = c; of = j }) (converted_to (ty.Integer j) u)) (ty.Integer k)
 by_arithmetic env c a u j k at p h e = sound.update p (arithmetic_right env a u.ty u.form u.tree j h e)
 
-by_shift : (env : Environment) (c : Calculator) (a : Ty) (u : Term) (j k : Kind) (at : Place) → sound.IsShift c → sound.HasPlace (seen_in env) at (vars.Integer k) → Gives env u.tree u.ty → meets sort.Shift a u.ty ≡ Some (operands.Integers j) → Gives env (Update at k (record { operator = c; of = j }) u.tree) (ty.Integer k)
+by_shift : (env : Environment) (c : Calculator) (a : Ty) (u : Term) (j k : Kind) (at : Place) → operations.IsShift c → sound.HasPlace (seen_in env) at (vars.Integer k) → Gives env u.tree u.ty → meets sort.Shift a u.ty ≡ Some (operands.Integers j) → Gives env (Update at k (record { operator = c; of = j }) u.tree) (ty.Integer k)
 by_shift env c a u j k at s p h e = sound.update_by_shift s p (shift_right env a u.ty u.tree (operands.Integers j) h e).1
 
 updated_sound : (env : Environment) (c : Calculator) (a : Ty) (u : Term) (j k : Kind) (at : Place) → sound.HasPlace (seen_in env) at (vars.Integer k) → Gives env u.tree u.ty → meets (sort_of (binary_of c)) a u.ty ≡ Some (operands.Integers j) → Gives env (Update at k (record { operator = c; of = j }) (right_by (sort_of (binary_of c)) (operands.Integers j) u)) (ty.Integer k)
@@ -150,9 +151,9 @@ updated_sound env calculators.Divide a u j k at p h e = by_arithmetic env calcul
 updated_sound env calculators.Remainder a u j k at p h e = by_arithmetic env calculators.Remainder a u j k at p h e
 updated_sound env calculators.Add a u j k at p h e = by_arithmetic env calculators.Add a u j k at p h e
 updated_sound env calculators.Subtract a u j k at p h e = by_arithmetic env calculators.Subtract a u j k at p h e
-updated_sound env calculators.ShiftLeft a u j k at p h e = by_shift env calculators.ShiftLeft a u j k at sound.left p h e
-updated_sound env calculators.ShiftRight a u j k at p h e = by_shift env calculators.ShiftRight a u j k at sound.right p h e
-updated_sound env calculators.ShiftRightArithmetic a u j k at p h e = by_shift env calculators.ShiftRightArithmetic a u j k at sound.right_arithmetic p h e
+updated_sound env calculators.ShiftLeft a u j k at p h e = by_shift env calculators.ShiftLeft a u j k at operations.left p h e
+updated_sound env calculators.ShiftRight a u j k at p h e = by_shift env calculators.ShiftRight a u j k at operations.right p h e
+updated_sound env calculators.ShiftRightArithmetic a u j k at p h e = by_shift env calculators.ShiftRightArithmetic a u j k at operations.right_arithmetic p h e
 updated_sound env calculators.BitAnd a u j k at p h e = by_arithmetic env calculators.BitAnd a u j k at p h e
 updated_sound env calculators.BitXor a u j k at p h e = by_arithmetic env calculators.BitXor a u j k at p h e
 updated_sound env calculators.BitOr a u j k at p h e = by_arithmetic env calculators.BitOr a u j k at p h e
@@ -166,7 +167,7 @@ callee_takes : (env : Environment) (text : List ℕ) (callee : Callee) (paramete
 callee_takes env text callee parameters known c q = at_some (Takes env callee) callee.parameters parameters (at_some (IsSoundCallee env) (callee_in env text) callee (callee_sound env text known) c) q
 
 member_place : (env : Environment) (t : Term) (o : ObjectType) (text : List ℕ) (found : Member × Ty) → IsKnown env → sound.HasType (seen_in env) t.tree (value (vars.Handle o)) → member_in env o text ≡ Some found → IsSound env (read_term found.1 (Read (Held t.tree found.0)))
-member_place env t o text found known h i = read_sound env (Read (Held t.tree found.0)) found.1 (at_some (λ found. IsVariableType found.1) (member_in env o text) found (member_known env o text known) i) (_, refl, sound.member h (at_some (λ found. sound.IsMember (seen_in env).signatures o found.0 (var_type found.1)) (member_in env o text) found (member_sound env o text) i))
+member_place env t o text found known h i = read_sound env (Read (Held t.tree found.0)) found.1 (at_some (λ found. IsVariableType found.1) (member_in env o text) found (member_known env o text known) i) (_, refl, sound.member h (at_some (λ found. operations.IsMember (seen_in env).signatures o found.0 (var_type found.1)) (member_in env o text) found (member_sound env o text) i))
 
 invoked_sound : (env : Environment) (t : Term) (o : ObjectType) (text : List ℕ) (m : Invoked) (trees : Exprs) → IsKnown env → sound.HasType (seen_in env) t.tree (value (vars.Handle o)) → method_in env o text ≡ Some m → sound.AreArguments (seen_in env) (map var_type m.parameters) trees → Gives env (Invoke t.tree m.method (map var_type m.parameters) trees) m.result
 invoked_sound env t o text m trees known h i args = subst (sound.HasType (seen_in env) (Invoke t.tree m.method (map var_type m.parameters) trees)) (result_value m.result (at_some (λ m. IsResultType m.result) (method_in env o text) m (method_known env o text known) i)) (sound.invoke h (at_some (IsSoundMethod env o) (method_in env o text) m (method_sound env o text known) i).0 args)
@@ -195,9 +196,9 @@ mutual
   term_sound {env} (cast {to = to} {t = t} {o = o} {from = from} n c h i) known = plain env (ty.Handle o) (Cast o t.tree) (sound.cast (cast_is env o c (at_some (IsObjectType (seen_in env).signatures) (object_named env.registered env.heads to.name) o (object_sound env.registered env.heads to.name) n)) (handle_sound env t from i (term_sound h known).gives))
   term_sound (postfix h ss) known = suffixes_sound ss known (term_sound h known)
   term_sound {env} (plus {t = t} {k = k} h i) known = plain env (ty.Integer k) t.tree (of_type env t.tree t.ty (ty.Integer k) i (term_sound h known).gives)
-  term_sound {env} (minus {t = t} {k = k} h i) known = plain env (ty.Integer (signed k)) (Alter (changes.Negate (signed k)) (converted_to (ty.Integer (signed k)) t)) (sound.alter (sound.negate (signed_is k)) (converted_sound env t k (signed k) i (term_sound h known).gives))
-  term_sound {env} (complement {t = t} {k = k} h i) known = plain env (ty.Integer k) (Alter (changes.Complement k) t.tree) (sound.alter sound.complement (of_type env t.tree t.ty (ty.Integer k) i (term_sound h known).gives))
-  term_sound {env} (not {t = t} h i) known = plain env ty.Bool (Alter changes.Not t.tree) (sound.alter sound.not (of_type env t.tree t.ty ty.Bool i (term_sound h known).gives))
+  term_sound {env} (minus {t = t} {k = k} h i) known = plain env (ty.Integer (signed k)) (Alter (changes.Negate (signed k)) (converted_to (ty.Integer (signed k)) t)) (sound.alter (operations.negate (signed_is k)) (converted_sound env t k (signed k) i (term_sound h known).gives))
+  term_sound {env} (complement {t = t} {k = k} h i) known = plain env (ty.Integer k) (Alter (changes.Complement k) t.tree) (sound.alter operations.complement (of_type env t.tree t.ty (ty.Integer k) i (term_sound h known).gives))
+  term_sound {env} (not {t = t} h i) known = plain env ty.Bool (Alter changes.Not t.tree) (sound.alter operations.not (of_type env t.tree t.ty ty.Bool i (term_sound h known).gives))
   term_sound {env} (increment {t = t} {at = at} {k = k} h i l) known = plain env (ty.Integer k) (Count at k steps.Increment) (sound.count (integer_place env t at k (term_sound h known) i l))
   term_sound {env} (decrement {t = t} {at = at} {k = k} h i l) known = plain env (ty.Integer k) (Count at k steps.Decrement) (sound.count (integer_place env t at k (term_sound h known) i l))
   term_sound {env} (handle {t = t} {o = o} h i) known = plain env (ty.Handle o) t.tree (handle_sound env t o i (term_sound h known).gives)

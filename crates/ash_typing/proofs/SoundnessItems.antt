@@ -16,8 +16,8 @@ use Rattle.ash_typing.specs.Environment.{Environment, with_locals}
 use Rattle.ash_typing.specs.Declarations.{ty_in}
 use Rattle.ash_typing.specs.Bodies.{body_scope, returns_in}
 use Rattle.ash_typing.specs.Typing.{IsKnown, IsKnownType, IsVariableType, IsKnownVariable, IsDeclared}
-use Rattle.ash_typing.specs.TypedStatements.{IsKnownScope, AreStmts}
-use Rattle.ash_typing.specs.Items.{Routine, routine_of, constructing}
+use Rattle.ash_typing.specs.TypedStatements.{IsKnownScope}
+use Rattle.ash_typing.specs.Items.{Routine, routine_of}
 use Rattle.ash_typing.specs.TypedModules.{classes_of, classes_before, IsPassed, IsPassedParameter, type_of_parameter, parameter_of, IsResult, result_in, AreVariables, AreFields, IsRoutine, IsFunction, IsSignature, IsInterface, AreInterfaces}
 use Rattle.ash_typing.specs.Nesting.{BodyDeclaresInBlocks, FunctionDeclaresInBlocks}
 use Rattle.ash_typing.specs.Soundness.{seen_in}

@@ -3,7 +3,6 @@ use Rattle.std.specs.List.{AllByRecursion, AllZip}
 use Rattle.std.proofs.Common.{◌≡◌, ◌≤◌, ◌+◌, ℕ, suc, length, length-append, List, [], ◌∷◌, map, Some, slice_get, refl, sym, ap, ap₂, subst, ◌∙◌, arith}
 use Rattle.ash_registrations.specs.Calls as host
 use Rattle.ash_tree.specs.Tree as written
-use Rattle.ash_typed.specs.StatementTree.{Initialization}
 use Rattle.ash_typed.specs.Modules as modules
 use Rattle.ash_typed.specs.Signatures as signatures
 use Rattle.ash_typed.specs.SoundModules as sound
@@ -11,15 +10,16 @@ use Rattle.ash_typing.specs.Environment.{Environment}
 use Rattle.ash_typing.specs.Declarations.{ty_in}
 use Rattle.ash_typing.specs.Heads.{heads}
 use Rattle.ash_typing.specs.Typing.{IsDeclared}
-use Rattle.ash_typing.specs.TypedModules.{classes_of, interfaces_of, classes_before, functions_of, globals_of, names_of, variable_names, AreVariables, environment, IsTyped}
+use Rattle.ash_typing.specs.TypedModules.{classes_of, interfaces_of, classes_before, functions_of, globals_of, variable_names, AreVariables, environment, IsTyped}
 use Rattle.ash_typing.specs.Nesting.{ItemsDeclareInBlocks}
 use Rattle.ash_typing.specs.Offered.{offered}
-use Rattle.ash_typing.specs.Soundness.{signatures_in, seen_in}
+use Rattle.ash_typing.specs.Soundness.{signatures_in}
 use Rattle.ash_typing.proofs.TypedClasses.{count_names}
 use Rattle.ash_typing.proofs.ModuleLaws.{typed_known}
 use Rattle.ash_typing.proofs.SoundnessNames.{mapped}
 use Rattle.ash_typing.proofs.SoundnessSignatures.{same_signatures}
 use Rattle.ash_typing.proofs.SoundnessItems.{functions_sound, interfaces_sound, interfaces_length, before_within, globals_sound, zip_length}
+use Rattle.ash_typing.proofs.SoundnessNaming.{functions_differ, globals_differ}
 use Rattle.ash_typing.proofs.SoundnessClasses.{classes_sound, classes_length}
 
 length-mapped : {A B : Type 0} (f : A → B) (xs : List A) → length (map f xs) ≡ length xs
@@ -46,6 +46,8 @@ module_sound calls is m nest typed =
     record {
       few_types = omega arith;
       few_globals = subst (λ n. n ≤ 256) (sym (globals_length env (globals_of is) m.globals typed.globals)) typed.few_globals;
+      functions_differ = functions_differ env is m.functions typed.differ typed.functions;
+      globals_differ = globals_differ env is m.globals typed.differ typed.globals;
       interfaces = subst (λ s. AllByRecursion (sound.IsInterface s (length m.classes)) m.interfaces) same (interfaces_sound env (interfaces_of is) (classes_before 0 is) (length m.classes) m.interfaces (subst (λ k. AllByRecursion (λ n. n ≤ k) (classes_before 0 is)) most within) typed.interfaces);
       classes = subst (λ s. sound.AreClasses s 0 m.classes) same (classes_sound env 0 (classes_of is) m.classes known (at m same) nest.classes typed.classes);
       functions = subst (λ s. AllByRecursion (sound.IsFunction (sound.outside s)) m.functions) same (functions_sound env (functions_of is) m.functions known nest.functions typed.functions);

@@ -1,10 +1,10 @@
 -- What names stand for is in range, and has the types that a sound typed tree says.
 use Rattle.std.specs.List.{AllByRecursion, cons_option}
 use Rattle.std.specs.Option.{option_and_then, option_map, option_or}
-use Rattle.std.proofs.lemmas.Bool.{eqb-true, eq-eqb}
-use Rattle.std.proofs.lemmas.Option.{none-some, same_Some, slice_get-map, slice_get_within}
+use Rattle.std.proofs.lemmas.Bool.{eq-eqb}
+use Rattle.std.proofs.lemmas.Option.{slice_get-map, slice_get_within}
 use Rattle.std.proofs.lemmas.List.Elements.{Contains-append_right}
-use Rattle.std.proofs.Common.{◌≡◌, ◌<◌, ◌+◌, ℕ, zero, suc, length, List, [], ◌∷◌, Bool, true, false, ◌&&◌, cond, map, Option, Some, None, IfSome, find, filter_map, Contains, slice_get, bytes_eq, nat_eq, refl, sym, ap, subst, subst₂, ◌∙◌, arith}
+use Rattle.std.proofs.Common.{◌≡◌, ◌+◌, ℕ, zero, suc, List, [], ◌∷◌, Bool, true, false, ◌&&◌, cond, map, Option, Some, None, IfSome, find, filter_map, Contains, slice_get, bytes_eq, nat_eq, refl, sym, ap, subst, subst₂, ◌∙◌, arith}
 use Rattle.ash_tree.specs.declared.tree.types.Primitive.{Primitive}
 use Rattle.ash_tree.specs.declared.tree.types.Primitive.TheVariants as primitives
 use Rattle.ash_tree.specs.Tree as written
@@ -22,8 +22,9 @@ use Rattle.ash_typed.specs.declared.tree.operations.ArrayMethod.TheVariants as a
 use Rattle.ash_typed.specs.declared.tree.operations.Method.TheVariants as methods
 use Rattle.ash_typed.specs.declared.tree.operations.Target.TheVariants as targets
 use Rattle.ash_typed.specs.Tree.{Expr, This, Read, Place, Stored, Held}
-use Rattle.ash_typed.specs.TypeOf.{kept, value, type_of_element}
-use Rattle.ash_typed.specs.Signatures.{HostSignature, ClassSignature, Signatures, type_of_primitive, IsElement, truths, integers, of_class as element_class, of_interface as element_interface, of_host as element_host, IsObjectType, class as object_class, interface as object_interface, host as object_host, array as object_array}
+use Rattle.ash_typed.specs.TypeOf.{type_of_element}
+use Rattle.ash_typed.specs.Signatures.{HostSignature, Signatures, type_of_primitive, IsElement, truths, integers, of_class as element_class, of_interface as element_interface, of_host as element_host, IsObjectType, class as object_class, interface as object_interface, host as object_host}
+use Rattle.ash_typed.specs.SoundOperations as operations
 use Rattle.ash_typed.specs.SoundExpressions as sound
 use Rattle.ash_typing.specs.declared.types.Ty.{Ty}
 use Rattle.ash_typing.specs.declared.types.Ty.TheVariants as ty
@@ -33,9 +34,9 @@ use Rattle.ash_typing.specs.Types.{var_type, result_type, ty_of, ty_of_element}
 use Rattle.ash_typing.specs.Environment.{Environment, Declared, Function, Interface, Class, Heads, Known, Callee, Invoked, first_from, last_named, declares, is_called, is_class, is_interface_named, this_class, result_of, service_function, host_type, factory_in, factory_parameters, host_method, property, named_in, own_method_in, class_in, function_in, field_in, local_in, own_field_in, global_in, callee_beside, variable_in, callee_in, member_in, method_in, class_method, interface_method, method_of_class, method_of_interface, method_of_array, method_of_kind, array_method_of, is_array_method, host_member_in, name_of_kind}
 use Rattle.ash_typing.specs.Heads.{object_named, class_type, interface_type, host_object, element_of, element_by, element_named}
 use Rattle.ash_typing.specs.Typing.{IsKnown, IsKnownFunction, IsKnownInterface, IsKnownClass, IsVariableType}
-use Rattle.ash_typing.specs.Offered.{host_signature, kind_in, factory_taking, factory_at, method_at, property_at, function_at}
+use Rattle.ash_typing.specs.Offered.{host_signature, kind_in, factory_at, method_at, property_at, function_at}
 use Rattle.ash_typing.specs.Soundness.{type_declared, signature_of, signatures_of_interface, signature_of_class, signatures_in, seen_in}
-use Rattle.ash_typing.proofs.TypingKnown.{primitive_known, element_known, at_some, if_map, if_or, if_then, if_any, if_weaker, if_all, if_first, if_get}
+use Rattle.ash_typing.proofs.TypingKnown.{primitive_known, element_known, at_some, if_map, if_or, if_then, if_weaker, if_all, if_first, if_get}
 
 -- places
 
@@ -147,10 +148,10 @@ this_is classes (Some i) = go (slice_get classes i) refl
     go (Some c) e = (refl, e)
 
 abbrev IsSoundMember : Environment → ObjectType → Member × Ty → Type 0
-IsSoundMember env o found = sound.IsMember (seen_in env).signatures o found.0 (var_type found.1)
+IsSoundMember env o found = operations.IsMember (seen_in env).signatures o found.0 (var_type found.1)
 
 field_sound : (env : Environment) (class : ℕ) (c : Class) (text : List ℕ) → slice_get env.heads.classes class ≡ Some c → IfSome (field_in class c text) (IsSoundMember env (OfClass class))
-field_sound env class c text h = if_map (IsSoundMember env (OfClass class)) (λ (found : ℕ × Declared). (Field class found.0 (var_type found.1.of), found.1.of)) (first_from (declares text) 0 c.fields) (if_weaker (first_from (declares text) 0 c.fields) (λ found k. sound.field {c = signature_of_class c} (mapped signature_of_class env.heads.classes class c h) (mapped type_declared c.fields found.0 found.1 k)) (first_place (declares text) c.fields))
+field_sound env class c text h = if_map (IsSoundMember env (OfClass class)) (λ (found : ℕ × Declared). (Field class found.0 (var_type found.1.of), found.1.of)) (first_from (declares text) 0 c.fields) (if_weaker (first_from (declares text) 0 c.fields) (λ found k. operations.field {c = signature_of_class c} (mapped signature_of_class env.heads.classes class c h) (mapped type_declared c.fields found.0 found.1 k)) (first_place (declares text) c.fields))
 
 pub variable_sound : (env : Environment) (text : List ℕ) → IfSome (variable_in env text) (λ known. IsPlaceOf env known.0 known.1)
 unfolding variable_in
@@ -167,10 +168,10 @@ property_found : (env : Environment) (kind : ℕ) (text : List ℕ) (call : host
 property_found env kind text (host.AProperty other id of name) e among =
     let of_type = both (bytes_eq (name_of_kind env.registered kind) other) (bytes_eq text name) e in
     let at : property_at (name_of_kind env.registered kind) id (host.AProperty other id of name) ≡ Some of = rw (of_type.0, same_number id) refl in
-    subst (λ type. sound.IsMember (seen_in env).signatures (OfHost kind) (Property id type) type) (sym (primitive_type of)) (sound.property (among id of at))
+    subst (λ type. operations.IsMember (seen_in env).signatures (OfHost kind) (Property id type) type) (sym (primitive_type of)) (operations.property (among id of at))
 property_found env kind text _ e among = tt
 
-pub member_sound : (env : Environment) (o : ObjectType) (text : List ℕ) → IfSome (member_in env o text) (λ found. sound.IsMember (seen_in env).signatures o found.0 (var_type found.1))
+pub member_sound : (env : Environment) (o : ObjectType) (text : List ℕ) → IfSome (member_in env o text) (λ found. operations.IsMember (seen_in env).signatures o found.0 (var_type found.1))
 unfolding member_in host_member_in
 member_sound env (OfClass i) text = go (slice_get env.heads.classes i) refl
   where
@@ -187,9 +188,9 @@ member_sound env (OfArray of) text = tt
 
 -- an object of the type has the method, which takes and gives what is said
 abbrev pub IsSoundMethod : Environment → ObjectType → Invoked → Type 0
-IsSoundMethod env o m = sound.IsMethod (seen_in env).signatures o m.method (map var_type m.parameters) (result_type m.result) × AllByRecursion IsVariableType m.parameters
+IsSoundMethod env o m = operations.IsMethod (seen_in env).signatures o m.method (map var_type m.parameters) (result_type m.result) × AllByRecursion IsVariableType m.parameters
 
-array_parameters : (of : Element) (m : ArrayMethod) → map var_type (array_method_of of m).parameters ≡ sound.parameters_of_array_method of m
+array_parameters : (of : Element) (m : ArrayMethod) → map var_type (array_method_of of m).parameters ≡ operations.parameters_of_array_method of m
 array_parameters of arrays.Length = refl
 array_parameters of arrays.Resize = refl
 array_parameters of arrays.InsertLast = ap (λ type. type ∷ []) (element_type of)
@@ -203,15 +204,15 @@ array_known of arrays.InsertLast = (element_known of, tt)
 array_known of arrays.RemoveLast = tt
 array_known of arrays.IsEmpty = tt
 
-array_method_is : (s : Signatures) (of : Element) (m : ArrayMethod) → sound.IsMethod s (OfArray of) (array_method_of of m).method (sound.parameters_of_array_method of m) (result_type (array_method_of of m).result)
-array_method_is s of arrays.Length = sound.of_array
-array_method_is s of arrays.Resize = sound.of_array
-array_method_is s of arrays.InsertLast = sound.of_array
-array_method_is s of arrays.RemoveLast = sound.of_array
-array_method_is s of arrays.IsEmpty = sound.of_array
+array_method_is : (s : Signatures) (of : Element) (m : ArrayMethod) → operations.IsMethod s (OfArray of) (array_method_of of m).method (operations.parameters_of_array_method of m) (result_type (array_method_of of m).result)
+array_method_is s of arrays.Length = operations.of_array
+array_method_is s of arrays.Resize = operations.of_array
+array_method_is s of arrays.InsertLast = operations.of_array
+array_method_is s of arrays.RemoveLast = operations.of_array
+array_method_is s of arrays.IsEmpty = operations.of_array
 
 array_method_sound : (env : Environment) (of : Element) (m : ArrayMethod) → IsSoundMethod env (OfArray of) (array_method_of of m)
-array_method_sound env of m = (subst (λ parameters. sound.IsMethod (seen_in env).signatures (OfArray of) (array_method_of of m).method parameters (result_type (array_method_of of m).result)) (sym (array_parameters of m)) (array_method_is (seen_in env).signatures of m), array_known of m)
+array_method_sound env of m = (subst (λ parameters. operations.IsMethod (seen_in env).signatures (OfArray of) (array_method_of of m).method parameters (result_type (array_method_of of m).result)) (sym (array_parameters of m)) (array_method_is (seen_in env).signatures of m), array_known of m)
 
 -- a method of the first list that passes, and the places of the list's owner and its own
 functions_found : (test : Function → Bool) (fs : List Function) → AllByRecursion IsKnownFunction fs → IfSome (first_from test 0 fs) (λ found. (slice_get (map signature_of fs) found.0 ≡ Some (signature_of found.1)) × AllByRecursion IsVariableType found.1.parameters)
@@ -226,7 +227,7 @@ host_method_found env kind text (host.AMethod other id operation) e among =
     let of_type = both (bytes_eq (name_of_kind env.registered kind) other) (bytes_eq text operation.name) e in
     let at : method_at (name_of_kind env.registered kind) id (host.AMethod other id operation) ≡ Some (host_signature operation) = rw (of_type.0, same_number id) refl in
     let is = among id (host_signature operation) at in
-    (subst₂ (λ parameters result. sound.IsMethod (seen_in env).signatures (OfHost kind) (methods.Host id result) parameters result) (sym (primitive_types operation.parameters)) (sym (primitive_result operation.result)) (sound.of_host is), primitives_known operation.parameters)
+    (subst₂ (λ parameters result. operations.IsMethod (seen_in env).signatures (OfHost kind) (methods.Host id result) parameters result) (sym (primitive_types operation.parameters)) (sym (primitive_result operation.result)) (operations.of_host is), primitives_known operation.parameters)
 host_method_found env kind text _ e among = tt
 
 pub method_sound : (env : Environment) (o : ObjectType) (text : List ℕ) → IsKnown env → IfSome (method_in env o text) (IsSoundMethod env o)
@@ -235,12 +236,12 @@ method_sound env (OfClass i) text known = go (slice_get env.heads.classes i) ref
   where
     go : (c : Option Class) → slice_get env.heads.classes i ≡ c → IfSome c IsKnownClass → IfSome (option_and_then (class_method i text) c) (IsSoundMethod env (OfClass i))
     go None e k = tt
-    go (Some c) e k = if_map (IsSoundMethod env (OfClass i)) (λ (found : ℕ × Function). record { method = methods.Script i found.0 (result_type found.1.result); result = found.1.result; parameters = found.1.parameters }) (first_from (is_called text) 0 c.methods) (if_weaker (first_from (is_called text) 0 c.methods) (λ found h. (sound.of_class {c = signature_of_class c} (mapped signature_of_class env.heads.classes i c e) h.0, h.1)) (functions_found (is_called text) c.methods k.methods))
+    go (Some c) e k = if_map (IsSoundMethod env (OfClass i)) (λ (found : ℕ × Function). record { method = methods.Script i found.0 (result_type found.1.result); result = found.1.result; parameters = found.1.parameters }) (first_from (is_called text) 0 c.methods) (if_weaker (first_from (is_called text) 0 c.methods) (λ found h. (operations.of_class {c = signature_of_class c} (mapped signature_of_class env.heads.classes i c e) h.0, h.1)) (functions_found (is_called text) c.methods k.methods))
 method_sound env (OfInterface i) text known = go (slice_get env.heads.interfaces i) refl (if_get IsKnownInterface env.heads.interfaces i known.interfaces)
   where
     go : (of : Option Interface) → slice_get env.heads.interfaces i ≡ of → IfSome of IsKnownInterface → IfSome (option_and_then (interface_method i text) of) (IsSoundMethod env (OfInterface i))
     go None e k = tt
-    go (Some of) e k = if_map (IsSoundMethod env (OfInterface i)) (λ (found : ℕ × Function). record { method = methods.Interface i found.0 (result_type found.1.result); result = found.1.result; parameters = found.1.parameters }) (first_from (is_called text) 0 of.methods) (if_weaker (first_from (is_called text) 0 of.methods) (λ found h. (sound.of_interface (mapped signatures_of_interface env.heads.interfaces i of e) h.0, h.1)) (functions_found (is_called text) of.methods k.methods))
+    go (Some of) e k = if_map (IsSoundMethod env (OfInterface i)) (λ (found : ℕ × Function). record { method = methods.Interface i found.0 (result_type found.1.result); result = found.1.result; parameters = found.1.parameters }) (first_from (is_called text) 0 of.methods) (if_weaker (first_from (is_called text) 0 of.methods) (λ found h. (operations.of_interface (mapped signatures_of_interface env.heads.interfaces i of e) h.0, h.1)) (functions_found (is_called text) of.methods k.methods))
 method_sound env (OfHost kind) text known =
     let name = name_of_kind env.registered kind in
     if_then (λ (call : host.Call). (host.takes_member name text call ≡ true) × ((id : ℕ) (of : HostSignature) → method_at name id call ≡ Some of → Contains (filter_map (method_at name id) env.registered) of)) (IsSoundMethod env (OfHost kind)) host_method (find (host.takes_member name text) env.registered) (λ call h. host_method_found env kind text call h.0 h.1) (found_with (host.takes_member name text) (method_at name) env.registered)
@@ -250,8 +251,8 @@ method_sound env (OfArray of) text known = let found = find (is_array_method tex
 
 -- it takes these parameters and gives this
 abbrev pub IsCalled : Environment → Callable → List VarType → Option VarType → Type 0
-IsCalled env (callables.OwnMethod class method result) parameters gives = (env.this ≡ Some class) × sound.IsMethod (seen_in env).signatures (OfClass class) (methods.Script class method result) parameters gives
-IsCalled env (callables.Target target) parameters gives = sound.IsTarget (seen_in env).signatures target parameters gives
+IsCalled env (callables.OwnMethod class method result) parameters gives = (env.this ≡ Some class) × operations.IsMethod (seen_in env).signatures (OfClass class) (methods.Script class method result) parameters gives
+IsCalled env (callables.Target target) parameters gives = operations.IsTarget (seen_in env).signatures target parameters gives
 
 abbrev pub Takes : Environment → Callee → List Ty → Type 0
 Takes env callee parameters = IsCalled env callee.target (map var_type parameters) (result_type callee.result) × AllByRecursion IsVariableType parameters
@@ -259,8 +260,8 @@ Takes env callee parameters = IsCalled env callee.target (map var_type parameter
 abbrev pub IsSoundCallee : Environment → Callee → Type 0
 IsSoundCallee env callee = IfSome callee.parameters (Takes env callee)
 
-pub class_takes : (env : Environment) (class : ℕ) (c : Class) → IsKnown env → slice_get env.heads.classes class ≡ Some c → sound.IsTarget (seen_in env).signatures (targets.Class class) (map var_type c.parameters) (result_type (ty.Handle (OfClass class))) × AllByRecursion IsVariableType c.parameters
-class_takes env class c known e = (sound.class {c = signature_of_class c} (mapped signature_of_class env.heads.classes class c e), (at_some IsKnownClass (slice_get env.heads.classes class) c (if_get IsKnownClass env.heads.classes class known.classes) e).parameters)
+pub class_takes : (env : Environment) (class : ℕ) (c : Class) → IsKnown env → slice_get env.heads.classes class ≡ Some c → operations.IsTarget (seen_in env).signatures (targets.Class class) (map var_type c.parameters) (result_type (ty.Handle (OfClass class))) × AllByRecursion IsVariableType c.parameters
+class_takes env class c known e = (operations.class {c = signature_of_class c} (mapped signature_of_class env.heads.classes class c e), (at_some IsKnownClass (slice_get env.heads.classes class) c (if_get IsKnownClass env.heads.classes class known.classes) e).parameters)
 
 abbrev function_by : ℕ × ℕ → host.Call → Option HostSignature
 function_by key call = function_at key.0 key.1 call
@@ -269,19 +270,19 @@ service_found : (env : Environment) (call : host.Call) → ((key : ℕ × ℕ) (
 service_found env (host.AFunction service id operation) among =
     let at : function_at service id (host.AFunction service id operation) ≡ Some (host_signature operation) = rw (same_number service, same_number id) refl in
     let is = among (service, id) (host_signature operation) at in
-    (subst₂ (λ parameters result. sound.IsTarget (seen_in env).signatures (targets.Service service id result) parameters result) (sym (primitive_types operation.parameters)) (sym (primitive_result operation.result)) (sound.service is), primitives_known operation.parameters)
+    (subst₂ (λ parameters result. operations.IsTarget (seen_in env).signatures (targets.Service service id result) parameters result) (sym (primitive_types operation.parameters)) (sym (primitive_result operation.result)) (operations.service is), primitives_known operation.parameters)
 service_found env _ among = tt
 
 -- the factory of a type
-factory_found : (env : Environment) (name : List ℕ) (kind : ℕ) → ((k : ℕ) (of : List Primitive) → factory_at env.registered k (host.AType name kind) ≡ Some of → Contains ((seen_in env).signatures.host.factories k) of) → IfSome (factory_in env.registered name) (λ parameters. sound.IsTarget (seen_in env).signatures (targets.Host kind) (map var_type parameters) (Some (var_type (ty.Handle (OfHost kind)))) × AllByRecursion IsVariableType parameters)
+factory_found : (env : Environment) (name : List ℕ) (kind : ℕ) → ((k : ℕ) (of : List Primitive) → factory_at env.registered k (host.AType name kind) ≡ Some of → Contains ((seen_in env).signatures.host.factories k) of) → IfSome (factory_in env.registered name) (λ parameters. operations.IsTarget (seen_in env).signatures (targets.Host kind) (map var_type parameters) (Some (var_type (ty.Handle (OfHost kind)))) × AllByRecursion IsVariableType parameters)
 unfolding factory_in
 factory_found env name kind among = go (find (host.is_factory_of name) env.registered) refl
   where
-    go : (found : Option host.Call) → find (host.is_factory_of name) env.registered ≡ found → IfSome (option_and_then factory_parameters found) (λ parameters. sound.IsTarget (seen_in env).signatures (targets.Host kind) (map var_type parameters) (Some (var_type (ty.Handle (OfHost kind)))) × AllByRecursion IsVariableType parameters)
+    go : (found : Option host.Call) → find (host.is_factory_of name) env.registered ≡ found → IfSome (option_and_then factory_parameters found) (λ parameters. operations.IsTarget (seen_in env).signatures (targets.Host kind) (map var_type parameters) (Some (var_type (ty.Handle (OfHost kind)))) × AllByRecursion IsVariableType parameters)
     go None e = tt
     go (Some (host.AFactory of parameters)) e =
         let at : factory_at env.registered kind (host.AType name kind) ≡ Some parameters = rw (same_number kind, e) refl in
-        (subst (λ types. sound.IsTarget (seen_in env).signatures (targets.Host kind) types (Some (var_type (ty.Handle (OfHost kind))))) (sym (primitive_types parameters)) (sound.host (among kind parameters at)), primitives_known parameters)
+        (subst (λ types. operations.IsTarget (seen_in env).signatures (targets.Host kind) types (Some (var_type (ty.Handle (OfHost kind))))) (sym (primitive_types parameters)) (operations.host (among kind parameters at)), primitives_known parameters)
     go (Some _) e = tt
 
 pub host_found : (env : Environment) (call : host.Call) → ((k : ℕ) (of : List Primitive) → factory_at env.registered k call ≡ Some of → Contains ((seen_in env).signatures.host.factories k) of) → IfSome (host_type env.registered call) (IsSoundCallee env)
@@ -291,14 +292,14 @@ host_found env _ among = tt
 own_found : (env : Environment) (text : List ℕ) (class : ℕ) (c : Class) → IsKnown env → env.this ≡ Some class → slice_get env.heads.classes class ≡ Some c → IfSome (first_from (is_called text) 0 c.methods) (λ found. IsSoundCallee env (record { target = callables.OwnMethod class found.0 (result_type found.1.result); result = found.1.result; parameters = Some found.1.parameters }))
 own_found env text class c known this e =
     let of_class = at_some IsKnownClass (slice_get env.heads.classes class) c (if_get IsKnownClass env.heads.classes class known.classes) e in
-    if_weaker (first_from (is_called text) 0 c.methods) (λ found h. ((this, sound.of_class {c = signature_of_class c} (mapped signature_of_class env.heads.classes class c e) h.0), h.1)) (functions_found (is_called text) c.methods of_class.methods)
+    if_weaker (first_from (is_called text) 0 c.methods) (λ found h. ((this, operations.of_class {c = signature_of_class c} (mapped signature_of_class env.heads.classes class c e) h.0), h.1)) (functions_found (is_called text) c.methods of_class.methods)
 
 pub callee_sound : (env : Environment) (text : List ℕ) → IsKnown env → IfSome (callee_in env text) (IsSoundCallee env)
 unfolding callee_in
 callee_sound env text known =
     let Q = IsSoundCallee env in
     let own = if_then (λ (c : ℕ × Class). (env.this ≡ Some c.0) × (slice_get env.heads.classes c.0 ≡ Some c.1)) Q (λ (c : ℕ × Class). option_map (λ (found : ℕ × Function). record { target = callables.OwnMethod c.0 found.0 (result_type found.1.result); result = found.1.result; parameters = Some found.1.parameters }) (first_from (is_called text) 0 c.1.methods)) (this_class env) (λ c h. if_map Q (λ (found : ℕ × Function). record { target = callables.OwnMethod c.0 found.0 (result_type found.1.result); result = found.1.result; parameters = Some found.1.parameters }) (first_from (is_called text) 0 c.1.methods) (own_found env text c.0 c.1 known h.0 h.1)) (this_is env.heads.classes env.this) in
-    let function = if_map Q (λ (found : ℕ × Function). record { target = callables.Target (targets.Function found.0 (result_type found.1.result)); result = found.1.result; parameters = Some found.1.parameters }) (first_from (is_called text) 0 env.heads.functions) (if_weaker (first_from (is_called text) 0 env.heads.functions) (λ found h. (sound.function h.0, h.1)) (functions_found (is_called text) env.heads.functions known.functions)) in
+    let function = if_map Q (λ (found : ℕ × Function). record { target = callables.Target (targets.Function found.0 (result_type found.1.result)); result = found.1.result; parameters = Some found.1.parameters }) (first_from (is_called text) 0 env.heads.functions) (if_weaker (first_from (is_called text) 0 env.heads.functions) (λ found h. (operations.function h.0, h.1)) (functions_found (is_called text) env.heads.functions known.functions)) in
     let service = if_then (λ (call : host.Call). (host.takes_name text call ≡ true) × ((key : ℕ × ℕ) (of : HostSignature) → function_by key call ≡ Some of → Contains (filter_map (function_by key) env.registered) of)) Q service_function (named_in env.registered text) (λ call h. service_found env call h.1) (found_with (host.takes_name text) function_by env.registered) in
     let class = if_map Q (λ (found : ℕ × Class). record { target = callables.Target (targets.Class found.0); result = ty.Handle (OfClass found.0); parameters = Some found.1.parameters }) (first_from (is_class text) 0 env.heads.classes) (if_weaker (first_from (is_class text) 0 env.heads.classes) (λ found h. class_takes env found.0 found.1 known h) (first_place (is_class text) env.heads.classes)) in
     let kind = if_then (λ (call : host.Call). (host.takes_name text call ≡ true) × ((k : ℕ) (of : List Primitive) → factory_at env.registered k call ≡ Some of → Contains (filter_map (factory_at env.registered k) env.registered) of)) Q (host_type env.registered) (named_in env.registered text) (λ call h. host_found env call h.1) (found_with (host.takes_name text) (factory_at env.registered) env.registered) in

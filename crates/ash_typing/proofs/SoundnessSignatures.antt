@@ -4,20 +4,17 @@ use Rattle.std.proofs.Common.{◌≡◌, ◌+◌, ℕ, List, [], ◌∷◌, ◌+
 use Rattle.ash_registrations.specs.Calls as host
 use Rattle.ash_tree.specs.Tree as written
 use Rattle.ash_typed.specs.declared.types.ObjectType.{ObjectType}
-use Rattle.ash_typed.specs.declared.types.ObjectType.TheVariants.{Interface as OfInterface}
-use Rattle.ash_typed.specs.declared.types.VarType.{VarType}
 use Rattle.ash_typed.specs.StatementTree.{Initialization}
 use Rattle.ash_typed.specs.Modules as modules
 use Rattle.ash_typed.specs.Signatures as signatures
 use Rattle.ash_typing.specs.declared.types.Ty.{Ty}
-use Rattle.ash_typing.specs.declared.types.Ty.TheVariants as ty
 use Rattle.ash_typing.specs.Types.{var_type, result_type}
 use Rattle.ash_typing.specs.Environment.{Environment, Declared, Heads}
 use Rattle.ash_typing.specs.Heads.{object_named, ty_named, result_named, declared, variables, parameter_ty, function_head, signature_head, interface_head, class_head, fields_in, methods_in, construction_in, interface_place, with_place, listed_in, interfaces_in, classes_in, functions_in, globals_in, names_in, heads}
 use Rattle.ash_typing.specs.Declarations.{ty_in}
 use Rattle.ash_typing.specs.Typing.{IsDeclared, declared as is_declared}
-use Rattle.ash_typing.specs.Items.{Routine, routine_of, constructing, inside}
-use Rattle.ash_typing.specs.TypedModules.{classes_of, interfaces_of, classes_before, functions_of, globals_of, fields_of, methods_of, constructors_of, type_of_parameter, result_in, AreVariables, AreFields, IsRoutine, IsFunction, IsSignature, IsInterface, AreInterfaces, IsListed, HasConstructor, IsClass, AreClasses, environment, IsTyped}
+use Rattle.ash_typing.specs.Items.{inside}
+use Rattle.ash_typing.specs.TypedModules.{classes_of, interfaces_of, classes_before, functions_of, globals_of, fields_of, methods_of, constructors_of, type_of_parameter, result_in, AreVariables, AreFields, IsFunction, IsSignature, IsInterface, AreInterfaces, IsListed, HasConstructor, IsClass, AreClasses, environment, IsTyped}
 use Rattle.ash_typing.specs.Offered.{offered}
 use Rattle.ash_typing.specs.Soundness.{type_declared, signature_of, signatures_of_interface, signature_of_class, signatures_in}
 use Rattle.ash_typing.proofs.KnownModules.{same_type, same_object}
@@ -148,7 +145,7 @@ interfaces_is calls named (written.AClass c ∷ is) = interfaces_is calls named 
 interfaces_is calls named (written.AFunction f ∷ is) = interfaces_is calls named is
 interfaces_is calls named (written.AGlobal v ∷ is) = interfaces_is calls named is
 
-classes_is : (calls : List host.Call) (named : Heads) (is : List written.Item) → classes_in calls named is ≡ map (class_head calls named) (classes_of is)
+pub classes_is : (calls : List host.Call) (named : Heads) (is : List written.Item) → classes_in calls named is ≡ map (class_head calls named) (classes_of is)
 classes_is calls named [] = refl
 classes_is calls named (written.AClass c ∷ is) = ap (λ rest. class_head calls named c ∷ rest) (classes_is calls named is)
 classes_is calls named (written.AnInterface i ∷ is) = classes_is calls named is

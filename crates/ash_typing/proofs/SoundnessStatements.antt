@@ -2,26 +2,22 @@
 use Rattle.std.specs.List.{AllByRecursion, list_any}
 use Rattle.std.proofs.lemmas.Bool.{eqb-true, eq-eqb, leb-true}
 use Rattle.std.proofs.lemmas.Option.{same_Some, none-some}
-use Rattle.std.proofs.Common.{◌≡◌, ◌^◌, ◌||◌, ◌&&◌, ℕ, zero, suc, ℤ, pos, negsuc, List, [], ◌∷◌, ◌++◌, append-nil, map, Bool, true, false, nat_eq, Option, Some, None, refl, sym, ap, subst, ◌∙◌}
+use Rattle.std.proofs.Common.{◌≡◌, ◌^◌, ◌||◌, ◌&&◌, ℕ, zero, suc, ℤ, pos, List, [], ◌∷◌, append-nil, map, Bool, true, false, nat_eq, Option, Some, None, refl, sym, ap, subst}
 use Rattle.ash_tree.specs.declared.tree.statements.Label.{Label}
 use Rattle.ash_tree.specs.declared.tree.statements.Label.TheVariants as labels
 use Rattle.ash_tree.specs.Tree as written
 use Rattle.ash_typed.specs.declared.types.Kind.{Kind}
 use Rattle.ash_typed.specs.declared.types.Kind.TheVariants as kinds
 use Rattle.ash_typed.specs.declared.types.VarType.{VarType}
-use Rattle.ash_typed.specs.declared.types.VarType.TheVariants as vars
 use Rattle.ash_typed.specs.declared.tree.statements.Test.TheVariants.{First, Last}
 use Rattle.ash_typed.specs.Tree.{Expr}
-use Rattle.ash_typed.specs.TypeOf.{value}
 use Rattle.ash_typed.specs.StatementTree.{Stmt, Empty, Evaluate, Block, If, no_branch, branch, Head, Repeat, For, repeated, Switch, Break, Continue, Return, Stmts, stmt, Cases, no_case}
-use Rattle.ash_typed.specs.SoundExpressions as sound
 use Rattle.ash_typed.specs.SoundStatements as sound_statements
 use Rattle.ash_typing.specs.declared.types.Ty.{Ty}
 use Rattle.ash_typing.specs.declared.types.Ty.TheVariants as ty
 use Rattle.ash_typing.specs.Types.{var_type, result_type}
 use Rattle.ash_typing.specs.Environment.{Environment, Class}
 use Rattle.ash_typing.specs.Fitting.{fits}
-use Rattle.ash_typing.specs.Heads.{declared}
 use Rattle.ash_typing.specs.Declarations.{ty_in}
 use Rattle.ash_typing.specs.Returning.{is_default}
 use Rattle.ash_typing.specs.Switches.{holds_minus, holds_label, is_same_constant}

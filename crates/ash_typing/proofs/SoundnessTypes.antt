@@ -3,7 +3,7 @@ use Rattle.std.specs.Option.{option_map_or}
 use Rattle.std.proofs.lemmas.Bool.{eqb-true, ltb-true}
 use Rattle.std.proofs.lemmas.Option.{none-some, same_Some}
 use Rattle.std.proofs.lemmas.Map.Views.{Contains-from_any}
-use Rattle.std.proofs.Common.{◌≡◌, ◌^◌, ◌&&◌, ◌||◌, ℕ, List, Bool, true, false, cond, Option, Some, None, slice_get, nat_lt, refl, sym, ap, subst, ◌∙◌}
+use Rattle.std.proofs.Common.{◌≡◌, ◌^◌, ℕ, Bool, true, false, cond, Option, Some, None, slice_get, refl, sym, ap, subst}
 use Rattle.ash_tree.specs.declared.tree.operators.BinaryOp.{BinaryOp}
 use Rattle.ash_tree.specs.declared.tree.operators.BinaryOp.TheVariants as binary
 use Rattle.ash_typed.specs.declared.types.Kind.{Kind}
@@ -16,8 +16,9 @@ use Rattle.ash_typed.specs.declared.types.VarType.TheVariants as vars
 use Rattle.ash_typed.specs.declared.tree.operations.Operands.{Operands}
 use Rattle.ash_typed.specs.declared.tree.operations.Operands.TheVariants as operands
 use Rattle.ash_typed.specs.Tree.{Expr, Number, Conditional, converted}
-use Rattle.ash_typed.specs.TypeOf.{ValueType, null_value, value}
+use Rattle.ash_typed.specs.TypeOf.{ValueType, value}
 use Rattle.ash_typed.specs.Signatures.{IsSubtype, same, null, listed}
+use Rattle.ash_typed.specs.SoundOperations as operations
 use Rattle.ash_typed.specs.SoundExpressions as sound
 use Rattle.ash_typing.specs.declared.types.Ty.{Ty}
 use Rattle.ash_typing.specs.declared.types.Ty.TheVariants as ty
@@ -57,13 +58,13 @@ equal_objects o p h = absurd (cc)
 
 -- numbers
 
-pub within : (k : Kind) (n : ℕ) → holds k n ≡ true → sound.IsWithin k n
+pub within : (k : Kind) (n : ℕ) → holds k n ≡ true → operations.IsWithin k n
 within kinds.Int n h = ltb-true n (2 ^ 31) h
 within kinds.Uint n h = ltb-true n (2 ^ 32) h
 within kinds.Int64 n h = ltb-true n (2 ^ 63) h
 within kinds.Uint64 n h = tt
 
-kind_within : (n : ℕ) (a b c : Bool) → holds kinds.Int n ≡ a → holds kinds.Uint n ≡ b → holds kinds.Int64 n ≡ c → sound.IsWithin (cond a kinds.Int (cond b kinds.Uint (cond c kinds.Int64 kinds.Uint64))) n
+kind_within : (n : ℕ) (a b c : Bool) → holds kinds.Int n ≡ a → holds kinds.Uint n ≡ b → holds kinds.Int64 n ≡ c → operations.IsWithin (cond a kinds.Int (cond b kinds.Uint (cond c kinds.Int64 kinds.Uint64))) n
 kind_within n true b c h i k = within kinds.Int n h
 kind_within n false true c h i k = within kinds.Uint n i
 kind_within n false false true h i k = within kinds.Int64 n k
@@ -113,7 +114,7 @@ AreOperands env sort.Order (operands.Integers k) a b = Gives env a (ty.Integer k
 AreOperands env sort.Equality (operands.Integers k) a b = Gives env a (ty.Integer k) × Gives env b (ty.Integer k)
 AreOperands env sort.Equality operands.Bools a b = Gives env a ty.Bool × Gives env b ty.Bool
 AreOperands env sort.Logic operands.Bools a b = Gives env a ty.Bool × Gives env b ty.Bool
-AreOperands env sort.Identity operands.Handles a b = (x y : ValueType) × sound.HasType (seen_in env) a x × sound.IsOperand operands.Handles x × sound.HasType (seen_in env) b y × sound.IsOperand operands.Handles y
+AreOperands env sort.Identity operands.Handles a b = (x y : ValueType) × sound.HasType (seen_in env) a x × operations.IsOperand operands.Handles x × sound.HasType (seen_in env) b y × operations.IsOperand operands.Handles y
 AreOperands env _ _ _ _ = ⊥
 
 -- what becomes of two terms
@@ -148,11 +149,11 @@ is_reference (ty.Handle o) = true
 is_reference ty.Null = true
 is_reference _ = false
 
-reference_operand : (of : Ty) → is_reference of ≡ true → sound.IsOperand operands.Handles (value_type of)
+reference_operand : (of : Ty) → is_reference of ≡ true → operations.IsOperand operands.Handles (value_type of)
 unfolding is_reference
-reference_operand (ty.Object o) h = sound.object
-reference_operand (ty.Handle o) h = sound.object
-reference_operand ty.Null h = sound.no_object
+reference_operand (ty.Object o) h = operations.object
+reference_operand (ty.Handle o) h = operations.object
+reference_operand ty.Null h = operations.no_object
 reference_operand ty.Bool h = absurd (cc)
 reference_operand (ty.Integer k) h = absurd (cc)
 reference_operand ty.Void h = absurd (cc)
@@ -195,23 +196,23 @@ applied_sound env binary.Divide (operands.Integers k) a b h = sound.calculate h.
 applied_sound env binary.Remainder (operands.Integers k) a b h = sound.calculate h.0 h.1
 applied_sound env binary.Add (operands.Integers k) a b h = sound.calculate h.0 h.1
 applied_sound env binary.Subtract (operands.Integers k) a b h = sound.calculate h.0 h.1
-applied_sound env binary.ShiftLeft (operands.Integers k) a b h = sound.shift sound.left h.0 h.1.1
-applied_sound env binary.ShiftRight (operands.Integers k) a b h = sound.shift sound.right h.0 h.1.1
-applied_sound env binary.ShiftRightArithmetic (operands.Integers k) a b h = sound.shift sound.right_arithmetic h.0 h.1.1
+applied_sound env binary.ShiftLeft (operands.Integers k) a b h = sound.shift operations.left h.0 h.1.1
+applied_sound env binary.ShiftRight (operands.Integers k) a b h = sound.shift operations.right h.0 h.1.1
+applied_sound env binary.ShiftRightArithmetic (operands.Integers k) a b h = sound.shift operations.right_arithmetic h.0 h.1.1
 applied_sound env binary.BitAnd (operands.Integers k) a b h = sound.calculate h.0 h.1
 applied_sound env binary.BitXor (operands.Integers k) a b h = sound.calculate h.0 h.1
 applied_sound env binary.BitOr (operands.Integers k) a b h = sound.calculate h.0 h.1
-applied_sound env binary.Less (operands.Integers k) a b h = sound.compare sound.less h.0 sound.integer h.1 sound.integer
-applied_sound env binary.LessOrEqual (operands.Integers k) a b h = sound.compare sound.less_or_equal h.0 sound.integer h.1 sound.integer
-applied_sound env binary.Greater (operands.Integers k) a b h = sound.compare sound.greater h.0 sound.integer h.1 sound.integer
-applied_sound env binary.GreaterOrEqual (operands.Integers k) a b h = sound.compare sound.greater_or_equal h.0 sound.integer h.1 sound.integer
-applied_sound env binary.Equal (operands.Integers k) a b h = sound.compare sound.equal h.0 sound.integer h.1 sound.integer
-applied_sound env binary.Equal operands.Bools a b h = sound.compare sound.same_truth h.0 sound.truth h.1 sound.truth
-applied_sound env binary.NotEqual (operands.Integers k) a b h = sound.compare sound.not_equal h.0 sound.integer h.1 sound.integer
-applied_sound env binary.NotEqual operands.Bools a b h = sound.compare sound.other_truth h.0 sound.truth h.1 sound.truth
-applied_sound env binary.Is operands.Handles a b h = sound.compare sound.same_object h.2 h.3 h.4 h.5
-applied_sound env binary.NotIs operands.Handles a b h = sound.compare sound.other_object h.2 h.3 h.4 h.5
-applied_sound env binary.Xor operands.Bools a b h = sound.compare sound.xor h.0 sound.truth h.1 sound.truth
+applied_sound env binary.Less (operands.Integers k) a b h = sound.compare operations.less h.0 operations.integer h.1 operations.integer
+applied_sound env binary.LessOrEqual (operands.Integers k) a b h = sound.compare operations.less_or_equal h.0 operations.integer h.1 operations.integer
+applied_sound env binary.Greater (operands.Integers k) a b h = sound.compare operations.greater h.0 operations.integer h.1 operations.integer
+applied_sound env binary.GreaterOrEqual (operands.Integers k) a b h = sound.compare operations.greater_or_equal h.0 operations.integer h.1 operations.integer
+applied_sound env binary.Equal (operands.Integers k) a b h = sound.compare operations.equal h.0 operations.integer h.1 operations.integer
+applied_sound env binary.Equal operands.Bools a b h = sound.compare operations.same_truth h.0 operations.truth h.1 operations.truth
+applied_sound env binary.NotEqual (operands.Integers k) a b h = sound.compare operations.not_equal h.0 operations.integer h.1 operations.integer
+applied_sound env binary.NotEqual operands.Bools a b h = sound.compare operations.other_truth h.0 operations.truth h.1 operations.truth
+applied_sound env binary.Is operands.Handles a b h = sound.compare operations.same_object h.2 h.3 h.4 h.5
+applied_sound env binary.NotIs operands.Handles a b h = sound.compare operations.other_object h.2 h.3 h.4 h.5
+applied_sound env binary.Xor operands.Bools a b h = sound.compare operations.xor h.0 operations.truth h.1 operations.truth
 applied_sound env binary.And operands.Bools a b h = sound.lazily h.0 h.1
 applied_sound env binary.Or operands.Bools a b h = sound.lazily h.0 h.1
 applied_sound env op o a b h = absurd h

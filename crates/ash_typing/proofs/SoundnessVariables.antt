@@ -1,9 +1,9 @@
 -- Declared variables are sound: their types are in range, and what they begin with fits them.
 use Rattle.std.specs.List.{AllByRecursion}
-use Rattle.std.specs.Option.{option_and_then, option_map}
+use Rattle.std.specs.Option.{option_map}
 use Rattle.std.proofs.lemmas.Bool.{eqb-true}
 use Rattle.std.proofs.lemmas.Option.{none-some}
-use Rattle.std.proofs.Common.{◌≡◌, ℕ, length, List, [], ◌∷◌, ◌++◌, Bool, true, false, cond, not, map, Option, Some, None, IfSome, find, filter_map, Contains, slice_get, nat_eq, refl, sym, ap, subst, ◌∙◌}
+use Rattle.std.proofs.Common.{◌≡◌, ℕ, length, List, [], ◌∷◌, ◌++◌, true, false, not, map, Option, Some, None, IfSome, find, filter_map, Contains, slice_get, refl, sym, ap, subst}
 use Rattle.ash_tree.specs.declared.tree.types.Primitive.{Primitive}
 use Rattle.ash_tree.specs.declared.tree.types.Primitive.TheVariants as primitives
 use Rattle.ash_tree.specs.Tree as written
@@ -11,33 +11,33 @@ use Rattle.ash_registrations.specs.Calls as host
 use Rattle.ash_typed.specs.declared.types.ObjectType.{ObjectType}
 use Rattle.ash_typed.specs.declared.types.ObjectType.TheVariants.{Class as OfClass, Interface as OfInterface, Host as OfHost, Array as OfArray}
 use Rattle.ash_typed.specs.declared.types.Element.{Element}
-use Rattle.ash_typed.specs.declared.types.VarType.{VarType}
 use Rattle.ash_typed.specs.declared.types.VarType.TheVariants as vars
 use Rattle.ash_typed.specs.declared.tree.operations.Target.{Target}
 use Rattle.ash_typed.specs.declared.tree.operations.Target.TheVariants as targets
-use Rattle.ash_typed.specs.Tree.{Expr, Exprs, Call}
+use Rattle.ash_typed.specs.Tree.{Expr}
 use Rattle.ash_typed.specs.StatementTree.{Initialization}
 use Rattle.ash_typed.specs.Signatures as signatures
+use Rattle.ash_typed.specs.SoundOperations as operations
 use Rattle.ash_typed.specs.SoundExpressions as sound
 use Rattle.ash_typed.specs.SoundStatements as sound_statements
 use Rattle.ash_typing.specs.declared.types.Ty.{Ty}
 use Rattle.ash_typing.specs.declared.types.Ty.TheVariants as ty
 use Rattle.ash_typing.specs.declared.forms.Callable.TheVariants as callables
-use Rattle.ash_typing.specs.Types.{is_interface, is_variable, object_of, var_type, result_type, ty_of}
+use Rattle.ash_typing.specs.Types.{is_interface, object_of, var_type, ty_of}
 use Rattle.ash_typing.specs.Environment.{Environment, Declared, Class, Heads, Callee, host_type, with_locals}
 use Rattle.ash_typing.specs.Heads.{object_named, element_named, array_named, object_ty, handle_ty, ty_named, declared}
-use Rattle.ash_typing.specs.Declarations.{ty_in, initialization, class_built, class_construction, kind_construction, construction}
-use Rattle.ash_typing.specs.Expressions.{call_of, array_built, array_parameters}
-use Rattle.ash_typing.specs.Typing.{IsKnown, IsKnownType, IsVariableType, Term, is_object, AreArguments, AllHaveType, HasType, none_left, IsConstructed, construct, BeginsWith, empty, default, value, one, built_by, IsDeclared, declared as is_declared}
-use Rattle.ash_typing.specs.Statements.{Scope, with_variables}
+use Rattle.ash_typing.specs.Declarations.{class_built, class_construction, kind_construction, construction}
+use Rattle.ash_typing.specs.Expressions.{call_of}
+use Rattle.ash_typing.specs.Typing.{IsKnown, IsKnownType, IsVariableType, Term, is_object, IsConstructed, construct, BeginsWith, empty, default, value, one, built_by, IsDeclared, declared as is_declared}
+use Rattle.ash_typing.specs.Statements.{Scope}
 use Rattle.ash_typing.specs.TypedStatements.{IsKnownScope, AreDeclared, none_declared, and_declared}
 use Rattle.ash_typing.specs.Offered.{factory_at}
 use Rattle.ash_typing.specs.Soundness.{type_declared, signatures_in, seen_in}
-use Rattle.ash_typing.proofs.TypingKnown.{at_some, if_map, if_then, known_type}
+use Rattle.ash_typing.proofs.TypingKnown.{at_some, if_then, known_type}
 use Rattle.ash_typing.proofs.StatementsSound.{more_known}
-use Rattle.ash_typing.proofs.SoundnessNames.{found_with, IsCalled, Takes, IsSoundCallee, class_takes, host_found, object_sound, element_sound}
+use Rattle.ash_typing.proofs.SoundnessNames.{found_with, class_takes, host_found, object_sound, element_sound}
 use Rattle.ash_typing.proofs.SoundnessTypes.{fits_sound}
-use Rattle.ash_typing.proofs.SoundnessExpressions.{IsSound, IsArgument, term_sound, terms_sound, arguments_sound, array_takes}
+use Rattle.ash_typing.proofs.SoundnessExpressions.{IsArgument, term_sound, terms_sound, arguments_sound, array_takes}
 
 -- types that are written
 
@@ -85,7 +85,7 @@ record Builds (env : Environment) (o : ObjectType) (callee : Callee) : Type 0 wh
   target : Target
   called : callee.target ≡ callables.Target target
   constructs : sound_statements.Constructs target o
-  takes : IfSome callee.parameters (λ parameters. sound.IsTarget (seen_in env).signatures target (map var_type parameters) (Some (vars.Handle o)) × AllByRecursion IsVariableType parameters)
+  takes : IfSome callee.parameters (λ parameters. operations.IsTarget (seen_in env).signatures target (map var_type parameters) (Some (vars.Handle o)) × AllByRecursion IsVariableType parameters)
 
 host_built : (env : Environment) (kind : ℕ) (call : host.Call) → host.takes_kind kind call ≡ true → ((k : ℕ) (of : List Primitive) → factory_at env.registered k call ≡ Some of → Contains (filter_map (factory_at env.registered k) env.registered) of) → IfSome (host_type env.registered call) (Builds env (OfHost kind))
 host_built env kind (host.AType name other) e among = subst (λ k. IfSome (host_type env.registered (host.AType name other)) (Builds env (OfHost k))) (sym (eqb-true kind other e)) (record { target = targets.Host other; called = refl; constructs = sound_statements.host; takes = host_found env (host.AType name other) among })
@@ -106,7 +106,7 @@ construction_builds env (OfArray of) count known (signatures.array h) = record {
 constructed_sound : (env : Environment) (o : ObjectType) (ts : List Term) (tree : Expr) → IsKnown env → signatures.IsObjectType (seen_in env).signatures o → AllByRecursion (IsArgument env) ts → IsConstructed env o ts tree → sound_statements.BeginsWith (seen_in env) (vars.Object o) (Some tree)
 constructed_sound env o ts tree known h arguments (construct {callee = callee} {parameters = parameters} {trees = trees} c q args) =
     let builds = at_some (Builds env o) (construction env o (length ts)) callee (construction_builds env o (length ts) known h) c in
-    let takes = at_some (λ parameters. sound.IsTarget (seen_in env).signatures builds.target (map var_type parameters) (Some (vars.Handle o)) × AllByRecursion IsVariableType parameters) callee.parameters parameters builds.takes q in
+    let takes = at_some (λ parameters. operations.IsTarget (seen_in env).signatures builds.target (map var_type parameters) (Some (vars.Handle o)) × AllByRecursion IsVariableType parameters) callee.parameters parameters builds.takes q in
     subst (λ target. sound_statements.BeginsWith (seen_in env) (vars.Object o) (Some (call_of target (map var_type parameters) trees))) (sym builds.called)
     (sound_statements.constructed builds.constructs (sound.call takes.0 (arguments_sound env args takes.1 arguments)))
 
