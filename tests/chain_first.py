@@ -3,8 +3,8 @@
 
 The crates build on each other in one long chain, and `rt ci` shares the processors evenly among the proofs that are ready,
 those of tests among them. So the crate that all others wait for would be proved at one job.
-Here the task at the head of the longest chain that is left begins at once with a job for each processor, even where others
-still have some of these, since all wait for it; any other task gets the jobs that are left, but one where another is ready.
+Here a task at the head of one of the longest chains that are left begins with a job for each processor, even where others
+still have some of these, since many wait for it; any other task gets the jobs that are left, but one where another is ready.
 A check with several jobs leaves some of them idle for part of its time, so twice as many jobs are given out as there are
 processors, and the operating system gives the longest chain what it can use: all other tasks are nice to it, and edits to
 these. So they fill what the chain leaves free. An edit has one job, which is never idle, so only one more than there are
@@ -28,9 +28,9 @@ JOBS_FOR_A_PROCESSOR = 2
 # What each further job of a check adds to its memory, and how much of the free memory is given out.
 MEMORY_OF_A_JOB = 0.6
 MEMORY_GIVEN_OUT = 0.85
-# A chain is the longest by far where every other has less than this share of its lines.
+# A chain is among the longest where it has at least this share of the lines of every other.
 NEAR = 0.7
-# How nice a task is to those of a chain that is far longer, and an edit to all proofs.
+# How nice a task is to those of the longest chains, and an edit to all proofs.
 NICE, NICE_OF_EDITS = 10, 15
 
 
@@ -108,13 +108,12 @@ def in_lanes(tasks, processors, memory):
             spare = most - sum(jobs for _, _, jobs in running.values())
             room = memory - sum(taken for _, taken, _ in running.values())
             rivals = [it for it in [*ready, *(it for it, _, _ in running.values())] if it != key and not fills(it)]
-            is_head = not fills(key) and all(order[it] < NEAR * order[key] for it in rivals)
-            if (spare > 0 or is_head) and (needs <= room or not running):
-                least = processors if is_head else 1
+            is_near = not fills(key) and all(NEAR * order[it] <= order[key] for it in rivals)
+            if spare > (-processors if is_near else 0) and (needs <= room or not running):
+                least = processors if is_near else 1
                 others = sum(not fills(it) for it in ready[number:])
                 jobs = 1 if fills(key) else jobs_for(spare, others, needs, room, least)
                 taken = needs * (1 + MEMORY_OF_A_JOB * (jobs - 1))
-                is_near = all(NEAR * order[it] <= order[key] for it in rivals)
                 niceness = NICE_OF_EDITS if fills(key) else 0 if is_near else NICE
                 left.remove(key)
                 running[begin(call, given, jobs, niceness)] = key, taken, jobs
