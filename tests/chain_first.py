@@ -25,7 +25,9 @@ from concurrent.futures import FIRST_COMPLETED, Future, wait
 TRIED_WITH = "rattle-kit-13f logic dac8208d650f15bf"
 MAX_JOBS = 4
 JOBS_FOR_A_PROCESSOR = 2
-# What each further job of a check adds to its memory, and how much of the free memory is given out.
+# How much of the memory that rt reckons for a check it takes at the most, as measured; what each further job of the check
+# adds to that; and how much of the free memory is given out.
+MEMORY_TAKEN = 0.3
 MEMORY_OF_A_JOB = 0.6
 MEMORY_GIVEN_OUT = 0.85
 # A chain is among the longest where it has at least this share of the lines of every other.
@@ -103,7 +105,8 @@ def in_lanes(tasks, processors, memory):
             if lacks_memory and fills(key):
                 # a proof waits for memory, which edits would take again and again
                 break
-            _, _, needs, call = tasks[key]
+            _, _, reckoned, call = tasks[key]
+            needs = MEMORY_TAKEN * reckoned
             most = processors + 1 if fills(key) else int(JOBS_FOR_A_PROCESSOR * processors)
             spare = most - sum(jobs for _, _, jobs in running.values())
             room = memory - sum(taken for _, taken, _ in running.values())
