@@ -3,6 +3,8 @@
 ghost use Rattle.std.specs.Prelude.{◌≡◌, ◌↔◌, IsTrue, map};
 ghost use Rattle.ash_tree.specs.Tree.{stmts};
 ghost use Rattle.ash_tree.specs.Views.{stmt_of};
+ghost use Rattle.ash_typing.specs.Environment.{with_locals};
+ghost use Rattle.ash_typing.specs.Returning as returning;
 ghost use Rattle.ash_typing.specs.Bodies as definition;
 ghost use Rattle.ash_typed.specs.BodyViews.{body_of};
 ghost use Rattle.ash_expressions.specs.Gives.{Gives};
@@ -26,7 +28,7 @@ pub(crate) fn body_typed<'a>(
     of: Ty,
     body: &'a [Stmt],
 ) -> Checking<Vec<ash_typed::Stmt>>
-    ensures { Gives (λ b. body_of b.items) result (definition.body_typed (definition.with_locals (environment_of env.now) (map declared_of locals.entry.items)) of (map stmt_of body.now)) }
+    ensures { Gives (λ b. body_of b.items) result (definition.body_typed (with_locals (environment_of env.now) (map declared_of locals.entry.items)) of (map stmt_of body.now)) }
 {
     let scope = Scope {
         heads: env.heads,
@@ -42,7 +44,7 @@ pub(crate) fn body_typed<'a>(
 
 /// Whether a body returns, however its conditions turn out.
 pub(crate) fn body_returns(body: &[Stmt]) -> bool
-    ensures value { result ≡ definition.returns_in (map stmt_of body.now) }
+    ensures value { result ≡ returning.returns_in (map stmt_of body.now) }
     ensures meaning { IsTrue result ↔ ReturnsIn (stmts (map stmt_of body.now)) }
 {
     any_returns(body)

@@ -2,6 +2,7 @@
 
 ghost use Rattle.std.specs.Prelude.{◌≡◌, [], map, option_map, IfOk};
 ghost use Rattle.ash_tree.specs.Views.{type_of, parameter_of, function_of as written_function};
+ghost use Rattle.ash_typing.specs.WrittenItems as items;
 ghost use Rattle.ash_typing.specs.Items as definition;
 ghost use Rattle.ash_typed.specs.Modules.{function_of};
 ghost use Rattle.ash_expressions.specs.Gives.{Gives};
@@ -105,7 +106,7 @@ pub(crate) fn routine_typed<'a>(
 
 /// A function, a method or a constructor, without its result.
 pub(crate) fn as_routine(function: &ash_tree::Function) -> Routine<'_>
-    ensures { routine_of result ≡ definition.routine_of (written_function function.now) }
+    ensures { routine_of result ≡ items.routine_of (written_function function.now) }
 {
     Routine {
         place: function.place,

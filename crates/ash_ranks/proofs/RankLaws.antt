@@ -20,13 +20,14 @@ use Rattle.ash_typed.specs.Signatures as signatures
 use Rattle.ash_typing.specs.Types.{var_type, ty_of}
 use Rattle.ash_typing.specs.Environment.{Interface, Class, Heads, first_from, is_class, is_interface_named}
 use Rattle.ash_typing.specs.Heads.{class_type, interface_type, host_object, object_named, element_of, element_by, element_named, array_named, object_ty, handle_ty, ty_named, declared, variables, fields_in, interface_place, with_place, listed_in, named_class, named_classes, class_head, names_in, heads}
-use Rattle.ash_typing.specs.TypedModules.{classes_of, environment, IsTyped}
+use Rattle.ash_typing.specs.TypedModules.{environment, IsTyped}
 use Rattle.ash_typing.specs.Offered.{offered}
 use Rattle.ash_typing.specs.Soundness.{type_declared, signature_of_class, signatures_in}
 use Rattle.ash_typing.proofs.TypingKnown.{if_or}
 use Rattle.ash_typing.proofs.SoundnessNames.{first_place}
 use Rattle.ash_typing.proofs.SoundnessClasses.{first_passes, unmapped, classes_length}
 use Rattle.ash_typing.proofs.SoundnessSignatures.{classes_is, same_signatures}
+use Rattle.ash_typing.specs.WrittenItems.{classes_of}
 
 -- lists
 

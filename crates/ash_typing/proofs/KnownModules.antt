@@ -9,13 +9,13 @@ use Rattle.ash_typed.specs.declared.types.ObjectType.{ObjectType}
 use Rattle.ash_typed.specs.declared.types.ObjectType.TheVariants.{Class as OfClass, Interface as OfInterface, Array as OfArray}
 use Rattle.ash_typing.specs.declared.types.Ty.{Ty}
 use Rattle.ash_typing.specs.declared.types.Ty.TheVariants as ty
-use Rattle.ash_typing.specs.Environment.{Environment, Heads, Interface, Class, first_from, is_class, is_interface_named}
-use Rattle.ash_typing.specs.Heads.{object_named, element_by, element_named, array_named, object_ty, handle_ty, ty_named, result_named, variables, parameter_ty, function_head, signature_head, fields_in, methods_in, construction_in, named_interfaces, named_classes, names_in, interfaces_in, classes_in, functions_in, globals_in, heads}
-use Rattle.ash_typing.specs.Declarations.{Initialization, ty_in, known_ty}
+use Rattle.ash_typing.specs.Environment.{Environment, Heads, Interface, Class, first_from, is_class, is_interface_named, inside}
+use Rattle.ash_typing.specs.Heads.{object_named, element_by, element_named, array_named, object_ty, handle_ty, ty_named, result_named, variables, parameter_ty, function_head, signature_head, fields_in, methods_in, construction_in, named_interfaces, named_classes, names_in, interfaces_in, classes_in, functions_in, globals_in, heads, ty_in}
+use Rattle.ash_typing.specs.Declarations.{Initialization, known_ty}
 use Rattle.ash_typing.specs.Typing.{IsKnown, IsVariableType, IsResultType, IsKnownVariable, IsKnownFunction, IsKnownInterface, IsKnownClass}
 use Rattle.ash_typed.specs.Modules as modules
-use Rattle.ash_typing.specs.Items.{Names, Row, vars_typed, result_typed, parameters_typed, Routine, routine_of, constructing, routine_typed, placed, untaken, Members, constructor_named, member_typed, members_typed, no_members, inside, all_listed, none_listed, class_typed, interface_typed, room_for_type, Walked, item_typed, items_typed}
-use Rattle.ash_typing.specs.TypedModules.{classes_of, interfaces_of, classes_before, functions_of, globals_of, fields_of, methods_of, constructors_of, IsPassedParameter, IsResult, AreVariables, AreFields, IsRoutine, IsFunction, IsSignature, IsInterface, AreInterfaces, HasConstructor, IsClass, AreClasses, environment}
+use Rattle.ash_typing.specs.Items.{Names, Row, vars_typed, result_typed, parameters_typed, routine_typed, placed, untaken, Members, constructor_named, member_typed, members_typed, no_members, all_listed, none_listed, class_typed, interface_typed, room_for_type, Walked, item_typed, items_typed}
+use Rattle.ash_typing.specs.TypedModules.{IsPassedParameter, IsResult, AreVariables, AreFields, IsRoutine, IsFunction, IsSignature, IsInterface, AreInterfaces, HasConstructor, IsClass, AreClasses, environment}
 use Rattle.ash_typing.proofs.Bindings.{bind_ok}
 use Rattle.ash_typing.proofs.TakenNames.{all_append}
 use Rattle.ash_typing.proofs.StatementsSound.{decls_known}
@@ -24,6 +24,7 @@ use Rattle.ash_typing.proofs.TypedVariables.{known_sound}
 use Rattle.ash_typing.proofs.TypedRoutines.{passed_variable, parameters_sound, result_sound}
 use Rattle.ash_typing.proofs.TypedInterfaces.{interface_sound}
 use Rattle.ash_typing.proofs.TypedClasses.{named_sound}
+use Rattle.ash_typing.specs.WrittenItems.{Routine, routine_of, constructing, classes_of, interfaces_of, classes_before, functions_of, globals_of, fields_of, methods_of, constructors_of}
 
 -- the types that are named, by what is looked up
 

@@ -34,8 +34,8 @@ use Rattle.ash_typing.specs.declared.forms.Sort.TheVariants as sort
 use Rattle.ash_typing.specs.Types.{signed, object_of, result_type, sort_of, binary_of, meets, outcome, ty_of_element, var_type}
 use Rattle.ash_typing.specs.Environment.{Environment, Known, Callee, Invoked, variable_in, callee_in, member_in, method_in}
 use Rattle.ash_typing.specs.Heads.{object_named, element_named}
-use Rattle.ash_typing.specs.Expressions.{conversion, applied, is_stored, call_of, assignable, bracketed, handle_form, array_parameters}
-use Rattle.ash_typing.specs.Typing.{IsKnown, IsKnownType, IsVariableType, IsResultType, is_known, Term, term, read_term, beside, left_of, right_of, right_by, converted_to, AreArguments, no_arguments, argument, IsCastType, to_class, to_interface, HasType, AllHaveType, LinksHaveType, SuffixesHaveType, SuffixHasType, number, truth, null, this, name, call, brackets, to_integer, to_bool, new_array, cast, postfix, plus, minus, complement, not, increment, decrement, handle, handle_written, binary as operators, conditional, assign, update, none_left, each, no_more, operated, no_suffixes, suffixed, field, method, index, increment_after, decrement_after}
+use Rattle.ash_typing.specs.Terms.{conversion, applied, is_stored, call_of, assignable, bracketed, handle_form, array_parameters, Term, term, read_term, beside, right_by, converted_to}
+use Rattle.ash_typing.specs.Typing.{IsKnown, IsKnownType, IsVariableType, IsResultType, is_known, left_of, right_of, AreArguments, no_arguments, argument, IsCastType, to_class, to_interface, HasType, AllHaveType, LinksHaveType, SuffixesHaveType, SuffixHasType, number, truth, null, this, name, call, brackets, to_integer, to_bool, new_array, cast, postfix, plus, minus, complement, not, increment, decrement, handle, handle_written, binary as operators, conditional, assign, update, none_left, each, no_more, operated, no_suffixes, suffixed, field, method, index, increment_after, decrement_after}
 use Rattle.ash_typing.specs.Soundness.{seen_in}
 use Rattle.ash_typing.proofs.TypingKnown.{at_some, known_type, variable_is_known, element_known, beside_known, outcome_known, variable_known, callee_known, member_known, method_known}
 use Rattle.ash_typing.proofs.TypingTypes.{variable_value, result_value, kept_type}

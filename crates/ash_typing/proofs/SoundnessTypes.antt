@@ -29,8 +29,8 @@ use Rattle.ash_typing.specs.declared.forms.Form.TheVariants as form
 use Rattle.ash_typing.specs.Types.{is_same_kind, is_same_element, is_same_object, holds, kind_of, meeting, common, gives_object, agrees, sort_of, meets, outcome, var_type, value_type}
 use Rattle.ash_typing.specs.Environment.{Environment, Class}
 use Rattle.ash_typing.specs.Fitting.{has_interface, lists, is_of, fits}
-use Rattle.ash_typing.specs.Expressions.{conversion, operand_type, applied}
-use Rattle.ash_typing.specs.Typing.{Term, is_known, IsKnownType, converted_to, taking, beside, right_by}
+use Rattle.ash_typing.specs.Terms.{conversion, operand_type, applied, Term, converted_to, taking, beside, right_by}
+use Rattle.ash_typing.specs.Typing.{is_known, IsKnownType}
 use Rattle.ash_typing.specs.Soundness.{signature_of_class, seen_in}
 use Rattle.ash_typing.proofs.TypingTypes.{equal_kinds}
 use Rattle.ash_typing.proofs.SoundnessNames.{mapped}

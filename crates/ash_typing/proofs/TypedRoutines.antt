@@ -11,19 +11,21 @@ use Rattle.ash_typed.specs.declared.types.ObjectType.{ObjectType}
 use Rattle.ash_typing.specs.declared.types.Ty.{Ty}
 use Rattle.ash_typing.specs.declared.types.Ty.TheVariants as ty
 use Rattle.ash_typing.specs.Types.{ty_of, var_type}
-use Rattle.ash_typing.specs.Environment.{Environment, Declared, declares}
+use Rattle.ash_typing.specs.Environment.{Environment, Declared, with_locals, declares}
 use Rattle.ash_typing.specs.Expressions.{is_void}
-use Rattle.ash_typing.specs.Heads.{object_named, array_named, object_ty, handle_ty, ty_named}
+use Rattle.ash_typing.specs.Heads.{object_named, array_named, object_ty, handle_ty, ty_named, ty_in, result_in}
 use Rattle.ash_typing.specs.Typing.{IsKnown, IsKnownType, IsVariableType, IsKnownVariable}
-use Rattle.ash_typing.specs.Bodies.{Body, body_scope, body_typed, returns_in, with_locals}
-use Rattle.ash_typing.specs.Declarations.{ty_in}
+use Rattle.ash_typing.specs.Bodies.{Body, body_typed}
+use Rattle.ash_typing.specs.Scopes.{body_scope}
 use Rattle.ash_typed.specs.Modules.{Function}
-use Rattle.ash_typing.specs.Items.{passed_ty, result_typed, parameters_typed, Routine, routine_of, returning, type_of, routine_typed}
-use Rattle.ash_typing.specs.TypedModules.{parameter_name, IsPassed, type_of_parameter, parameter_of, IsPassedParameter, IsBody, IsRoutine, IsResult, result_in, IsFunction}
+use Rattle.ash_typing.specs.Items.{passed_ty, result_typed, parameters_typed, returning, type_of, routine_typed}
+use Rattle.ash_typing.specs.TypedModules.{IsPassed, type_of_parameter, parameter_of, IsPassedParameter, IsBody, IsRoutine, IsResult, IsFunction}
 use Rattle.ash_typing.proofs.Bindings.{no_err, ok_is, bind_ok, bind_is, if_ok}
 use Rattle.ash_typing.proofs.StatementsSound.{stmts_sound}
 use Rattle.ash_typing.proofs.StatementsComplete.{stmts_complete}
 use Rattle.ash_typing.proofs.TakenNames.{Distinct, distinct_push, distinct_new}
+use Rattle.ash_typing.specs.Returning.{returns_in}
+use Rattle.ash_typing.specs.WrittenItems.{Routine, routine_of, parameter_name}
 
 -- what may be passed
 

@@ -14,7 +14,7 @@ use Rattle.ash_typed.specs.declared.types.ObjectType.TheVariants.{Class as OfCla
 use Rattle.ash_typing.specs.declared.types.Ty.{Ty}
 use Rattle.ash_typing.specs.declared.types.Ty.TheVariants as ty
 use Rattle.ash_typing.specs.Types.{ty_of}
-use Rattle.ash_typing.specs.Environment.{Declared, Function, Interface, Class, Heads, first_from, is_class, is_interface_named}
+use Rattle.ash_typing.specs.Environment.{Declared, Function, Interface, Class, Heads, first_from, is_class, is_interface_named, Environment}
 
 -- types by their names
 
@@ -74,6 +74,15 @@ ty_named calls named (written.ArrayHandle p of) = handle_ty (array_named calls n
 abbrev pub result_named : List host.Call → Heads → Option written.Named → Ty
 result_named calls named None = ty.Void
 result_named calls named (Some of) = ty_named calls named of
+
+-- the same where they are seen
+
+-- the type that is written
+abbrev pub ty_in : Environment → written.Named → Ty
+ty_in env of = ty_named env.registered env.heads of
+
+abbrev pub result_in : Environment → Option written.Named → Ty
+result_in env of = result_named env.registered env.heads of
 
 -- what is declared
 

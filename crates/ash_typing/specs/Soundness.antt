@@ -8,7 +8,7 @@ use Rattle.ash_typed.specs.SoundExpressions as expressions
 use Rattle.ash_typed.specs.SoundStatements as statements
 use Rattle.ash_typing.specs.Types.{var_type, result_type}
 use Rattle.ash_typing.specs.Environment.{Declared, Function, Interface, Class, Heads, Environment}
-use Rattle.ash_typing.specs.Statements.{Scope}
+use Rattle.ash_typing.specs.Scopes.{Scope}
 use Rattle.ash_typing.specs.Offered.{offered}
 
 abbrev pub type_declared : Declared → VarType

@@ -1,4 +1,4 @@
-use Rattle.ash_typing.specs.Bodies as definition
+use Rattle.ash_typing.specs.Returning as definition
 use Rattle.ash_check.proofs.ReturnTests.{same_test}
 use Rattle.ash_check.proofs.bodies.body_returns.Goals as goal
 
