@@ -1,7 +1,6 @@
 //! Bodies of functions.
 
-ghost use Rattle.std.specs.Prelude.{◌≡◌, ◌↔◌, IsTrue, map};
-ghost use Rattle.ash_tree.specs.Tree.{stmts};
+ghost use Rattle.std.specs.Prelude.{◌≡◌, map};
 ghost use Rattle.ash_tree.specs.Views.{stmt_of};
 ghost use Rattle.ash_typing.specs.Environment.{with_locals};
 ghost use Rattle.ash_typing.specs.Returning as returning;
@@ -9,7 +8,6 @@ ghost use Rattle.ash_typing.specs.Bodies as definition;
 ghost use Rattle.ash_typed.specs.BodyViews.{body_of};
 ghost use Rattle.ash_expressions.specs.Gives.{Gives};
 ghost use Rattle.ash_expressions.specs.Views.{declared_of, environment_of};
-ghost use Rattle.ash_check.specs.Returning.{ReturnsIn};
 
 use crate::returning::any_returns;
 use crate::scopes::Scope;
@@ -43,9 +41,9 @@ pub(crate) fn body_typed<'a>(
 }
 
 /// Whether a body returns, however its conditions turn out.
+#[tactic(auto, unfolding(ash_typing::specs::Returning::returns_in))]
 pub(crate) fn body_returns(body: &[Stmt]) -> bool
-    ensures value { result ≡ returning.returns_in (map stmt_of body.now) }
-    ensures meaning { IsTrue result ↔ ReturnsIn (stmts (map stmt_of body.now)) }
+    ensures { result ≡ returning.returns_in (map stmt_of body.now) }
 {
     any_returns(body)
 }
