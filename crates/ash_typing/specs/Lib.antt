@@ -3,8 +3,8 @@ pub mod Types
 pub mod Terms
 pub mod Environment
 pub mod Fitting
-pub mod Heads
 pub mod WrittenItems
+pub mod Heads
 pub mod Scopes
 pub mod Returning
 pub mod Labels
