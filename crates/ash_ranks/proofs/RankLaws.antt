@@ -18,11 +18,11 @@ use Rattle.ash_typed.specs.Modules.{Module}
 use Rattle.ash_typed.specs.References as references
 use Rattle.ash_typed.specs.Signatures as signatures
 use Rattle.ash_typing.specs.Types.{var_type, ty_of}
-use Rattle.ash_typing.specs.Environment.{Interface, Class, Heads, first_from, is_class, is_interface_named}
+use Rattle.ash_typing.specs.Environment.{Interface, Class, Heads, first_from, is_class, is_interface_named, type_declared}
 use Rattle.ash_typing.specs.Heads.{class_type, interface_type, host_object, object_named, element_of, element_by, element_named, array_named, object_ty, handle_ty, ty_named, declared, variables, interface_place, with_place, listed_in, named_class, class_head, names_in, heads, all_variables}
 use Rattle.ash_typing.specs.TypedModules.{environment, IsTyped}
 use Rattle.ash_typing.specs.Offered.{offered}
-use Rattle.ash_typing.specs.Soundness.{type_declared, signature_of_class, signatures_in}
+use Rattle.ash_typing.specs.Soundness.{signature_of_class, signatures_in}
 use Rattle.ash_typing.proofs.TypingKnown.{if_or}
 use Rattle.ash_typing.proofs.SoundnessNames.{first_place}
 use Rattle.ash_typing.proofs.SoundnessClasses.{first_passes, unmapped, classes_length}

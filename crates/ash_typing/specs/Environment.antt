@@ -4,6 +4,7 @@ use Rattle.std.specs.Option.{option_and_then, option_map, option_or}
 use Rattle.std.specs.Str.{bytes_eq}
 use Rattle.ash_tree.specs.declared.tree.types.Primitive.{Primitive}
 use Rattle.ash_registrations.specs.Calls as host
+use Rattle.ash_typed.specs.declared.types.VarType.{VarType}
 use Rattle.ash_typed.specs.declared.types.ObjectType.{ObjectType}
 use Rattle.ash_typed.specs.declared.types.Kind.TheVariants.{Uint}
 use Rattle.ash_typed.specs.declared.types.Element.{Element}
@@ -28,6 +29,9 @@ use Rattle.ash_typing.specs.Terms.{array_parameters}
 pub record Declared : Type 0 where
   pub name : List ℕ
   pub of : Ty
+
+abbrev pub type_declared : Declared → VarType
+type_declared v = var_type v.of
 
 -- a function or a method, whose result is `Void` where it has none
 pub record Function : Type 0 where

@@ -1,7 +1,7 @@
 -- The typing of a module, or its first fault. Items are walked in source order: an item's types and names in the order
 -- of the text, then its body. The members of a class, and the variables of one declaration, are items of their own. Of
 -- several faults of one name the one that stands first in the list of rules is told.
-use Rattle.std.specs.Prelude.{ℕ, ◌+◌, ◌-◌, List, [], ◌∷◌, ◌++◌, Bool, ◌||◌, Option, Some, None, Ok, map, find, length, nat_eq, nat_le, if◌then◌else◌}
+use Rattle.std.specs.Prelude.{ℕ, ◌+◌, ◌-◌, List, [], ◌∷◌, ◌++◌, Bool, ◌||◌, Option, Some, None, Ok, map, length, nat_eq, nat_le, if◌then◌else◌}
 use Rattle.std.specs.List.{list_any}
 use Rattle.std.specs.Option.{is_some}
 use Rattle.std.specs.Str.{bytes_eq}
@@ -10,12 +10,11 @@ use Rattle.ash_tree.specs.Tree as written
 use Rattle.ash_typing.specs.declared.fault.Rule.TheVariants.{UnknownType, NameTaken, TypeMismatch, NoReturn, Misplaced, TooMany}
 use Rattle.ash_typing.specs.declared.types.Ty.{Ty}
 use Rattle.ash_typing.specs.declared.types.Ty.TheVariants as ty
-use Rattle.ash_typed.specs.declared.types.VarType.{VarType}
 use Rattle.ash_typed.specs.declared.types.ObjectType.{ObjectType}
 use Rattle.ash_typed.specs.declared.types.ObjectType.TheVariants.{Class as OfClass, Interface as OfInterface}
-use Rattle.ash_typing.specs.Types.{var_type, result_type}
+use Rattle.ash_typing.specs.Types.{result_type}
 use Rattle.ash_typing.specs.Checking.{Checking, ◌>>=◌, broken}
-use Rattle.ash_typing.specs.Environment.{Declared, Heads, Environment, with_locals, declares}
+use Rattle.ash_typing.specs.Environment.{Declared, type_declared, Heads, Environment, with_locals, declares, named_in}
 pub use Rattle.ash_typing.specs.Environment.{inside, seen}
 use Rattle.ash_typing.specs.Expressions.{is_void}
 use Rattle.ash_typing.specs.Heads.{object_named, heads}
@@ -38,7 +37,7 @@ pub record Names : Type 0 where
   pub room : ℕ
 
 abbrev pub is_taken : Names → List ℕ → Bool
-is_taken names name = is_some (find (host.takes_name name) names.registered) || list_any (bytes_eq name) names.taken
+is_taken names name = is_some (named_in names.registered name) || list_any (bytes_eq name) names.taken
 
 -- a name at this offset that was not taken, and is from now on
 unfoldable pub untaken : Names → ℕ → List ℕ → Checking Names
@@ -93,11 +92,8 @@ parameters_typed env before (p ∷ ps) = passed_ty p.of (ty_in env p.of) >>= λ 
 unfoldable pub returning : ℕ → Ty → List written.Stmt → Body → Checking Body
 returning at of statements body = if is_void of || returns_in statements then Ok body else broken NoReturn at
 
-abbrev pub type_of : Declared → VarType
-type_of v = var_type v.of
-
 unfoldable pub routine_typed : Environment → Ty → Routine → Checking Function
-routine_typed env of c = parameters_typed env [] c.parameters >>= λ locals. body_typed (with_locals env locals) of c.body >>= λ body. returning c.place.at of c.body body >>= λ done. Ok (record { name = c.name; line = c.place.line; result = result_type of; parameters = map type_of locals; body = done })
+routine_typed env of c = parameters_typed env [] c.parameters >>= λ locals. body_typed (with_locals env locals) of c.body >>= λ body. returning c.place.at of c.body body >>= λ done. Ok (record { name = c.name; line = c.place.line; result = result_type of; parameters = map type_declared locals; body = done })
 
 -- interfaces
 
@@ -107,7 +103,7 @@ pub record Signatures : Type 0 where
   pub methods : List Signature
 
 abbrev pub signature_of : List ℕ → Ty → List Declared → Signature
-signature_of name of parameters = record { name = name; result = result_type of; parameters = map type_of parameters }
+signature_of name of parameters = record { name = name; result = result_type of; parameters = map type_declared parameters }
 
 -- a method that an interface declares, behind those before it
 unfoldable pub signature_typed : Environment → Signatures → written.InterfaceMethod → Checking Signatures
