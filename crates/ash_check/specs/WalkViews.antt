@@ -23,7 +23,7 @@ use Rattle.ash_check.specs.declared.names.Names as names
 use Rattle.ash_check.specs.declared.routines.Routine as routine
 use Rattle.ash_check.specs.declared.interfaces.Signatures as signatures
 use Rattle.ash_check.specs.declared.implementations.Listed as listed
-use Rattle.ash_typing.specs.WrittenItems.{Routine}
+use Rattle.ash_tree.specs.Items.{Routine}
 
 abbrev pub registered_in : Option (Bor Registrations) → List host.Call
 registered_in None = []

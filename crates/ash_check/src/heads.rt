@@ -3,7 +3,7 @@
 ghost use Rattle.std.specs.Prelude.{◌≡◌, ◌++◌, map, IfOk, OnOk};
 ghost use Rattle.ash_registrations.specs.Registered.{registered};
 ghost use Rattle.ash_tree.specs.Views.{vars_of, parameter_of, function_of as written_function, member_of, type_name_of, interface_method_of, interface_of as written_interface, class_of as written_class, item_of, module_of};
-ghost use Rattle.ash_typing.specs.WrittenItems as by_kind;
+ghost use Rattle.ash_tree.specs.Items as by_kind;
 ghost use Rattle.ash_typing.specs.Heads as definition;
 ghost use Rattle.ash_expressions.specs.Views.{declared_of, function_of, interface_of, class_of, heads_of};
 

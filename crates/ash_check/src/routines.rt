@@ -2,7 +2,7 @@
 
 ghost use Rattle.std.specs.Prelude.{◌≡◌, [], map, option_map, IfOk};
 ghost use Rattle.ash_tree.specs.Views.{type_of, parameter_of, function_of as written_function};
-ghost use Rattle.ash_typing.specs.WrittenItems as items;
+ghost use Rattle.ash_tree.specs.Items as items;
 ghost use Rattle.ash_typing.specs.Environment.{type_declared};
 ghost use Rattle.ash_typing.specs.Items as definition;
 ghost use Rattle.ash_typed.specs.Modules.{function_of};

@@ -9,7 +9,7 @@ ghost use Rattle.ash_registry.specs.Calls.{Call};
 ghost use Rattle.ash_registry.specs.Registered.{registered};
 ghost use Rattle.ash_typed.specs.Modules.{Module as Typed};
 ghost use Rattle.ash_typing.specs.TypedModules.{IsFree};
-ghost use Rattle.ash_typing.specs.WrittenItems.{item_names};
+ghost use Rattle.ash_tree.specs.Items.{item_names};
 ghost use Rattle.ash_check.specs.Checks.{checked};
 ghost use Rattle.ash_meaning.specs.Checking.{Checking, Checks, items_checked, tokens_checked, checked_source, TakesToCheck};
 ghost use Rattle.ash_meaning.specs.Refusals.{refusal_of, NoMemory};

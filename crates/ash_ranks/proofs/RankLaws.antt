@@ -27,7 +27,7 @@ use Rattle.ash_typing.proofs.TypingKnown.{if_or}
 use Rattle.ash_typing.proofs.SoundnessNames.{first_place}
 use Rattle.ash_typing.proofs.SoundnessClasses.{first_passes, unmapped, classes_length}
 use Rattle.ash_typing.proofs.SoundnessSignatures.{same_signatures}
-use Rattle.ash_typing.specs.WrittenItems.{classes_of, fields_of}
+use Rattle.ash_tree.specs.Items.{classes_of, fields_of}
 
 -- lists
 
@@ -273,24 +273,16 @@ module _ (calls : List host.Call) (is : List written.Item) where
       let other = members_written h.1 to one.0.members h.4 (field_written h.1 one.0.members typed) in
       (other.0, other.1, (one.0, one.1, any_among (λ m. written_references.Holds m other.0) one.0.members other.2))
 
--- the classes are the same, by either definition
-same_classes : (is : List written.Item) → classes_of is ≡ written_references.classes_of is
-same_classes [] = refl
-same_classes (written.AClass c ∷ is) = ap (λ rest. c ∷ rest) (same_classes is)
-same_classes (written.AnInterface i ∷ is) = same_classes is
-same_classes (written.AFunction f ∷ is) = same_classes is
-same_classes (written.AGlobal v ∷ is) = same_classes is
-
-pub typed_refers : (calls : List host.Call) (is : List written.Item) (m : Module) → IsTyped calls is m → (from to : ℕ) → references.Refers (signatures.signatures_of (offered calls) m) from to → written_references.Refers (written_references.classes_of is) from to
-typed_refers calls is m typed from to h = subst (λ cs. written_references.Refers cs from to) (same_classes is) (refers_written calls is from to (subst (λ s. references.Refers s from to) (same_signatures calls is m typed) h))
+pub typed_refers : (calls : List host.Call) (is : List written.Item) (m : Module) → IsTyped calls is m → (from to : ℕ) → references.Refers (signatures.signatures_of (offered calls) m) from to → written_references.Refers (classes_of is) from to
+typed_refers calls is m typed from to h = refers_written calls is from to (subst (λ s. references.Refers s from to) (same_signatures calls is m typed) h)
 
 length-mapped : {A B : Type 0} (f : A → B) (xs : List A) → length (map f xs) ≡ length xs
 length-mapped f [] = refl
 length-mapped f (x ∷ xs) = ap suc (length-mapped f xs)
 
-pub typed_ranks : (calls : List host.Call) (is : List written.Item) (m : Module) → IsTyped calls is m → (ranks : List ℕ) → ways.AreRanks (written_references.Refers (written_references.classes_of is)) (length (written_references.classes_of is)) ranks → references.AreRanks (signatures.signatures_of (offered calls) m) ranks
+pub typed_ranks : (calls : List host.Call) (is : List written.Item) (m : Module) → IsTyped calls is m → (ranks : List ℕ) → ways.AreRanks (written_references.Refers (classes_of is)) (length (classes_of is)) ranks → references.AreRanks (signatures.signatures_of (offered calls) m) ranks
 typed_ranks calls is m typed ranks are =
-    let long : length (written_references.classes_of is) ≡ length (map signatures.signature_of_class m.classes) = sym (ap length (same_classes is)) ∙ sym (classes_length (environment calls is) 0 (classes_of is) m.classes typed.classes) ∙ sym (length-mapped signatures.signature_of_class m.classes) in
+    let long : length (classes_of is) ≡ length (map signatures.signature_of_class m.classes) = sym (classes_length (environment calls is) 0 (classes_of is) m.classes typed.classes) ∙ sym (length-mapped signatures.signature_of_class m.classes) in
     record {
       count = are.count ∙ long;
       within = subst (λ n. All (λ rank. rank < n) ranks) long are.within;

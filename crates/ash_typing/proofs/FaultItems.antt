@@ -23,7 +23,7 @@ use Rattle.ash_typing.proofs.FaultAnswers.{Answers, fine, faulty, Fine, bind, ei
 use Rattle.ash_typing.proofs.FaultStatements.{IsNamedAt, IsWrittenAt, named_at, written_at, variables_ty_in, decl_in, stmts_in}
 use Rattle.ash_typing.specs.Scopes.{body_scope}
 use Rattle.ash_typing.specs.Returning.{returns_in}
-use Rattle.ash_typing.specs.WrittenItems.{Routine, routine_of}
+use Rattle.ash_tree.specs.Items.{Routine, routine_of}
 use Rattle.ash_typing.specs.Implementations.{implemented}
 
 -- names

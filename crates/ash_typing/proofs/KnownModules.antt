@@ -24,7 +24,7 @@ use Rattle.ash_typing.proofs.TypedVariables.{known_sound}
 use Rattle.ash_typing.proofs.TypedRoutines.{passed_variable, parameters_sound, result_sound}
 use Rattle.ash_typing.proofs.TypedInterfaces.{interface_sound}
 use Rattle.ash_typing.proofs.TypedClasses.{named_sound}
-use Rattle.ash_typing.specs.WrittenItems.{Routine, routine_of, constructing, classes_of, interfaces_of, classes_before, functions_of, globals_of, fields_of, methods_of, constructors_of}
+use Rattle.ash_tree.specs.Items.{Routine, routine_of, constructing, classes_of, interfaces_of, classes_before, functions_of, globals_of, fields_of, methods_of, constructors_of}
 
 -- the types that are named, by what is looked up
 

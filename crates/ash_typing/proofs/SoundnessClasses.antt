@@ -17,7 +17,7 @@ use Rattle.ash_typing.specs.Types.{is_same, var_type, result_type}
 use Rattle.ash_typing.specs.Environment.{Environment, Function, Interface, Class, first_from, is_called, inside}
 use Rattle.ash_typing.specs.Heads.{object_named, ty_in}
 use Rattle.ash_typing.specs.Typing.{IsKnown, IsVariableType, IsKnownFunction, IsKnownInterface, IsKnownClass, is_known, IsDeclared}
-use Rattle.ash_typing.specs.WrittenItems.{constructing, member_names, fields_of, methods_of, constructors_of}
+use Rattle.ash_tree.specs.Items.{constructing, member_names, fields_of, methods_of, constructors_of}
 use Rattle.ash_typing.specs.Implementations.{are_same, has_types_of, matching, method_for, with_first, methods_for, methods_of_class, methods_of_interface, implemented}
 use Rattle.ash_typing.specs.TypedModules.{AreFields, IsFunction, IsListed, HasConstructor, IsClass, AreClasses}
 use Rattle.ash_typing.specs.Nesting.{ConstructorDeclaresInBlocks, ClassDeclaresInBlocks}

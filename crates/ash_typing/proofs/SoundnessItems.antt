@@ -27,7 +27,7 @@ use Rattle.ash_typing.proofs.TypedRoutines.{passed_known, passed_variable, types
 use Rattle.ash_typing.proofs.SoundnessVariables.{type_sound, declared_sound}
 use Rattle.ash_typing.proofs.SoundnessStatements.{stmts_sound}
 use Rattle.ash_typing.proofs.SoundnessReturning.{any_typed}
-use Rattle.ash_typing.specs.WrittenItems.{Routine, routine_of, classes_of, classes_before}
+use Rattle.ash_tree.specs.Items.{Routine, routine_of, classes_of, classes_before}
 
 -- parameters and results
 

@@ -7,7 +7,7 @@ use Rattle.ash_typed.specs.Modules as modules
 use Rattle.ash_typed.specs.Signatures as signatures
 use Rattle.ash_typed.specs.SoundModules as sound
 use Rattle.ash_typing.specs.Environment.{Environment}
-use Rattle.ash_typing.specs.WrittenItems.{classes_of, interfaces_of, classes_before, functions_of, globals_of, variable_names}
+use Rattle.ash_tree.specs.Items.{classes_of, interfaces_of, classes_before, functions_of, globals_of, variable_names}
 use Rattle.ash_typing.specs.Heads.{heads, ty_in}
 use Rattle.ash_typing.specs.Typing.{IsDeclared}
 use Rattle.ash_typing.specs.TypedModules.{AreVariables, environment, IsTyped}

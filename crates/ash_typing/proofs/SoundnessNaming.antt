@@ -12,7 +12,7 @@ use Rattle.ash_typing.specs.Heads.{ty_in}
 use Rattle.ash_typing.specs.Typing.{IsDeclared, declared as is_declared}
 use Rattle.ash_typing.specs.TypedModules.{AreVariables, IsFunction}
 use Rattle.ash_typing.proofs.TakenNames.{all_append, all_front, all_rest}
-use Rattle.ash_typing.specs.WrittenItems.{functions_of, globals_of, decl_name, names_of, variable_names, item_names}
+use Rattle.ash_tree.specs.Items.{functions_of, globals_of, decl_name, names_of, variable_names, item_names}
 
 abbrev Distinct : List (List ℕ) → Type 0
 Distinct = IsDistinct bytes_eq

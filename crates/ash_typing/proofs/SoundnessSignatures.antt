@@ -11,7 +11,7 @@ use Rattle.ash_typing.specs.declared.types.Ty.{Ty}
 use Rattle.ash_typing.specs.Types.{var_type, result_type}
 use Rattle.ash_typing.specs.Environment.{Environment, Declared, Heads, inside, type_declared}
 use Rattle.ash_typing.specs.Heads.{object_named, ty_named, result_named, declared, variables, parameter_ty, function_head, signature_head, interface_head, class_head, interface_place, with_place, listed_in, names_in, heads, ty_in, result_in, all_variables, constructed_by}
-use Rattle.ash_typing.specs.WrittenItems.{classes_of, interfaces_of, classes_before, functions_of, globals_of, fields_of, methods_of, constructors_of}
+use Rattle.ash_tree.specs.Items.{classes_of, interfaces_of, classes_before, functions_of, globals_of, fields_of, methods_of, constructors_of}
 use Rattle.ash_typing.specs.Typing.{IsDeclared, declared as is_declared}
 use Rattle.ash_typing.specs.TypedModules.{type_of_parameter, AreVariables, AreFields, IsFunction, IsSignature, IsInterface, AreInterfaces, IsListed, HasConstructor, IsClass, AreClasses, environment, IsTyped}
 use Rattle.ash_typing.specs.Offered.{offered}

@@ -17,7 +17,7 @@ use Rattle.ash_typing.proofs.TakenNames.{all_free, Distinct, grown, grown-none, 
 use Rattle.ash_typing.proofs.TypedVariables.{vars_sound, vars_complete}
 use Rattle.ash_typing.proofs.TypedInterfaces.{listed_with, listed_sound, listed_complete}
 use Rattle.ash_typing.proofs.TypedRoutines.{routine_sound, routine_complete, result_complete, function_sound}
-use Rattle.ash_typing.specs.WrittenItems.{Routine, routine_of, constructing, decl_name, names_of, fields_of, methods_of, constructors_of, member_names}
+use Rattle.ash_tree.specs.Items.{Routine, routine_of, constructing, decl_name, names_of, fields_of, methods_of, constructors_of, member_names}
 use Rattle.ash_typing.specs.Heads.{result_in}
 
 -- a class so far

@@ -15,7 +15,7 @@ use Rattle.ash_typing.proofs.TypedVariables.{vars_sound, vars_complete}
 use Rattle.ash_typing.proofs.TypedRoutines.{routine_complete, result_complete, function_sound}
 use Rattle.ash_typing.proofs.TypedInterfaces.{interface_sound, interface_complete}
 use Rattle.ash_typing.proofs.TypedClasses.{count_names, class_sound, class_complete}
-use Rattle.ash_typing.specs.WrittenItems.{routine_of, names_of, variable_names, item_names, classes_of, interfaces_of, classes_before, functions_of, globals_of}
+use Rattle.ash_tree.specs.Items.{routine_of, names_of, variable_names, item_names, classes_of, interfaces_of, classes_before, functions_of, globals_of}
 use Rattle.ash_typing.specs.Heads.{result_in}
 
 -- a module so far

@@ -25,7 +25,7 @@ use Rattle.ash_typing.proofs.StatementsSound.{stmts_sound}
 use Rattle.ash_typing.proofs.StatementsComplete.{stmts_complete}
 use Rattle.ash_typing.proofs.TakenNames.{Distinct, distinct_push, distinct_new}
 use Rattle.ash_typing.specs.Returning.{returns_in}
-use Rattle.ash_typing.specs.WrittenItems.{Routine, routine_of, parameter_name}
+use Rattle.ash_tree.specs.Items.{Routine, routine_of, parameter_name}
 
 -- what may be passed
 

@@ -20,7 +20,7 @@ use Rattle.ash_typing.specs.TypedModules.{AreVariables}
 use Rattle.ash_typing.proofs.Bindings.{no_err, ok_is, bind_ok, bind_is}
 use Rattle.ash_typing.proofs.TakenNames.{Distinct, grown, grown-none, grown-then, CanTake, takes_none, takes_then, takes_first, takes_rest, placed_sound, placed_complete}
 use Rattle.ash_typing.proofs.TypingVariables.{declared_sound, declared_complete}
-use Rattle.ash_typing.specs.WrittenItems.{decl_name, names_of}
+use Rattle.ash_tree.specs.Items.{decl_name, names_of}
 
 -- a type of variables
 

@@ -15,7 +15,7 @@ use Rattle.ash_typing.specs.declared.types.Ty.{Ty}
 use Rattle.ash_typing.specs.declared.types.Ty.TheVariants as ty
 use Rattle.ash_typing.specs.Types.{ty_of}
 use Rattle.ash_typing.specs.Environment.{Declared, Function, Interface, Class, Heads, first_from, is_class, is_interface_named, Environment}
-use Rattle.ash_typing.specs.WrittenItems.{classes_of, interfaces_of, functions_of, globals_of, fields_of, methods_of, constructors_of}
+use Rattle.ash_tree.specs.Items.{classes_of, interfaces_of, functions_of, globals_of, fields_of, methods_of, constructors_of}
 
 -- types by their names
 

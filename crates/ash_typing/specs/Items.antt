@@ -24,7 +24,7 @@ pub use Rattle.ash_typing.specs.Declarations.{at_type, at_type_name, known_ty}
 use Rattle.ash_typing.specs.Bodies.{Body, body_typed}
 use Rattle.ash_typed.specs.Modules.{Variables, Function, Signature, Interface, Implementation, Class, Module}
 use Rattle.ash_typing.specs.Returning.{returns_in}
-use Rattle.ash_typing.specs.WrittenItems.{Routine, routine_of, constructing}
+use Rattle.ash_tree.specs.Items.{Routine, routine_of, constructing}
 use Rattle.ash_typing.specs.Implementations.{implemented}
 
 -- names

@@ -3,7 +3,6 @@ pub mod Types
 pub mod Terms
 pub mod Environment
 pub mod Fitting
-pub mod WrittenItems
 pub mod Heads
 pub mod Scopes
 pub mod Returning

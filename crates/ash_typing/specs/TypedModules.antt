@@ -19,7 +19,7 @@ use Rattle.ash_typing.specs.TypedStatements.{AreStmts}
 use Rattle.ash_typed.specs.Modules.{Variables, Function, Signature, Interface, Implementation, Class, Module}
 use Rattle.ash_typing.specs.Scopes.{body_scope}
 use Rattle.ash_typing.specs.Returning.{returns_in}
-use Rattle.ash_typing.specs.WrittenItems.{Routine, routine_of, constructing, classes_of, interfaces_of, classes_before, functions_of, globals_of, fields_of, methods_of, constructors_of, variable_names, member_names, item_names, parameter_name}
+use Rattle.ash_tree.specs.Items.{Routine, routine_of, constructing, classes_of, interfaces_of, classes_before, functions_of, globals_of, fields_of, methods_of, constructors_of, variable_names, member_names, item_names, parameter_name}
 use Rattle.ash_typing.specs.Implementations.{implemented}
 
 -- names

@@ -2,7 +2,7 @@ use Rattle.std.proofs.Common.{◌≡◌, ◌++◌, map, drop}
 use Rattle.ash_registrations.specs.Registered.{registered}
 use Rattle.ash_tree.specs.Views.{item_of}
 use Rattle.ash_typing.specs.Heads.{class_head}
-use Rattle.ash_typing.specs.WrittenItems.{classes_of}
+use Rattle.ash_tree.specs.Items.{classes_of}
 use Rattle.ash_expressions.specs.Views.{class_of, heads_of}
 use Rattle.ash_check.proofs.heads.classes_of.Given as goal
 

@@ -2,7 +2,7 @@ use Rattle.std.proofs.Common.{◌≡◌, map, drop}
 use Rattle.ash_registrations.specs.Registered.{registered}
 use Rattle.ash_tree.specs.Views.{member_of}
 use Rattle.ash_typing.specs.Heads.{constructed_by}
-use Rattle.ash_typing.specs.WrittenItems.{constructors_of}
+use Rattle.ash_tree.specs.Items.{constructors_of}
 use Rattle.ash_expressions.specs.Views.{heads_of}
 use Rattle.ash_check.proofs.heads.construction.Given as goal
 

@@ -2,7 +2,7 @@ use Rattle.std.proofs.Common.{◌≡◌, ◌++◌, map, drop}
 use Rattle.ash_registrations.specs.Registered.{registered}
 use Rattle.ash_tree.specs.Views.{member_of}
 use Rattle.ash_typing.specs.Heads.{all_variables}
-use Rattle.ash_typing.specs.WrittenItems.{fields_of}
+use Rattle.ash_tree.specs.Items.{fields_of}
 use Rattle.ash_expressions.specs.Views.{declared_of, heads_of}
 use Rattle.ash_check.proofs.heads.fields.Given as goal
 

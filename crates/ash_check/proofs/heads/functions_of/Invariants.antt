@@ -2,7 +2,7 @@ use Rattle.std.proofs.Common.{◌≡◌, ◌++◌, map, drop}
 use Rattle.ash_registrations.specs.Registered.{registered}
 use Rattle.ash_tree.specs.Views.{item_of}
 use Rattle.ash_typing.specs.Heads.{function_head}
-use Rattle.ash_typing.specs.WrittenItems.{functions_of}
+use Rattle.ash_tree.specs.Items.{functions_of}
 use Rattle.ash_expressions.specs.Views.{function_of, heads_of}
 use Rattle.ash_check.proofs.heads.functions_of.Given as goal
 

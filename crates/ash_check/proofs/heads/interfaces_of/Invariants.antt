@@ -2,7 +2,7 @@ use Rattle.std.proofs.Common.{◌≡◌, ◌++◌, map, drop}
 use Rattle.ash_registrations.specs.Registered.{registered}
 use Rattle.ash_tree.specs.Views.{item_of}
 use Rattle.ash_typing.specs.Heads.{interface_head}
-use Rattle.ash_typing.specs.WrittenItems.{interfaces_of}
+use Rattle.ash_tree.specs.Items.{interfaces_of}
 use Rattle.ash_expressions.specs.Views.{interface_of, heads_of}
 use Rattle.ash_check.proofs.heads.interfaces_of.Given as goal
 

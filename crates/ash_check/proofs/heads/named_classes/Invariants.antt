@@ -1,7 +1,7 @@
 use Rattle.std.proofs.Common.{◌≡◌, ◌++◌, map, drop}
 use Rattle.ash_tree.specs.Views.{item_of}
 use Rattle.ash_typing.specs.Heads.{named_class}
-use Rattle.ash_typing.specs.WrittenItems.{classes_of}
+use Rattle.ash_tree.specs.Items.{classes_of}
 use Rattle.ash_expressions.specs.Views.{class_of}
 use Rattle.ash_check.proofs.heads.named_classes.Given as goal
 

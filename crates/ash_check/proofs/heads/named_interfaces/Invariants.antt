@@ -1,7 +1,7 @@
 use Rattle.std.proofs.Common.{◌≡◌, ◌++◌, map, drop}
 use Rattle.ash_tree.specs.Views.{item_of}
 use Rattle.ash_typing.specs.Heads.{named_interface}
-use Rattle.ash_typing.specs.WrittenItems.{interfaces_of}
+use Rattle.ash_tree.specs.Items.{interfaces_of}
 use Rattle.ash_expressions.specs.Views.{interface_of}
 use Rattle.ash_check.proofs.heads.named_interfaces.Given as goal
 
