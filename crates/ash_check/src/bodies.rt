@@ -4,7 +4,7 @@ ghost use Rattle.std.specs.Prelude.{◌≡◌, map};
 ghost use Rattle.ash_tree.specs.Views.{stmt_of};
 ghost use Rattle.ash_typing.specs.Environment.{with_locals};
 ghost use Rattle.ash_typing.specs.Returning as returning;
-ghost use Rattle.ash_typing.specs.Bodies as definition;
+ghost use Rattle.ash_typing.specs.Statements as definition;
 ghost use Rattle.ash_typed.specs.BodyViews.{body_of};
 ghost use Rattle.ash_expressions.specs.Gives.{Gives};
 ghost use Rattle.ash_expressions.specs.Views.{declared_of, environment_of};
@@ -18,7 +18,7 @@ use ash_typing::Ty;
 use std::alloc::Global;
 
 /// The body of a function that gives this type, whose parameters are the locals.
-#[tactic(auto, unfolding(ash_typing::specs::Bodies::body_typed))]
+#[tactic(auto, unfolding(ash_typing::specs::Statements::body_typed))]
 pub(crate) fn body_typed<'a>(
     alloc: Global,
     env: &Environment<'_, 'a>,

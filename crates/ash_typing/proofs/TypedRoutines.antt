@@ -15,7 +15,8 @@ use Rattle.ash_typing.specs.Environment.{Environment, Declared, with_locals, dec
 use Rattle.ash_typing.specs.Expressions.{is_void}
 use Rattle.ash_typing.specs.Heads.{object_named, array_named, object_ty, handle_ty, ty_named, ty_in, result_in}
 use Rattle.ash_typing.specs.Typing.{IsKnown, IsKnownType, IsVariableType, IsKnownVariable}
-use Rattle.ash_typing.specs.Bodies.{Body, body_typed}
+use Rattle.ash_typed.specs.StatementTree.{Body}
+use Rattle.ash_typing.specs.Statements.{body_typed}
 use Rattle.ash_typing.specs.Scopes.{body_scope}
 use Rattle.ash_typed.specs.Modules.{Function}
 use Rattle.ash_typing.specs.Items.{passed_ty, result_typed, parameters_typed, returning, routine_typed}

@@ -21,7 +21,8 @@ use Rattle.ash_typing.specs.Heads.{object_named, heads}
 pub use Rattle.ash_typing.specs.Heads.{ty_in}
 use Rattle.ash_typing.specs.Declarations.{Initialization, decl_typed}
 pub use Rattle.ash_typing.specs.Declarations.{at_type, at_type_name, known_ty}
-use Rattle.ash_typing.specs.Bodies.{Body, body_typed}
+use Rattle.ash_typed.specs.StatementTree.{Body}
+use Rattle.ash_typing.specs.Statements.{body_typed}
 use Rattle.ash_typed.specs.Modules.{Variables, Function, Signature, Interface, Implementation, Class, Module}
 use Rattle.ash_typing.specs.Returning.{returns_in}
 use Rattle.ash_tree.specs.Items.{Routine, routine_of, constructing}

@@ -14,7 +14,6 @@ pub mod Typing
 pub mod Switches
 pub mod Statements
 pub mod TypedStatements
-pub mod Bodies
 pub mod Items
 pub mod TypedModules
 pub mod FaultPlaces

@@ -12,13 +12,13 @@ use Rattle.ash_typing.specs.declared.types.Ty.TheVariants as ty
 use Rattle.ash_typing.specs.Checking.{Checking, ◌>>=◌, broken}
 use Rattle.ash_typed.specs.declared.tree.statements.Test.TheVariants.{First, Last}
 use Rattle.ash_typed.specs.Tree.{Expr}
-use Rattle.ash_typed.specs.StatementTree.{Initialization, Stmt, Empty, Declare, Evaluate, Block, If, no_branch, branch, Head, no_head, declared_head, evaluated_head, Repeat, For, repeated, Switch, Break, Continue, Return, Stmts, no_stmt, stmt, labelled, Cases, no_case, next_case}
+use Rattle.ash_typed.specs.StatementTree.{Initialization, Body, Stmt, Empty, Declare, Evaluate, Block, If, no_branch, branch, Head, no_head, declared_head, evaluated_head, Repeat, For, repeated, Switch, Break, Continue, Return, Stmts, no_stmt, stmt, labelled, Cases, no_case, next_case}
 use Rattle.ash_typing.specs.Environment.{Declared, Class, Environment}
 use Rattle.ash_typing.specs.Expressions.{Typed, typed, all_typed, fitted, integer_of, bool_of, is_void}
 use Rattle.ash_typing.specs.Heads.{declared, ty_in}
 use Rattle.ash_typing.specs.Declarations.{at_type, known_ty, decl_typed}
 use Rattle.ash_typing.specs.Switches.{kind_in, label_typed}
-use Rattle.ash_typing.specs.Scopes.{Scope, block_of, loop_of, switch_of, with_variables, behind, is_taken}
+use Rattle.ash_typing.specs.Scopes.{Scope, block_of, loop_of, switch_of, with_variables, behind, is_taken, body_scope}
 use Rattle.ash_typing.specs.Labels.{is_last}
 
 -- variables
@@ -130,3 +130,7 @@ abbrev mutual
   pub cases_typed : Scope → Option Kind → List Label → written.Cases → Checking Cases
   cases_typed scope kind before written.no_case = Ok no_case
   cases_typed scope kind before (written.next_case (written.labelled p l ss) cs) = label_typed kind before (is_last cs) p.at l >>= λ label. stmts_typed scope ss >>= λ body. cases_typed scope kind (before ++ l ∷ []) cs >>= λ rest. Ok (next_case (labelled label body) rest)
+
+-- the body of a function that gives this type; its parameters are the locals
+unfoldable pub body_typed : Environment → Ty → List written.Stmt → Checking Body
+body_typed env of body = stmts_typed (body_scope env of) (written.stmts body)
