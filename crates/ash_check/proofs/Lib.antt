@@ -1,5 +1,4 @@
 pub mod ReturnLaws
-pub mod ReturnTests
 pub mod CheckLaws
 pub mod StatementLaws
 pub mod NodeLaws

@@ -2,7 +2,7 @@
 use Rattle.std.proofs.Common.{◌≡◌, ◌<◌, ℕ, List, [], ◌∷◌, ◌++◌, false, Option, Some, None, length, drop, refl, sym, ap, append_assoc, arith}
 use Rattle.std.proofs.lemmas.List.{length-drop}
 use Rattle.ash_typing.specs.declared.types.Ty.{Ty}
-use Rattle.ash_typing.specs.Items.{are_same, with_first}
+use Rattle.ash_typing.specs.Implementations.{are_same, with_first}
 
 -- types
 

@@ -21,13 +21,15 @@ use Rattle.ash_typing.specs.Switches.{label_typed}
 use Rattle.ash_typing.specs.Checking.{Checking, ◌>>=◌}
 use Rattle.ash_typed.specs.StatementTree.{Initialization, Stmt, Block, Stmts, no_stmt, stmt, stmts, Case, labelled, Cases, no_case, next_case, cases}
 use Rattle.ash_typing.specs.Environment.{Declared}
-use Rattle.ash_typing.specs.Statements.{Scope, block_of, behind, stmt_typed, stmts_typed, cases_typed, is_last}
+use Rattle.ash_typing.specs.Statements.{stmt_typed, stmts_typed, cases_typed}
 use Rattle.ash_expressions.specs.declared.environment.Declared as code_declared
 use Rattle.ash_expressions.specs.declared.stop.Stop.{Stop}
 use Rattle.ash_expressions.specs.declared.stop.Stop.TheVariants as stops
 use Rattle.ash_expressions.specs.Gives.{Fails}
 use Rattle.ash_expressions.specs.Views.{declared_of}
 use Rattle.ash_check.proofs.ReturnLaws.{case_is}
+use Rattle.ash_typing.specs.Scopes.{Scope, block_of, behind}
+use Rattle.ash_typing.specs.Labels.{is_last}
 
 -- what was made before, with what is made of the rest
 

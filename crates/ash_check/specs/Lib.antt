@@ -1,5 +1,4 @@
 pub mod Told
 pub mod WalkViews
 pub mod StatementViews
-pub mod Returning
 pub mod Checks

@@ -10,7 +10,7 @@ use Rattle.ash_typed.specs.StatementTree.{Initialization, Stmts, Cases, cases}
 use Rattle.ash_typed.specs.BodyViews.{value_of, case_of, body_of}
 use Rattle.ash_typing.specs.Environment.{Declared}
 use Rattle.ash_typing.specs.Expressions.{Typed}
-use Rattle.ash_typing.specs.Statements.{Scope}
+use Rattle.ash_typing.specs.Scopes.{Scope}
 use Rattle.ash_expressions.specs.declared.environment.Declared as declared
 use Rattle.ash_expressions.specs.declared.typed.Typed as typed
 use Rattle.ash_expressions.specs.Views.{declared_of, heads_of, typed_of}

@@ -12,8 +12,8 @@ use Rattle.ash_typed.specs.Views.{expr_of}
 use Rattle.ash_typed.specs.declared.tree.expressions.Expr as typed_expr
 use Rattle.ash_tree.specs.Tree as written
 use Rattle.ash_typing.specs.Checking.{Checking, ◌>>=◌}
-use Rattle.ash_typing.specs.Environment.{Environment}
-use Rattle.ash_typing.specs.Items.{Names, Routine, Row, Signatures, Listed, Members, Walked, inside, no_members, members_typed, class_of_members}
+use Rattle.ash_typing.specs.Environment.{Environment, inside}
+use Rattle.ash_typing.specs.Items.{Names, Row, Signatures, Listed, Members, Walked, no_members, members_typed, class_of_members}
 use Rattle.ash_typed.specs.Modules.{Implementation, Class, variables_of, signature_of, implementation_of, class_of, module_of}
 use Rattle.ash_typed.specs.declared.tree.items.Variables as variables
 use Rattle.ash_typed.specs.declared.tree.items.Class as class
@@ -23,6 +23,7 @@ use Rattle.ash_check.specs.declared.names.Names as names
 use Rattle.ash_check.specs.declared.routines.Routine as routine
 use Rattle.ash_check.specs.declared.interfaces.Signatures as signatures
 use Rattle.ash_check.specs.declared.implementations.Listed as listed
+use Rattle.ash_tree.specs.Items.{Routine}
 
 abbrev pub registered_in : Option (Bor Registrations) → List host.Call
 registered_in None = []

@@ -1,13 +1,13 @@
 //! Bodies of functions.
 
-ghost use Rattle.std.specs.Prelude.{◌≡◌, ◌↔◌, IsTrue, map};
-ghost use Rattle.ash_tree.specs.Tree.{stmts};
+ghost use Rattle.std.specs.Prelude.{◌≡◌, map};
 ghost use Rattle.ash_tree.specs.Views.{stmt_of};
-ghost use Rattle.ash_typing.specs.Bodies as definition;
+ghost use Rattle.ash_typing.specs.Environment.{with_locals};
+ghost use Rattle.ash_typing.specs.Returning as returning;
+ghost use Rattle.ash_typing.specs.Statements as definition;
 ghost use Rattle.ash_typed.specs.BodyViews.{body_of};
 ghost use Rattle.ash_expressions.specs.Gives.{Gives};
 ghost use Rattle.ash_expressions.specs.Views.{declared_of, environment_of};
-ghost use Rattle.ash_check.specs.Returning.{ReturnsIn};
 
 use crate::returning::any_returns;
 use crate::scopes::Scope;
@@ -18,7 +18,7 @@ use ash_typing::Ty;
 use std::alloc::Global;
 
 /// The body of a function that gives this type, whose parameters are the locals.
-#[tactic(auto, unfolding(ash_typing::specs::Bodies::body_typed))]
+#[tactic(auto, unfolding(ash_typing::specs::Statements::body_typed))]
 pub(crate) fn body_typed<'a>(
     alloc: Global,
     env: &Environment<'_, 'a>,
@@ -26,7 +26,7 @@ pub(crate) fn body_typed<'a>(
     of: Ty,
     body: &'a [Stmt],
 ) -> Checking<Vec<ash_typed::Stmt>>
-    ensures { Gives (λ b. body_of b.items) result (definition.body_typed (definition.with_locals (environment_of env.now) (map declared_of locals.entry.items)) of (map stmt_of body.now)) }
+    ensures { Gives (λ b. body_of b.items) result (definition.body_typed (with_locals (environment_of env.now) (map declared_of locals.entry.items)) of (map stmt_of body.now)) }
 {
     let scope = Scope {
         heads: env.heads,
@@ -41,9 +41,9 @@ pub(crate) fn body_typed<'a>(
 }
 
 /// Whether a body returns, however its conditions turn out.
+#[tactic(auto, unfolding(ash_typing::specs::Returning::returns_in))]
 pub(crate) fn body_returns(body: &[Stmt]) -> bool
-    ensures value { result ≡ definition.returns_in (map stmt_of body.now) }
-    ensures meaning { IsTrue result ↔ ReturnsIn (stmts (map stmt_of body.now)) }
+    ensures { result ≡ returning.returns_in (map stmt_of body.now) }
 {
     any_returns(body)
 }

@@ -5,6 +5,8 @@ ghost use Rattle.ash_registrations.specs.Registered.{registered};
 ghost use Rattle.ash_tree.specs.Tree.{place_of_type};
 ghost use Rattle.ash_tree.specs.Views.{element_of, type_of, initializer_of, decl_of};
 ghost use Rattle.ash_typed.specs.BodyViews.{value_of};
+ghost use Rattle.ash_typing.specs.Environment as environment;
+ghost use Rattle.ash_typing.specs.Heads as heads;
 ghost use Rattle.ash_typing.specs.Expressions as typing;
 ghost use Rattle.ash_typing.specs.Declarations as definition;
 ghost use Rattle.ash_expressions.specs.Gives.{Gives};
@@ -29,7 +31,7 @@ pub(crate) fn place_of(of: &Type) -> Place
 
 /// The type that is written.
 pub(crate) fn ty_in(env: &Environment, of: &Type) -> Ty
-    ensures { result ≡ definition.ty_in (environment_of env.now) (type_of of.now) }
+    ensures { result ≡ heads.ty_in (environment_of env.now) (type_of of.now) }
 {
     ty_named(env.registry, env.heads, of)
 }
@@ -65,9 +67,9 @@ pub(crate) fn known(written: &Type, of: Ty) -> Checking<Ty>
     }
 }
 
-#[tactic(auto, unfolding(ash_typing::specs::Declarations::class_construction))]
+#[tactic(auto, unfolding(ash_typing::specs::Environment::class_construction))]
 fn class_construction<'a>(env: &Environment<'a, '_>, place: usize) -> Option<Callee<'a>>
-    ensures { option_map callee_of result ≡ definition.class_construction (map class_of env.now.heads.now.classes.items) place }
+    ensures { option_map callee_of result ≡ environment.class_construction (map class_of env.now.heads.now.classes.items) place }
 {
     let class = env.heads.classes.get(place)?;
     Some(Callee {
@@ -77,18 +79,18 @@ fn class_construction<'a>(env: &Environment<'a, '_>, place: usize) -> Option<Cal
     })
 }
 
-#[tactic(auto, unfolding(ash_typing::specs::Declarations::kind_construction))]
+#[tactic(auto, unfolding(ash_typing::specs::Environment::kind_construction))]
 fn kind_construction<'a>(env: &Environment<'a, '_>, kind: u16) -> Option<Callee<'a>>
-    ensures { option_map callee_of result ≡ definition.kind_construction (registered env.now.registry.now) kind }
+    ensures { option_map callee_of result ≡ environment.kind_construction (registered env.now.registry.now) kind }
 {
     let call = env.registry.of_kind(kind)?;
     env.host_type(call)
 }
 
 /// The construction of an object by so many arguments.
-#[tactic(auto, unfolding(ash_typing::specs::Declarations::construction))]
+#[tactic(auto, unfolding(ash_typing::specs::Environment::construction))]
 fn construction<'a>(env: &Environment<'a, '_>, of: ObjectType, count: usize) -> Option<Callee<'a>>
-    ensures { option_map callee_of result ≡ definition.construction (environment_of env.now) of count }
+    ensures { option_map callee_of result ≡ environment.construction (environment_of env.now) of count }
 {
     match of {
         ObjectType::Class(place) => class_construction(env, place),

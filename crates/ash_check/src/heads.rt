@@ -3,6 +3,7 @@
 ghost use Rattle.std.specs.Prelude.{◌≡◌, ◌++◌, map, IfOk, OnOk};
 ghost use Rattle.ash_registrations.specs.Registered.{registered};
 ghost use Rattle.ash_tree.specs.Views.{vars_of, parameter_of, function_of as written_function, member_of, type_name_of, interface_method_of, interface_of as written_interface, class_of as written_class, item_of, module_of};
+ghost use Rattle.ash_tree.specs.Items as by_kind;
 ghost use Rattle.ash_typing.specs.Heads as definition;
 ghost use Rattle.ash_expressions.specs.Views.{declared_of, function_of, interface_of, class_of, heads_of};
 
@@ -117,7 +118,7 @@ fn fields<'a>(
     named: &Heads,
     members: &'a [Member],
 ) -> Result<Vec<Declared<'a>>, AllocError>
-    ensures { IfOk result (λ all. map declared_of all.items ≡ definition.fields_in (registered registry.now) (heads_of named.now) (map member_of members.now)) }
+    ensures { IfOk result (λ all. map declared_of all.items ≡ definition.all_variables (registered registry.now) (heads_of named.now) (by_kind.fields_of (map member_of members.now))) }
 {
     let mut all = Vec::new(alloc);
     for member in members {
@@ -134,7 +135,7 @@ fn methods<'a>(
     named: &Heads,
     members: &'a [Member],
 ) -> Result<Vec<Function<'a>>, AllocError>
-    ensures { IfOk result (λ all. map function_of all.items ≡ definition.methods_in (registered registry.now) (heads_of named.now) (map member_of members.now)) }
+    ensures { IfOk result (λ all. map function_of all.items ≡ map (definition.function_head (registered registry.now) (heads_of named.now)) (by_kind.methods_of (map member_of members.now))) }
 {
     let mut all = Vec::new(alloc);
     for member in members {
@@ -152,7 +153,7 @@ fn construction(
     named: &Heads,
     members: &[Member],
 ) -> Result<Vec<Ty>, AllocError>
-    ensures { IfOk result (λ types. types.items ≡ definition.construction_in (registered registry.now) (heads_of named.now) (map member_of members.now)) }
+    ensures { IfOk result (λ types. types.items ≡ definition.constructed_by (registered registry.now) (heads_of named.now) (by_kind.constructors_of (map member_of members.now))) }
 {
     for member in members {
         if let Member::Constructor(constructor) = member {
@@ -213,7 +214,7 @@ fn class_head<'a>(
 
 /// The interfaces by their names alone.
 fn named_interfaces(alloc: Global, items: &[Item]) -> Result<Vec<Interface<'_>>, AllocError>
-    ensures { IfOk result (λ all. map interface_of all.items ≡ definition.named_interfaces (map item_of items.now)) }
+    ensures { IfOk result (λ all. map interface_of all.items ≡ map definition.named_interface (by_kind.interfaces_of (map item_of items.now))) }
 {
     let mut all = Vec::new(alloc);
     for item in items {
@@ -229,7 +230,7 @@ fn named_interfaces(alloc: Global, items: &[Item]) -> Result<Vec<Interface<'_>>,
 
 /// The classes by their names alone.
 fn named_classes(alloc: Global, items: &[Item]) -> Result<Vec<Class<'_>>, AllocError>
-    ensures { IfOk result (λ all. map class_of all.items ≡ definition.named_classes (map item_of items.now)) }
+    ensures { IfOk result (λ all. map class_of all.items ≡ map definition.named_class (by_kind.classes_of (map item_of items.now))) }
 {
     let mut all = Vec::new(alloc);
     for item in items {
@@ -252,7 +253,7 @@ fn interfaces_of<'a>(
     named: &Heads,
     items: &'a [Item],
 ) -> Result<Vec<Interface<'a>>, AllocError>
-    ensures { IfOk result (λ all. map interface_of all.items ≡ definition.interfaces_in (registered registry.now) (heads_of named.now) (map item_of items.now)) }
+    ensures { IfOk result (λ all. map interface_of all.items ≡ map (definition.interface_head (registered registry.now) (heads_of named.now)) (by_kind.interfaces_of (map item_of items.now))) }
 {
     let mut all = Vec::new(alloc);
     for item in items {
@@ -269,7 +270,7 @@ fn classes_of<'a>(
     named: &Heads,
     items: &'a [Item],
 ) -> Result<Vec<Class<'a>>, AllocError>
-    ensures { IfOk result (λ all. map class_of all.items ≡ definition.classes_in (registered registry.now) (heads_of named.now) (map item_of items.now)) }
+    ensures { IfOk result (λ all. map class_of all.items ≡ map (definition.class_head (registered registry.now) (heads_of named.now)) (by_kind.classes_of (map item_of items.now))) }
 {
     let mut all = Vec::new(alloc);
     for item in items {
@@ -286,7 +287,7 @@ fn functions_of<'a>(
     named: &Heads,
     items: &'a [Item],
 ) -> Result<Vec<Function<'a>>, AllocError>
-    ensures { IfOk result (λ all. map function_of all.items ≡ definition.functions_in (registered registry.now) (heads_of named.now) (map item_of items.now)) }
+    ensures { IfOk result (λ all. map function_of all.items ≡ map (definition.function_head (registered registry.now) (heads_of named.now)) (by_kind.functions_of (map item_of items.now))) }
 {
     let mut all = Vec::new(alloc);
     for item in items {
@@ -303,7 +304,7 @@ fn globals_of<'a>(
     named: &Heads,
     items: &'a [Item],
 ) -> Result<Vec<Declared<'a>>, AllocError>
-    ensures { IfOk result (λ all. map declared_of all.items ≡ definition.globals_in (registered registry.now) (heads_of named.now) (map item_of items.now)) }
+    ensures { IfOk result (λ all. map declared_of all.items ≡ definition.all_variables (registered registry.now) (heads_of named.now) (by_kind.globals_of (map item_of items.now))) }
 {
     let mut all = Vec::new(alloc);
     for item in items {

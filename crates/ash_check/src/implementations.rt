@@ -2,6 +2,7 @@
 
 ghost use Rattle.std.specs.Prelude.{◌≡◌, map, option_map, IfOk};
 ghost use Rattle.ash_tree.specs.Views.{type_name_of};
+ghost use Rattle.ash_typing.specs.Implementations as implementing;
 ghost use Rattle.ash_typing.specs.Items as definition;
 ghost use Rattle.ash_typed.specs.Modules.{implementation_of};
 ghost use Rattle.ash_expressions.specs.Gives.{Gives};
@@ -30,7 +31,7 @@ fn listed_at(at: usize, object: Option<ObjectType>) -> Checking<usize>
 }
 
 fn are_same(some: &[Ty], others: &[Ty]) -> bool
-    ensures { result ≡ definition.are_same some.now others.now }
+    ensures { result ≡ implementing.are_same some.now others.now }
 {
     let mut rest = others;
     for of in some {
@@ -47,14 +48,14 @@ fn are_same(some: &[Ty], others: &[Ty]) -> bool
 
 /// Whether a method has the result and the parameters of another.
 fn has_types_of(one: &Function, other: &Function) -> bool
-    ensures { result ≡ definition.has_types_of (function_of one.now) (function_of other.now) }
+    ensures { result ≡ implementing.has_types_of (function_of one.now) (function_of other.now) }
 {
     is_same(one.result, other.result) && are_same(&one.parameters, &other.parameters)
 }
 
 /// The place of the method of a class that a method of an interface runs.
 fn matching(method: &Function, found: Option<(usize, &Function)>) -> Option<usize>
-    ensures { result ≡ definition.matching (function_of method.now) (option_map placed_function found.entry) }
+    ensures { result ≡ implementing.matching (function_of method.now) (option_map placed_function found.entry) }
 {
     match found {
         Some((place, other)) if has_types_of(method, other) => Some(place),
@@ -62,9 +63,9 @@ fn matching(method: &Function, found: Option<(usize, &Function)>) -> Option<usiz
     }
 }
 
-#[tactic(auto, unfolding(ash_typing::specs::Items::method_for))]
+#[tactic(auto, unfolding(ash_typing::specs::Implementations::method_for))]
 fn method_for(methods: &[Function], method: &Function) -> Option<usize>
-    ensures { result ≡ definition.method_for (map function_of methods.now) (function_of method.now) }
+    ensures { result ≡ implementing.method_for (map function_of methods.now) (function_of method.now) }
 {
     matching(method, first_function(methods, method.name))
 }
@@ -76,7 +77,7 @@ fn methods_for(
     methods: &[Function],
     declared: &[Function],
 ) -> Result<Option<Vec<usize>>, AllocError>
-    ensures { IfOk result (λ places. maybe_places places ≡ definition.methods_for (map function_of methods.now) (map function_of declared.now)) }
+    ensures { IfOk result (λ places. maybe_places places ≡ implementing.methods_for (map function_of methods.now) (map function_of declared.now)) }
 {
     let mut places = Vec::with_capacity(alloc, declared.len())?;
     for method in declared {
@@ -89,14 +90,14 @@ fn methods_for(
 }
 
 /// The class of this place has the methods of the interface of that place.
-#[tactic(auto, unfolding(ash_typing::specs::Items::implemented))]
+#[tactic(auto, unfolding(ash_typing::specs::Implementations::implemented))]
 fn implemented(
     alloc: Global,
     env: &Environment,
     class: usize,
     interface: usize,
 ) -> Result<Option<Vec<usize>>, AllocError>
-    ensures { IfOk result (λ places. maybe_places places ≡ definition.implemented (environment_of env.now) class interface) }
+    ensures { IfOk result (λ places. maybe_places places ≡ implementing.implemented (environment_of env.now) class interface) }
 {
     let Some(interface) = env.heads.interfaces.get(interface) else {
         return Ok(Some(Vec::new(alloc)));

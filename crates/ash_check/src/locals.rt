@@ -3,6 +3,7 @@
 ghost use Rattle.std.specs.Prelude.{◌≡◌, ◌++◌, map, IfOk};
 ghost use Rattle.ash_tree.specs.Views.{decl_of, vars_of};
 ghost use Rattle.ash_typing.specs.Heads.{declared};
+ghost use Rattle.ash_typing.specs.Scopes as scopes;
 ghost use Rattle.ash_typing.specs.Statements as definition;
 ghost use Rattle.ash_expressions.specs.Gives.{Gives};
 ghost use Rattle.ash_check.specs.StatementViews.{locals_of, scope_of, values_of};
@@ -47,7 +48,7 @@ pub(crate) fn vars_typed<'n>(
     vars: &'n Vars,
 ) -> Checking<Vec<Initialization>>
     ensures typed { Gives values_of result (definition.vars_typed (scope_of scope.now (locals_of locals.old)) (vars_of vars.now)) }
-    ensures seen { IfOk result (λ _. locals_of locals.new ≡ locals_of locals.old ++ definition.declared_in (scope_of scope.now (locals_of locals.old)) (vars_of vars.now)) }
+    ensures seen { IfOk result (λ _. locals_of locals.new ≡ locals_of locals.old ++ scopes.declared_in (scope_of scope.now (locals_of locals.old)) (vars_of vars.now)) }
 {
     let place = place_of(&vars.of);
     let env = (&*scope).environment(locals);

@@ -4,6 +4,7 @@ ghost use Rattle.std.specs.Prelude.{◌≡◌, Ok, map, option_map, IfOk};
 ghost use Rattle.ash_tree.specs.Views as written;
 ghost use Rattle.ash_typed.specs.Views.{expr_of};
 ghost use Rattle.ash_typed.specs.BodyViews.{stmt_of, head_of};
+ghost use Rattle.ash_typing.specs.Scopes as scopes;
 ghost use Rattle.ash_typing.specs.Statements as definition;
 ghost use Rattle.ash_expressions.specs.Gives.{Gives};
 ghost use Rattle.ash_expressions.specs.Views.{environment_of, typed_of, all_typed_of};
@@ -28,7 +29,7 @@ pub(crate) fn head_typed<'n>(
     source: &'n Source,
 ) -> Checking<Head>
     ensures typed { Gives head_of result (definition.head_typed (scope_of scope.now (locals_of locals.old)) (written.stmt_of source.now)) }
-    ensures seen { IfOk result (λ _. scope_of scope.now (locals_of locals.new) ≡ definition.behind (scope_of scope.now (locals_of locals.old)) (written.stmt_of source.now)) }
+    ensures seen { IfOk result (λ _. scope_of scope.now (locals_of locals.new) ≡ scopes.behind (scope_of scope.now (locals_of locals.old)) (written.stmt_of source.now)) }
 {
     let at = source.place.at;
     match &source.kind {

@@ -1,15 +1,16 @@
 //! Which statements return, however their conditions turn out.
 
-ghost use Rattle.std.specs.Prelude.{◌≡◌, ◌↔◌, map, IsTrue};
+ghost use Rattle.std.specs.Prelude.{◌≡◌, map};
 ghost use Rattle.ash_tree.specs.Tree.{stmts, cases};
 ghost use Rattle.ash_tree.specs.Views.{stmt_of, case_of};
-ghost use Rattle.ash_check.specs.Returning.{Breaks, BreaksIn, BreaksOut, HasDefault, Returns, ReturnsIn, ReturnsLast};
+ghost use Rattle.ash_typing.specs.Returning as definition;
 
 use ash_tree::{Case, Label, Stmt, StmtKind};
 
 #[cycle(breaking)]
+#[tactic(auto, using(ash_tree::proofs::Rows::block_is, crate::proofs::ReturnLaws::if_is, crate::proofs::ReturnLaws::if_else_is))]
 fn breaks(stmt: &Stmt) -> bool
-    ensures { IsTrue result ↔ Breaks (stmt_of stmt.now) }
+    ensures { result ≡ definition.breaks (stmt_of stmt.now) }
 {
     match &stmt.kind {
         StmtKind::Break => true,
@@ -26,7 +27,7 @@ fn breaks(stmt: &Stmt) -> bool
 
 #[cycle(breaking)]
 fn any_breaks(body: &[Stmt]) -> bool
-    ensures { IsTrue result ↔ BreaksIn (stmts (map stmt_of body.now)) }
+    ensures { result ≡ definition.any_breaks (stmts (map stmt_of body.now)) }
 {
     for stmt in body {
         if breaks(stmt) {
@@ -36,8 +37,9 @@ fn any_breaks(body: &[Stmt]) -> bool
     false
 }
 
+#[tactic(auto, using(crate::proofs::ReturnLaws::case_is))]
 fn breaks_out(labels: &[Case]) -> bool
-    ensures { IsTrue result ↔ BreaksOut (cases (map case_of labels.now)) }
+    ensures { result ≡ definition.breaks_out (cases (map case_of labels.now)) }
 {
     for case in labels {
         if any_breaks(&case.body) {
@@ -48,13 +50,14 @@ fn breaks_out(labels: &[Case]) -> bool
 }
 
 fn is_default(label: Label) -> bool
-    ensures { IsTrue result ↔ (label ≡ Label.Default) }
+    ensures { result ≡ definition.is_default label }
 {
     matches!(label, Label::Default)
 }
 
+#[tactic(auto, using(crate::proofs::ReturnLaws::case_is))]
 fn has_default(labels: &[Case]) -> bool
-    ensures { IsTrue result ↔ HasDefault (cases (map case_of labels.now)) }
+    ensures { result ≡ definition.has_default (cases (map case_of labels.now)) }
 {
     for case in labels {
         if is_default(case.label) {
@@ -66,8 +69,9 @@ fn has_default(labels: &[Case]) -> bool
 
 /// Whether a statement returns.
 #[cycle(returning)]
+#[tactic(auto, using(ash_tree::proofs::Rows::block_is, ash_tree::proofs::Rows::switch_is, crate::proofs::ReturnLaws::if_else_is))]
 fn returns(stmt: &Stmt) -> bool
-    ensures { IsTrue result ↔ Returns (stmt_of stmt.now) }
+    ensures { result ≡ definition.returns (stmt_of stmt.now) }
 {
     match &stmt.kind {
         StmtKind::Return(_) => true,
@@ -87,7 +91,7 @@ fn returns(stmt: &Stmt) -> bool
 /// Whether one of the statements of a body returns.
 #[cycle(returning)]
 pub(crate) fn any_returns(body: &[Stmt]) -> bool
-    ensures { IsTrue result ↔ ReturnsIn (stmts (map stmt_of body.now)) }
+    ensures { result ≡ definition.any_returns (stmts (map stmt_of body.now)) }
 {
     for stmt in body {
         if returns(stmt) {
@@ -98,8 +102,9 @@ pub(crate) fn any_returns(body: &[Stmt]) -> bool
 }
 
 #[cycle(returning)]
+#[tactic(auto, using(crate::proofs::ReturnLaws::last_is))]
 fn last_returns(labels: &[Case]) -> bool
-    ensures { IsTrue result ↔ ReturnsLast (cases (map case_of labels.now)) }
+    ensures { result ≡ definition.last_returns (cases (map case_of labels.now)) }
 {
     match labels.last() {
         Some(case) => any_returns(&case.body),

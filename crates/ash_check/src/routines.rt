@@ -2,6 +2,8 @@
 
 ghost use Rattle.std.specs.Prelude.{◌≡◌, [], map, option_map, IfOk};
 ghost use Rattle.ash_tree.specs.Views.{type_of, parameter_of, function_of as written_function};
+ghost use Rattle.ash_tree.specs.Items as items;
+ghost use Rattle.ash_typing.specs.Environment.{type_declared};
 ghost use Rattle.ash_typing.specs.Items as definition;
 ghost use Rattle.ash_typed.specs.Modules.{function_of};
 ghost use Rattle.ash_expressions.specs.Gives.{Gives};
@@ -69,7 +71,7 @@ pub(crate) fn parameters_typed<'a>(
 }
 
 pub(crate) fn types_of(alloc: Global, all: &[Declared]) -> Result<Vec<VarType>, AllocError>
-    ensures { IfOk result (λ types. types.items ≡ map definition.type_of (map declared_of all.now)) }
+    ensures { IfOk result (λ types. types.items ≡ map type_declared (map declared_of all.now)) }
 {
     let mut types = Vec::new(alloc);
     for declared in all {
@@ -105,7 +107,7 @@ pub(crate) fn routine_typed<'a>(
 
 /// A function, a method or a constructor, without its result.
 pub(crate) fn as_routine(function: &ash_tree::Function) -> Routine<'_>
-    ensures { routine_of result ≡ definition.routine_of (written_function function.now) }
+    ensures { routine_of result ≡ items.routine_of (written_function function.now) }
 {
     Routine {
         place: function.place,

@@ -5,6 +5,7 @@ ghost use Rattle.std.specs.List.{list_any};
 ghost use Rattle.ash_tree.specs.Views.{decl_of};
 ghost use Rattle.ash_typing.specs.Environment.{declares};
 ghost use Rattle.ash_typing.specs.Heads.{declared};
+ghost use Rattle.ash_typing.specs.Scopes as scopes;
 ghost use Rattle.ash_typing.specs.Statements as definition;
 ghost use Rattle.ash_expressions.specs.Gives.{Gives};
 ghost use Rattle.ash_expressions.specs.Views.{declared_of, environment_of};
@@ -67,7 +68,7 @@ impl<'a, 'n> Scope<'a, 'n> {
     }
 
     fn is_taken(&self, locals: &[Declared], name: &str) -> bool
-        ensures { result ≡ definition.is_taken (scope_of self.now (map declared_of locals.now)) name.now }
+        ensures { result ≡ scopes.is_taken (scope_of self.now (map declared_of locals.now)) name.now }
     {
         any_declares(of_block(locals, self.first), name)
     }

@@ -4,6 +4,7 @@ ghost use Rattle.std.specs.Prelude.{◌≡◌, [], map, option_map, IfOk};
 ghost use Rattle.ash_tree.specs.Tree.{Declare, Evaluate, Block, If, IfElse, While, DoWhile, For, Switch, stmts, cases};
 ghost use Rattle.ash_tree.specs.Views as written;
 ghost use Rattle.ash_typed.specs.BodyViews.{stmt_of};
+ghost use Rattle.ash_typing.specs.Scopes as scopes;
 ghost use Rattle.ash_typing.specs.Statements as definition;
 ghost use Rattle.ash_expressions.specs.Gives.{Gives};
 ghost use Rattle.ash_check.specs.StatementViews.{locals_of, scope_of, stmts_in, cases_in};
@@ -29,7 +30,7 @@ fn statement<'n>(
     source: &'n Stmt,
 ) -> Checking<TypedStmt>
     ensures typed { Gives stmt_of result (definition.stmt_typed (scope_of scope.now (locals_of locals.old)) (written.stmt_of source.now)) }
-    ensures seen { IfOk result (λ _. scope_of scope.now (locals_of locals.new) ≡ definition.behind (scope_of scope.now (locals_of locals.old)) (written.stmt_of source.now)) }
+    ensures seen { IfOk result (λ _. scope_of scope.now (locals_of locals.new) ≡ scopes.behind (scope_of scope.now (locals_of locals.old)) (written.stmt_of source.now)) }
 {
     let place = source.place;
     match &source.kind {
@@ -78,7 +79,7 @@ fn declaration<'n>(
     vars: &'n Vars,
 ) -> Checking<TypedStmt>
     ensures typed { Gives stmt_of result (definition.stmt_typed (scope_of scope.now (locals_of locals.old)) (Declare place (written.vars_of vars.now))) }
-    ensures seen { IfOk result (λ _. scope_of scope.now (locals_of locals.new) ≡ definition.behind (scope_of scope.now (locals_of locals.old)) (Declare place (written.vars_of vars.now))) }
+    ensures seen { IfOk result (λ _. scope_of scope.now (locals_of locals.new) ≡ scopes.behind (scope_of scope.now (locals_of locals.old)) (Declare place (written.vars_of vars.now))) }
 {
     let values = vars_typed(alloc, scope, locals, vars)?;
     Ok(TypedStmt {

@@ -4,7 +4,7 @@ ghost use Rattle.std.specs.Prelude.{◌≡◌, ◌<◌, ◌+◌, length, map, dr
 ghost use Rattle.std.specs.List.{list_any};
 ghost use Rattle.ash_tree.specs.Tree.{cases};
 ghost use Rattle.ash_tree.specs.Views.{case_of};
-ghost use Rattle.ash_typing.specs.Statements as walk;
+ghost use Rattle.ash_typing.specs.Labels as constants;
 ghost use Rattle.ash_typing.specs.Switches as definition;
 ghost use Rattle.ash_expressions.specs.Gives.{Gives};
 
@@ -25,7 +25,7 @@ pub(crate) fn kind_in(of: Ty) -> Option<Kind>
 
 /// Whether a type holds what is this much below zero.
 fn holds_minus(kind: Kind, number: u64) -> bool
-    ensures { result ≡ definition.holds_minus kind number }
+    ensures { result ≡ constants.holds_minus kind number }
 {
     match kind {
         Kind::Int => number <= 1 << 31,
@@ -48,7 +48,7 @@ fn is_within(kind: Option<Kind>, label: Label) -> bool
 
 /// Whether two labels have equal constants: `-0` is `0`.
 fn is_same_constant(one: Label, other: Label) -> bool
-    ensures { result ≡ definition.is_same_constant one other }
+    ensures { result ≡ constants.is_same_constant one other }
 {
     match (one, other) {
         (Label::Case(m), Label::Case(n)) | (Label::CaseMinus(m), Label::CaseMinus(n)) => m == n,
@@ -60,7 +60,7 @@ fn is_same_constant(one: Label, other: Label) -> bool
 }
 
 fn any_is_same(before: &[Label], label: Label) -> bool
-    ensures { result ≡ list_any (definition.is_same_constant label) before.now }
+    ensures { result ≡ list_any (constants.is_same_constant label) before.now }
 {
     for other in before {
         if is_same_constant(label, *other) {
@@ -73,7 +73,7 @@ fn any_is_same(before: &[Label], label: Label) -> bool
 /// Whether no label stands behind this one.
 pub(crate) fn is_last(labels: &[Case], i: usize) -> bool
     requires { i < length labels.now }
-    ensures { result ≡ walk.is_last (cases (map case_of (drop (i + 1) labels.now))) }
+    ensures { result ≡ constants.is_last (cases (map case_of (drop (i + 1) labels.now))) }
 {
     i + 1 == labels.len()
 }

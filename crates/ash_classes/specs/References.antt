@@ -1,16 +1,11 @@
 -- What the classes of a module refer to.
-use Rattle.std.specs.Prelude.{◌≡◌, ◌⊎◌, ℕ, List, [], ◌∷◌, Some, slice_get, map}
+use Rattle.std.specs.Prelude.{◌≡◌, ◌⊎◌, ℕ, List, Some, slice_get, map}
 use Rattle.std.specs.Borrow.{Bor}
 use Rattle.std.specs.List.{Any}
 use Rattle.ash_tree.specs.declared.tree.items.Class as code
 use Rattle.ash_tree.specs.Views.{class_of}
-use Rattle.ash_tree.specs.Tree.{Element, HandleElement, Named, Object, Handle, Array, ArrayHandle, Member, AField, Class, Item, AClass}
-
--- the classes, in the order in which they stand
-abbrev pub classes_of : List Item → List Class
-classes_of [] = []
-classes_of (AClass class ∷ items) = class ∷ classes_of items
-classes_of (_ ∷ items) = classes_of items
+use Rattle.ash_tree.specs.Tree.{Element, HandleElement, Named, Object, Handle, Array, ArrayHandle, Member, AField, Class}
+pub use Rattle.ash_tree.specs.Items.{classes_of}
 
 -- a class is of the type of that name: the name is its own, or that of an interface that it lists
 abbrev pub IsOf : Class → List ℕ → Type 0

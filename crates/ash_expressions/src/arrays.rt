@@ -4,6 +4,7 @@ ghost use Rattle.std.specs.Prelude.{◌≡◌, [], ◌∷◌, find, option_map};
 ghost use Rattle.ash_typed.specs.Views.{expr_of};
 ghost use Rattle.ash_typed.specs.declared.tree.operations.ArrayMethod.TheVariants as arrays;
 ghost use Rattle.ash_typing.specs.Environment as environment;
+ghost use Rattle.ash_typing.specs.Terms as terms;
 ghost use Rattle.ash_typing.specs.Expressions as typing;
 ghost use Rattle.ash_expressions.specs.Gives.{Gives};
 ghost use Rattle.ash_expressions.specs.Views.{typed_of, callee_of, invoked_of, parameters_of};
@@ -19,7 +20,7 @@ use std::alloc::Global;
 /// What the construction of an array by so many arguments takes: at most one, how many elements it
 /// has.
 fn array_parameters<'a>(count: usize) -> Parameters<'a>
-    ensures { parameters_of result ≡ typing.array_parameters count }
+    ensures { parameters_of result ≡ terms.array_parameters count }
 {
     if count == 0 {
         Parameters::Nothing
@@ -30,7 +31,7 @@ fn array_parameters<'a>(count: usize) -> Parameters<'a>
 
 /// The construction of an array by so many arguments.
 pub fn array_built<'a>(of: Element, count: usize) -> Callee<'a>
-    ensures { callee_of result ≡ typing.array_built of count }
+    ensures { callee_of result ≡ environment.array_built of count }
 {
     Callee {
         target: Callable::Target(Target::Array(of)),

@@ -4,6 +4,7 @@ ghost use Rattle.std.specs.Prelude.{◌≡◌, [], ◌∷◌, length, map, optio
 ghost use Rattle.ash_typed.specs.Views.{expr_of};
 ghost use Rattle.ash_typing.specs.Environment as environment;
 ghost use Rattle.ash_typing.specs.Types as definition;
+ghost use Rattle.ash_typing.specs.Terms as terms;
 ghost use Rattle.ash_typing.specs.Expressions as typing;
 ghost use Rattle.ash_expressions.specs.Gives.{Gives};
 ghost use Rattle.ash_expressions.specs.Views.{typed_of, parameters_of, callee_of, invoked_of, environment_of, classes_of, arguments_of, maybe_invoked, first_and_rest, split_of};
@@ -132,7 +133,7 @@ fn call_of(
     parameters: Vec<VarType>,
     arguments: Vec<Expr>,
 ) -> Result<Expr, AllocError>
-    ensures { IfOk result (λ e. expr_of e ≡ typing.call_of callable parameters.items (arguments_of arguments)) }
+    ensures { IfOk result (λ e. expr_of e ≡ terms.call_of callable parameters.items (arguments_of arguments)) }
 {
     match callable {
         Callable::OwnMethod {

@@ -3,6 +3,7 @@
 ghost use Rattle.std.specs.Prelude.{◌≡◌, None, Ok, IfOk};
 ghost use Rattle.ash_typed.specs.Tree.{Alter, Operate, Lazily};
 ghost use Rattle.ash_typed.specs.Views.{expr_of, place_of};
+ghost use Rattle.ash_typing.specs.Terms as terms;
 ghost use Rattle.ash_typing.specs.Expressions as typing;
 ghost use Rattle.ash_expressions.specs.Gives.{Gives};
 ghost use Rattle.ash_expressions.specs.Views.{typed_of, met_of, classes_of};
@@ -31,7 +32,7 @@ pub(crate) struct Met {
 }
 
 fn right_operand(alloc: Global, sort: Sort, operands: Operands, right: Typed) -> Checking<Expr>
-    ensures { Gives expr_of result (Ok (typing.right_operand sort operands (typed_of right))) }
+    ensures { Gives expr_of result (Ok (terms.right_by sort operands (typing.term_of (typed_of right)))) }
 {
     match sort {
         Sort::Shift => Ok(right.tree),
@@ -84,7 +85,7 @@ fn operated(
     left: Typed,
     right: Expr,
 ) -> Result<Expr, AllocError>
-    ensures { IfOk result (λ e. expr_of e ≡ Operate operation (typing.brought (typing.operand_type operands) (typed_of left)) (expr_of right)) }
+    ensures { IfOk result (λ e. expr_of e ≡ Operate operation (typing.brought (terms.operand_type operands) (typed_of left)) (expr_of right)) }
 {
     let next = Operand {
         before: conversion(operand_type(operands), left.ty),
@@ -102,7 +103,7 @@ fn lazily(
     left: Typed,
     right: Expr,
 ) -> Result<Expr, AllocError>
-    ensures { IfOk result (λ e. expr_of e ≡ Lazily operator (typing.brought (typing.operand_type operands) (typed_of left)) (expr_of right)) }
+    ensures { IfOk result (λ e. expr_of e ≡ Lazily operator (typing.brought (terms.operand_type operands) (typed_of left)) (expr_of right)) }
 {
     let left = brought(alloc, operand_type(operands), left)?;
     nodes::lazily(alloc, operator, left, right)
@@ -116,7 +117,7 @@ fn applied(
     left: Typed,
     right: Expr,
 ) -> Result<Expr, AllocError>
-    ensures { IfOk result (λ e. expr_of e ≡ typing.applied operator operands (typing.brought (typing.operand_type operands) (typed_of left)) (expr_of right)) }
+    ensures { IfOk result (λ e. expr_of e ≡ terms.applied operator operands (typing.brought (terms.operand_type operands) (typed_of left)) (expr_of right)) }
 {
     match typed_operator(operator) {
         Operator::Calculate(operator) => {
@@ -158,7 +159,7 @@ pub(crate) fn operate(
 /// `++` or `--` at a place.
 #[tactic(auto, unfolding(ash_typing::specs::Expressions::counted))]
 pub(crate) fn counted(alloc: Global, at: usize, step: Step, operand: Typed) -> Checking<Typed>
-    ensures { Gives typed_of result (typing.counted at step (typed_of operand) (typing.assignable operand.form (expr_of operand.tree))) }
+    ensures { Gives typed_of result (typing.counted at step (typed_of operand) (terms.assignable operand.form (expr_of operand.tree))) }
 {
     let Some(place) = assignable(alloc, operand.form, operand.tree)? else {
         return Err(broken(Rule::NotAssignable, operand.at));

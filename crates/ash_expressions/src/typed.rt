@@ -3,6 +3,7 @@
 ghost use Rattle.std.specs.Prelude.{◌≡◌, option_map, IfOk};
 ghost use Rattle.ash_typed.specs.Tree.{converted};
 ghost use Rattle.ash_typed.specs.Views.{expr_of, place_of};
+ghost use Rattle.ash_typing.specs.Terms as terms;
 ghost use Rattle.ash_typing.specs.Expressions as typing;
 ghost use Rattle.ash_expressions.specs.Gives.{Gives};
 ghost use Rattle.ash_expressions.specs.Views.{typed_of, classes_of};
@@ -50,7 +51,7 @@ pub(crate) fn read(at: usize, ty: Ty, tree: Expr) -> Typed
 
 /// The place that can be assigned, where an expression of this form is one.
 pub(crate) fn assignable(alloc: Global, form: Form, tree: Expr) -> Result<Option<Place>, AllocError>
-    ensures { IfOk result (λ found. option_map place_of found ≡ typing.assignable form (expr_of tree)) }
+    ensures { IfOk result (λ found. option_map place_of found ≡ terms.assignable form (expr_of tree)) }
 {
     match form {
         Form::Place | Form::HandlePlace => nodes::place(alloc, tree),
@@ -60,7 +61,7 @@ pub(crate) fn assignable(alloc: Global, form: Form, tree: Expr) -> Result<Option
 
 /// A number by itself.
 pub(crate) fn numeral(at: usize, number: u64) -> Typed
-    ensures { typed_of result ≡ typing.numeral at number }
+    ensures { typed_of result ≡ typing.placed at (terms.number_term number) }
 {
     let kind = kind_of(number);
     Typed {
@@ -126,7 +127,7 @@ pub(crate) fn handle(at: usize, of: Ty) -> Checking<Ty>
 
 /// A number takes the type of the other operand where that is an integer type that holds it.
 fn adapt_to(other: Form, of: Ty, typed: &mut Typed)
-    ensures { typed_of typed.new ≡ typing.adapted_to other of typed.old.form (typed_of typed.old) }
+    ensures { typed_of typed.new ≡ typing.placed typed.old.at (terms.taking other of typed.old.form (typing.term_of (typed_of typed.old))) }
 {
     match (other, of, typed.form) {
         (Form::Number(_), _, Form::Number(_)) => {}

@@ -2,6 +2,7 @@
 
 ghost use Rattle.std.specs.Prelude.{◌≡◌};
 ghost use Rattle.ash_typing.specs.Types as types;
+ghost use Rattle.ash_typing.specs.Terms as terms;
 ghost use Rattle.ash_typing.specs.Expressions as typing;
 
 use ash_tree::{AssignOp, BinaryOp, Primitive};
@@ -327,7 +328,7 @@ pub(crate) fn integers_in(operands: Operands) -> Kind
 
 /// The operator of `a op= b`.
 pub(crate) fn operator_of(operator: AssignOp) -> Option<Calculator>
-    ensures { result ≡ typing.operator_of operator }
+    ensures { result ≡ terms.operator_of operator }
 {
     match operator {
         AssignOp::Assign => None,
@@ -404,7 +405,7 @@ pub(crate) fn outcome(sort: Sort, operands: Operands) -> Ty
 }
 
 pub(crate) fn operand_type(operands: Operands) -> Ty
-    ensures { result ≡ typing.operand_type operands }
+    ensures { result ≡ terms.operand_type operands }
 {
     match operands {
         Operands::Integers(kind) => Ty::Integer(kind),
@@ -415,7 +416,7 @@ pub(crate) fn operand_type(operands: Operands) -> Ty
 
 /// What a value of the second type becomes in the place of one of the first.
 pub(crate) fn conversion(to: Ty, of: Ty) -> Option<Conversion>
-    ensures { result ≡ typing.conversion to of }
+    ensures { result ≡ terms.conversion to of }
 {
     match (to, of) {
         (Ty::Integer(to), Ty::Integer(from)) => {
@@ -431,7 +432,7 @@ pub(crate) fn conversion(to: Ty, of: Ty) -> Option<Conversion>
 
 /// Whether a place takes what is assigned to it.
 pub(crate) fn is_stored(form: Form, of: Ty) -> bool
-    ensures { result ≡ typing.is_stored form of }
+    ensures { result ≡ terms.is_stored form of }
 {
     match (form, of) {
         (Form::HandlePlace, Ty::Handle(_) | Ty::Unknown) => true,
@@ -442,7 +443,7 @@ pub(crate) fn is_stored(form: Form, of: Ty) -> bool
 
 /// What is written to left of `=`: a place with its sign `@`.
 pub(crate) fn handle_form(form: Form) -> Form
-    ensures { result ≡ typing.handle_form form }
+    ensures { result ≡ terms.handle_form form }
 {
     match form {
         Form::Place => Form::HandlePlace,
@@ -452,7 +453,7 @@ pub(crate) fn handle_form(form: Form) -> Form
 
 /// What an expression in brackets is: a place still is one, and a number is a value.
 pub(crate) fn bracketed_form(form: Form) -> Form
-    ensures { result ≡ typing.bracketed form }
+    ensures { result ≡ terms.bracketed form }
 {
     match form {
         Form::Place => Form::Place,

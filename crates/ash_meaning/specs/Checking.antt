@@ -2,12 +2,12 @@
 --
 -- A source that has no tokens is refused for that, one whose tokens are no script for their first fault, and a script
 -- that is not typed for what the check of types tells of it.
-use Rattle.std.specs.Prelude.{◌≡◌, ◌⊎◌, ◌-◌, ℕ, false, List, [], ◌∷◌, length, map, find, is_some, Option, Some, None, Result, Ok, Err, IsOk}
-use Rattle.std.specs.List.{AllByRecursion, slice_get}
+use Rattle.std.specs.Prelude.{◌≡◌, ◌⊎◌, ◌-◌, ℕ, List, length, map, Option, Some, None, Result, Ok, Err, IsOk}
+use Rattle.std.specs.List.{slice_get}
 use Rattle.ash_lex.specs.Tokens.{Meaning, Lexeme}
 use Rattle.ash_tree.specs.declared.tree.places.Place.{Place}
 use Rattle.ash_tree.specs.Tokens.{Tokens}
-use Rattle.ash_tree.specs.Tree.{Decl, Item, AClass, AnInterface, AFunction, AGlobal}
+use Rattle.ash_tree.specs.Tree.{Item}
 use Rattle.ash_tree.specs.Grammar.{Derives}
 use Rattle.ash_parse.specs.declared.faults.ParseFault.{ParseFault}
 use Rattle.ash_parse.specs.declared.faults.ParseFault.TheVariants as faults
@@ -15,7 +15,7 @@ use Rattle.ash_parse.specs.Reading.{Halt, Reading as Parsing}
 use Rattle.ash_parse.specs.ItemReader.{module_at}
 use Rattle.ash_parse.specs.Faults.{fault_of}
 use Rattle.ash_parse.specs.FirstFault.{FirstFault}
-use Rattle.ash_registry.specs.Calls.{Call as Registration, takes_name}
+use Rattle.ash_registry.specs.Calls.{Call as Registration}
 use Rattle.ash_typing.specs.declared.fault.Rule.{Rule}
 use Rattle.ash_typing.specs.declared.fault.Rule.TheVariants as rules
 use Rattle.ash_typed.specs.Modules.{Module}
@@ -140,23 +140,6 @@ checked_on registered (Err refusal) = Err refusal
 
 unfoldable pub checked_source : List Registration → List ℕ → Checking
 checked_source registered source = checked_on registered (lexed source)
-
--- The names of a module and those that are registered are one space.
-
--- a name that nothing registered has
-abbrev pub IsFree : List Registration → List ℕ → Type 0
-IsFree registered name = is_some (find (takes_name name) registered) ≡ false
-
--- the names that an item has in its module
-abbrev pub declared_in : Item → List (List ℕ)
-declared_in (AClass c) = c.name ∷ []
-declared_in (AnInterface i) = i.name ∷ []
-declared_in (AFunction f) = f.name ∷ []
-declared_in (AGlobal v) = map (λ (d : Decl). d.name) v.decls
-
--- no item has a registered name
-abbrev pub DeclareFreeNames : List Registration → List Item → Type 0
-DeclareFreeNames registered items = AllByRecursion (λ (item : Item). AllByRecursion (IsFree registered) (declared_in item)) items
 
 -- A source whose length alone refuses it takes no memory to check.
 abbrev pub TakesToTell : Refusal → Type 0

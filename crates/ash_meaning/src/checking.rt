@@ -1,14 +1,17 @@
 // The script that a source spells, if it is typed.
 
 ghost use Rattle.std.specs.Prelude.{◌≡◌, ◌⊎◌, ◌↔◌, ℕ, List, Ok, Err, IsOk, IfOk, IfErr, OnOk};
+ghost use Rattle.std.specs.List.{AllByRecursion};
 ghost use Rattle.ash_lex.specs.Tokens.{lexemes};
 ghost use Rattle.ash_tree.specs.Views.{module_of as items_of};
 ghost use Rattle.ash_tree.specs.Tree.{Item};
 ghost use Rattle.ash_registry.specs.Calls.{Call};
 ghost use Rattle.ash_registry.specs.Registered.{registered};
 ghost use Rattle.ash_typed.specs.Modules.{Module as Typed};
+ghost use Rattle.ash_typing.specs.TypedModules.{IsFree};
+ghost use Rattle.ash_tree.specs.Items.{item_names};
 ghost use Rattle.ash_check.specs.Checks.{checked};
-ghost use Rattle.ash_meaning.specs.Checking.{Checking, Checks, DeclareFreeNames, items_checked, tokens_checked, checked_source, TakesToCheck};
+ghost use Rattle.ash_meaning.specs.Checking.{Checking, Checks, items_checked, tokens_checked, checked_source, TakesToCheck};
 ghost use Rattle.ash_meaning.specs.Refusals.{refusal_of, NoMemory};
 
 use crate::lexing::tokens_of;
@@ -93,5 +96,5 @@ pub fn one_checking()
 /// No script that is typed declares a registered name: those and the names of a module are one space.
 pub fn registered_names_are_taken()
     ensures { (registered : List Call) (items : List Item) (typed : Typed) →
-        checked registered items ≡ Ok typed → DeclareFreeNames registered items }
+        checked registered items ≡ Ok typed → AllByRecursion (IsFree registered) (item_names items) }
 {}

@@ -18,15 +18,16 @@ use Rattle.ash_typed.specs.Modules.{Module}
 use Rattle.ash_typed.specs.References as references
 use Rattle.ash_typed.specs.Signatures as signatures
 use Rattle.ash_typing.specs.Types.{var_type, ty_of}
-use Rattle.ash_typing.specs.Environment.{Interface, Class, Heads, first_from, is_class, is_interface_named}
-use Rattle.ash_typing.specs.Heads.{class_type, interface_type, host_object, object_named, element_of, element_by, element_named, array_named, object_ty, handle_ty, ty_named, declared, variables, fields_in, interface_place, with_place, listed_in, named_class, named_classes, class_head, names_in, heads}
-use Rattle.ash_typing.specs.TypedModules.{classes_of, environment, IsTyped}
+use Rattle.ash_typing.specs.Environment.{Interface, Class, Heads, first_from, is_class, is_interface_named, type_declared}
+use Rattle.ash_typing.specs.Heads.{class_type, interface_type, host_object, object_named, element_of, element_by, element_named, array_named, object_ty, handle_ty, ty_named, declared, variables, interface_place, with_place, listed_in, named_class, class_head, names_in, heads, all_variables}
+use Rattle.ash_typing.specs.TypedModules.{environment, IsTyped}
 use Rattle.ash_typing.specs.Offered.{offered}
-use Rattle.ash_typing.specs.Soundness.{type_declared, signature_of_class, signatures_in}
+use Rattle.ash_typing.specs.Soundness.{signature_of_class, signatures_in}
 use Rattle.ash_typing.proofs.TypingKnown.{if_or}
 use Rattle.ash_typing.proofs.SoundnessNames.{first_place}
 use Rattle.ash_typing.proofs.SoundnessClasses.{first_passes, unmapped, classes_length}
-use Rattle.ash_typing.proofs.SoundnessSignatures.{classes_is, same_signatures}
+use Rattle.ash_typing.proofs.SoundnessSignatures.{same_signatures}
+use Rattle.ash_tree.specs.Items.{classes_of, fields_of}
 
 -- lists
 
@@ -131,13 +132,6 @@ same_names named one other place h k = let same = same_Some h.0 k.0 (sym h.1 ∙
 
 -- classes as they are written
 
-named_is : (is : List written.Item) → named_classes is ≡ map named_class (classes_of is)
-named_is [] = refl
-named_is (written.AClass c ∷ is) = ap (λ rest. named_class c ∷ rest) (named_is is)
-named_is (written.AnInterface i ∷ is) = named_is is
-named_is (written.AFunction f ∷ is) = named_is is
-named_is (written.AGlobal v ∷ is) = named_is is
-
 -- the class that is written at the place, of which a field names a type
 abbrev HasClass : List written.Item → ℕ → (written.Class → Type 0) → Type 0
 HasClass is place P = (c : written.Class) × (slice_get (classes_of is) place ≡ Some c) × P c
@@ -164,13 +158,13 @@ module _ (calls : List host.Call) (is : List written.Item) where
   unfolding heads
   written_class place c h =
       let signed = unmapped signature_of_class (heads calls is).classes place c h in
-      let head = unmapped (class_head calls (names_in is)) (classes_of is) place signed.0 (subst (λ cs. slice_get cs place ≡ Some signed.0) (classes_is calls (names_in is) is) signed.1) in
+      let head = unmapped (class_head calls (names_in is)) (classes_of is) place signed.0 signed.1 in
       (head.0, head.1, ap signature_of_class head.2 ∙ signed.2)
 
   -- a class of the name at the place
   class_written : (name : List ℕ) (place : ℕ) → IsNameOfClass (names_in is) name place → HasClass is place (λ w. written_references.IsOf w name)
   class_written name place h =
-      let at = unmapped named_class (classes_of is) place h.0 (subst (λ cs. slice_get cs place ≡ Some h.0) (named_is is) h.1) in
+      let at = unmapped named_class (classes_of is) place h.0 h.1 in
       (at.0, at.1, inl (ap (λ (c : Class). c.name) at.2 ∙ sym h.2))
 
   -- a class that lists the interface of the name
@@ -251,12 +245,12 @@ module _ (calls : List host.Call) (is : List written.Item) where
   IsFieldOf of (written.AField v) = var_type (ty_named calls (names_in is) v.of) ≡ of
   IsFieldOf of _ = ⊥
 
-  field_written : (of : VarType) (ms : List written.Member) → Among (λ d. type_declared d ≡ of) (fields_in calls (names_in is) ms) → Among (IsFieldOf of) ms
+  field_written : (of : VarType) (ms : List written.Member) → Among (λ d. type_declared d ≡ of) (all_variables calls (names_in is) (fields_of ms)) → Among (IsFieldOf of) ms
   unfolding Among
   field_written of [] h = h
   field_written of (written.AField v ∷ ms) h =
       let named = ty_named calls (names_in is) v.of in
-      ⊎_elim (λ here. inl (among_all (var_type named ≡ of) v.decls (among_map (λ d. type_declared d ≡ of) (declared named) v.decls here))) (λ rest. inr (field_written of ms rest)) (among_append (λ d. type_declared d ≡ of) (variables calls (names_in is) v) (fields_in calls (names_in is) ms) h)
+      ⊎_elim (λ here. inl (among_all (var_type named ≡ of) v.decls (among_map (λ d. type_declared d ≡ of) (declared named) v.decls here))) (λ rest. inr (field_written of ms rest)) (among_append (λ d. type_declared d ≡ of) (variables calls (names_in is) v) (all_variables calls (names_in is) (fields_of ms)) h)
   field_written of (written.AMethod f ∷ ms) h = inr (field_written of ms h)
   field_written of (written.AConstructor c ∷ ms) h = inr (field_written of ms h)
 
@@ -275,28 +269,20 @@ module _ (calls : List host.Call) (is : List written.Item) where
   refers_written from to h =
       let one = written_class from h.0 h.2 in
       let fields = subst (λ (c : signatures.ClassSignature). Contains c.fields h.1) (sym one.2) h.3 in
-      let typed = among_map (λ of. of ≡ h.1) type_declared (fields_in calls (names_in is) one.0.members) (among_from (λ of. of ≡ h.1) (map type_declared (fields_in calls (names_in is) one.0.members)) h.1 fields refl) in
+      let typed = among_map (λ of. of ≡ h.1) type_declared (all_variables calls (names_in is) (fields_of one.0.members)) (among_from (λ of. of ≡ h.1) (map type_declared (all_variables calls (names_in is) (fields_of one.0.members))) h.1 fields refl) in
       let other = members_written h.1 to one.0.members h.4 (field_written h.1 one.0.members typed) in
       (other.0, other.1, (one.0, one.1, any_among (λ m. written_references.Holds m other.0) one.0.members other.2))
 
--- the classes are the same, by either definition
-same_classes : (is : List written.Item) → classes_of is ≡ written_references.classes_of is
-same_classes [] = refl
-same_classes (written.AClass c ∷ is) = ap (λ rest. c ∷ rest) (same_classes is)
-same_classes (written.AnInterface i ∷ is) = same_classes is
-same_classes (written.AFunction f ∷ is) = same_classes is
-same_classes (written.AGlobal v ∷ is) = same_classes is
-
-pub typed_refers : (calls : List host.Call) (is : List written.Item) (m : Module) → IsTyped calls is m → (from to : ℕ) → references.Refers (signatures.signatures_of (offered calls) m) from to → written_references.Refers (written_references.classes_of is) from to
-typed_refers calls is m typed from to h = subst (λ cs. written_references.Refers cs from to) (same_classes is) (refers_written calls is from to (subst (λ s. references.Refers s from to) (same_signatures calls is m typed) h))
+pub typed_refers : (calls : List host.Call) (is : List written.Item) (m : Module) → IsTyped calls is m → (from to : ℕ) → references.Refers (signatures.signatures_of (offered calls) m) from to → written_references.Refers (classes_of is) from to
+typed_refers calls is m typed from to h = refers_written calls is from to (subst (λ s. references.Refers s from to) (same_signatures calls is m typed) h)
 
 length-mapped : {A B : Type 0} (f : A → B) (xs : List A) → length (map f xs) ≡ length xs
 length-mapped f [] = refl
 length-mapped f (x ∷ xs) = ap suc (length-mapped f xs)
 
-pub typed_ranks : (calls : List host.Call) (is : List written.Item) (m : Module) → IsTyped calls is m → (ranks : List ℕ) → ways.AreRanks (written_references.Refers (written_references.classes_of is)) (length (written_references.classes_of is)) ranks → references.AreRanks (signatures.signatures_of (offered calls) m) ranks
+pub typed_ranks : (calls : List host.Call) (is : List written.Item) (m : Module) → IsTyped calls is m → (ranks : List ℕ) → ways.AreRanks (written_references.Refers (classes_of is)) (length (classes_of is)) ranks → references.AreRanks (signatures.signatures_of (offered calls) m) ranks
 typed_ranks calls is m typed ranks are =
-    let long : length (written_references.classes_of is) ≡ length (map signatures.signature_of_class m.classes) = sym (ap length (same_classes is)) ∙ sym (classes_length (environment calls is) 0 (classes_of is) m.classes typed.classes) ∙ sym (length-mapped signatures.signature_of_class m.classes) in
+    let long : length (classes_of is) ≡ length (map signatures.signature_of_class m.classes) = sym (classes_length (environment calls is) 0 (classes_of is) m.classes typed.classes) ∙ sym (length-mapped signatures.signature_of_class m.classes) in
     record {
       count = are.count ∙ long;
       within = subst (λ n. All (λ rank. rank < n) ranks) long are.within;

@@ -1,4 +1,5 @@
 pub mod Tree
+pub mod Items
 pub mod Views
 pub mod Tokens
 pub mod Operators

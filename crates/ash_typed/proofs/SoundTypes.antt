@@ -10,7 +10,7 @@ use Rattle.ash_typed.specs.Tree.{Expr, Place}
 use Rattle.ash_typed.specs.TypeOf.{ValueType, value, kept, given, type_of, type_of_place, type_of_member, result_of_method, result_of_target, altered_type, chosen_type}
 use Rattle.ash_typed.specs.Signatures.{Signatures}
 use Rattle.ash_typed.specs.SoundOperations.{IsMember, field, property, IsMethod, of_class, of_interface, of_host, of_array, IsTarget, function, service, class, host, empty_array, sized_array, IsChange, negate, complement, not}
-use Rattle.ash_typed.specs.SoundExpressions.{Environment, HasType, number, truth, null, this, read, invoke, convert, cast, alter, calculate, shift, compare, lazily, choose, choose_or_null, null_or_choose, assign, update, update_by_shift, count, call, HasPlace, local, global, member, element}
+use Rattle.ash_typed.specs.SoundExpressions.{Environment, IsWellTyped, number, truth, null, this, read, invoke, convert, cast, alter, calculate, shift, compare, lazily, choose, choose_or_null, null_or_choose, assign, update, update_by_shift, count, call, HasPlace, local, global, member, element}
 
 member_type : {s : Signatures} {o : ObjectType} {held : Member} {of : VarType} → IsMember s o held of → type_of_member held ≡ of
 member_type (field h i) = refl
@@ -41,7 +41,7 @@ change_type (negate h) = refl
 change_type complement = refl
 change_type not = refl
 
-pub type_is : {env : Environment} {e : Expr} {of : ValueType} → HasType env e of → type_of e ≡ of
+pub type_is : {env : Environment} {e : Expr} {of : ValueType} → IsWellTyped env e of → type_of e ≡ of
 type_is (number h) = refl
 type_is truth = refl
 type_is null = refl
@@ -64,5 +64,5 @@ type_is (update_by_shift h i k) = refl
 type_is (count h) = refl
 type_is (call h args) = ap given (target_result h)
 
-pub one_type : {env : Environment} {e : Expr} {one other : ValueType} → HasType env e one → HasType env e other → one ≡ other
+pub one_type : {env : Environment} {e : Expr} {one other : ValueType} → IsWellTyped env e one → IsWellTyped env e other → one ≡ other
 one_type h k = sym (type_is h) ∙ type_is k

@@ -22,7 +22,7 @@ use Rattle.ash_typed.specs.StatementTree.{Initialization, Stmt, Empty, Declare, 
 use Rattle.ash_typed.specs.TypeOf.{ValueType, value}
 use Rattle.ash_typed.specs.Signatures.{IsVariableType}
 use Rattle.ash_typed.specs.SoundOperations.{IsWithin}
-use Rattle.ash_typed.specs.SoundExpressions.{Environment, HasType, Fits}
+use Rattle.ash_typed.specs.SoundExpressions.{Environment, IsWellTyped, Fits}
 
 -- what a statement sees: what its function gives, and whether it may break out of a loop or a `switch`, and go on with the
 -- next turn of a loop
@@ -62,7 +62,7 @@ pub data BeginsWith (env : Environment) : VarType → Option Expr → Type 0 whe
   stored : {of : VarType} {e : Expr} → IsNoObject of → Fits env of e → BeginsWith env of (Some e)
   constructed : {o : ObjectType} {target : Target} {parameters : List VarType} {es : Exprs}
       → Constructs target o
-      → HasType env (Call target parameters es) (value (vars.Handle o))
+      → IsWellTyped env (Call target parameters es) (value (vars.Handle o))
       → BeginsWith env (vars.Object o) (Some (Call target parameters es))
 
 pub record IsInitialized (env : Environment) (v : Initialization) : Type 0 where
@@ -80,10 +80,10 @@ pub data AreDeclared : Environment → List Initialization → List VarType → 
 -- expressions of statements
 
 abbrev pub IsEvaluated : Environment → Expr → Type 0
-IsEvaluated env e = (of : ValueType) × HasType env e of
+IsEvaluated env e = (of : ValueType) × IsWellTyped env e of
 
 abbrev pub IsCondition : Environment → Expr → Type 0
-IsCondition env e = HasType env e (value vars.Bool)
+IsCondition env e = IsWellTyped env e (value vars.Bool)
 
 abbrev pub MayBeCondition : Environment → Option Expr → Type 0
 MayBeCondition env None = Unit {0}
@@ -162,7 +162,7 @@ mutual
         → IsLoop (declaring scope types) inside
         → IsStmt scope (For line head inside)
     switch : {scope : Scope} {line : ℕ} {kind : Kind} {e : Expr} {cs : Cases}
-        → HasType scope.env e (value (vars.Integer kind))
+        → IsWellTyped scope.env e (value (vars.Integer kind))
         → AreCases (in_switch scope) kind [] cs
         → IsStmt scope (Switch line kind e cs)
     break_out : {scope : Scope} {line : ℕ}

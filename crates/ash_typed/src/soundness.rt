@@ -4,12 +4,12 @@ ghost use Rattle.std.specs.Prelude.{◌≡◌};
 ghost use Rattle.ash_typed.specs.declared.types.VarType.{VarType};
 ghost use Rattle.ash_typed.specs.Tree.{Expr, Place};
 ghost use Rattle.ash_typed.specs.TypeOf.{ValueType, type_of, type_of_place};
-ghost use Rattle.ash_typed.specs.SoundExpressions.{Environment, HasType, HasPlace};
+ghost use Rattle.ash_typed.specs.SoundExpressions.{Environment, IsWellTyped, HasPlace};
 
 /// That a sound expression gives what its tree says, and nothing else, and that a sound place has the type that its tree
 /// says. It does nothing when it runs.
 pub fn types_of_expressions()
-    ensures typed { (env : Environment) (e : Expr) (of : ValueType) → HasType env e of → type_of e ≡ of }
-    ensures one_type { (env : Environment) (e : Expr) (one other : ValueType) → HasType env e one → HasType env e other → one ≡ other }
+    ensures typed { (env : Environment) (e : Expr) (of : ValueType) → IsWellTyped env e of → type_of e ≡ of }
+    ensures one_type { (env : Environment) (e : Expr) (one other : ValueType) → IsWellTyped env e one → IsWellTyped env e other → one ≡ other }
     ensures place { (env : Environment) (place : Place) (of : VarType) → HasPlace env place of → type_of_place place ≡ of }
 {}

@@ -33,11 +33,12 @@ use Rattle.ash_typing.specs.Checking.{Checking}
 use Rattle.ash_typing.specs.Types.{holds, common, takes, assumed, meets, sort_of, binary_of, ty_of, ty_of_element}
 use Rattle.ash_typing.specs.Fitting.{fits}
 use Rattle.ash_typing.specs.Heads.{object_named, element_named, element_by}
-use Rattle.ash_typing.specs.Environment.{Environment, Heads, Class, Known, Callee, Invoked, variable_in, callee_in, member_in, method_in}
-use Rattle.ash_typing.specs.Expressions.{assignable, Typed, Met, made, fitted, integer_of, bool_of, handle_of, adapted_to, adapted, met_as, met, operate, counted, handle_at, unary_at, converting, convert_at, is_void, chosen, choice, operator_of, is_stored, updated, stored, assigned_to, assigned, is_assign, all_fitted, arguments_at, called, callee_at, known_at, this_at, member_at, field_of, invoked_at, method_of, invoked, call_typed, invocation_typed, index_in, indexed_at, indexed_object, indexed, at_element, known_element, array_parameters, array_built, array_typed, cast_type, cast_at, typed, all_typed, links_typed, suffixes_typed, suffix_typed}
+use Rattle.ash_typing.specs.Environment.{Environment, Heads, Class, Known, Callee, Invoked, variable_in, callee_in, member_in, method_in, array_built}
+use Rattle.ash_typing.specs.Expressions.{Typed, Met, made, fitted, integer_of, bool_of, handle_of, adapted, met_as, met, operate, counted, handle_at, unary_at, converting, convert_at, is_void, chosen, choice, updated, stored, assigned_to, assigned, is_assign, all_fitted, arguments_at, called, callee_at, known_at, this_at, member_at, field_of, invoked_at, method_of, invoked, call_typed, invocation_typed, index_in, indexed_at, indexed_object, indexed, at_element, known_element, array_typed, cast_type, cast_at, typed, all_typed, links_typed, suffixes_typed, suffix_typed}
 use Rattle.ash_typing.specs.FaultPlaces.{begins_call, begins_expression}
 use Rattle.ash_typing.proofs.FaultTokens.{HasToken, HasStart, ElementIn, ExprIn, ExprsIn, LinksIn, SuffixesIn, SuffixIn}
 use Rattle.ash_typing.proofs.FaultAnswers.{Answers, fine, faulty, Fine, At, mismatch, no_place, bind, either, choose_start}
+use Rattle.ash_typing.specs.Terms.{assignable, operator_of, is_stored, array_parameters}
 
 -- typed expressions, each at a token
 abbrev pub AllAt : Tokens → List Typed → Type 0
@@ -70,19 +71,9 @@ handle_in script at _ h = mismatch h
 
 -- operators between two operands
 
-if_start : (script : Tokens) (b : Bool) (x y : Typed) → HasStart script x.at → HasStart script y.at → HasStart script (if b then x else y).at
-if_start script true x y p q = p
-if_start script false x y p q = q
-
-adapted_to_in : (script : Tokens) (a : Form) (of : Ty) (b : Form) (t : Typed) → HasStart script t.at → HasStart script (adapted_to a of b t).at
-adapted_to_in script (form.Number m) of (form.Number n) t h = h
-adapted_to_in script a (ty.Integer k) (form.Number n) t h = if_start script (holds k n) _ t h h
-adapted_to_in script a of b t h = h
-
 adapted_in : (script : Tokens) (s : Sort) (a : Form) (of : Ty) (t : Typed) → HasStart script t.at → HasStart script (adapted s a of t).at
 unfolding adapted
-adapted_in script sort.Shift a of t h = h
-adapted_in script _ a of t h = adapted_to_in script a of t.form t h
+adapted_in script s a of t h = h
 
 met_as_in : (script : Tokens) (s : Sort) (a b : Typed) (o : Option Operands) → HasStart script a.at → HasStart script b.at → Answers script (λ (m : Met). HasStart script m.left.at) (met_as s a b o)
 met_as_in script s a b (Some o) h k = fine h

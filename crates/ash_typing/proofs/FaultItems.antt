@@ -13,14 +13,19 @@ use Rattle.ash_typed.specs.declared.types.ObjectType.TheVariants as objects
 use Rattle.ash_typing.specs.declared.types.Ty.{Ty}
 use Rattle.ash_typing.specs.declared.types.Ty.TheVariants as ty
 use Rattle.ash_typed.specs.Modules.{Class, Module}
-use Rattle.ash_typing.specs.Environment.{Environment, Declared, Heads, declares, with_locals}
+use Rattle.ash_typing.specs.Environment.{Environment, Declared, Heads, declares, with_locals, inside, seen}
 use Rattle.ash_typing.specs.Expressions.{is_void}
 use Rattle.ash_typing.specs.Heads.{object_named, heads}
-use Rattle.ash_typing.specs.Bodies.{Body, body_scope, body_typed, returns_in}
-use Rattle.ash_typing.specs.Items.{ty_in, at_type, at_type_name, Names, is_taken, untaken, one_more, placed, passed_ty, result_typed, Row, with_variable, decls_typed, no_variables, vars_typed, parameters_typed, Routine, routine_of, returning, routine_typed, Signatures, signature_typed, signatures_typed, no_signatures, interface_typed, listed_at, implemented, implemented_at, Listed, listed_typed, all_listed, none_listed, Members, constructor_named, member_typed, members_typed, no_members, inside, class_typed, Walked, room_for_type, item_typed, items_typed, seen, nothing, module_by, module_typed}
+use Rattle.ash_typed.specs.StatementTree.{Body}
+use Rattle.ash_typing.specs.Statements.{body_typed}
+use Rattle.ash_typing.specs.Items.{ty_in, at_type, at_type_name, Names, is_taken, untaken, one_more, placed, passed_ty, result_typed, Row, with_variable, decls_typed, no_variables, vars_typed, parameters_typed, returning, routine_typed, Signatures, signature_typed, signatures_typed, no_signatures, interface_typed, listed_at, implemented_at, Listed, listed_typed, all_listed, none_listed, Members, constructor_named, member_typed, members_typed, no_members, class_typed, Walked, room_for_type, item_typed, items_typed, nothing, module_by, module_typed}
 use Rattle.ash_typing.proofs.FaultTokens.{HasToken, NamedIn, TypeNameIn, DeclIn, VarsIn, StmtsIn, ParameterIn, ResultIn, RoutineIn, MemberIn, ClassIn, InterfaceMethodIn, InterfaceIn, ItemIn}
 use Rattle.ash_typing.proofs.FaultAnswers.{Answers, fine, faulty, Fine, bind, either}
 use Rattle.ash_typing.proofs.FaultStatements.{IsNamedAt, IsWrittenAt, named_at, written_at, variables_ty_in, decl_in, stmts_in}
+use Rattle.ash_typing.specs.Scopes.{body_scope}
+use Rattle.ash_typing.specs.Returning.{returns_in}
+use Rattle.ash_tree.specs.Items.{Routine, routine_of}
+use Rattle.ash_typing.specs.Implementations.{implemented}
 
 -- names
 

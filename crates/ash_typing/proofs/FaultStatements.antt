@@ -22,16 +22,19 @@ use Rattle.ash_typing.specs.declared.types.Ty.TheVariants as ty
 use Rattle.ash_typed.specs.StatementTree.{Stmt, Head}
 use Rattle.ash_typing.specs.Checking.{Checking}
 use Rattle.ash_typing.specs.Types.{ty_of}
-use Rattle.ash_typing.specs.Environment.{Environment, Heads, Class, Callee}
-use Rattle.ash_typing.specs.Expressions.{Typed, typed, all_typed, is_void, at_element, array_parameters, array_built}
-use Rattle.ash_typing.specs.Heads.{object_named, element_named, array_named, object_ty, handle_ty, ty_named}
-use Rattle.ash_typing.specs.Declarations.{ty_in, at_type, at_type_name, known_ty, construction, constructed, begun, stored_first, begun_with, begun_by_one, begun_by, initialized, decl_typed}
-use Rattle.ash_typing.specs.Switches.{kind_in, is_within, is_same_constant, constant_typed, label_typed}
-use Rattle.ash_typing.specs.Statements.{Scope, block_of, loop_of, switch_of, with_variables, behind, is_taken, fresh, decls_typed, vars_typed, head_typed, condition_is, if_typed, if_else_typed, while_typed, do_while_typed, maybe_typed, maybe_condition_is, for_typed, break_typed, continue_typed, gives_nothing, returned, return_typed, is_last, stmt_typed, stmts_typed, cases_typed}
+use Rattle.ash_typing.specs.Environment.{Environment, Heads, Class, Callee, array_built, construction}
+use Rattle.ash_typing.specs.Expressions.{Typed, typed, all_typed, is_void, at_element}
+use Rattle.ash_typing.specs.Heads.{object_named, element_named, array_named, object_ty, handle_ty, ty_named, ty_in}
+use Rattle.ash_typing.specs.Declarations.{at_type, at_type_name, known_ty, constructed, begun, stored_first, begun_with, begun_by_one, begun_by, initialized, decl_typed}
+use Rattle.ash_typing.specs.Switches.{kind_in, is_within, constant_typed, label_typed}
+use Rattle.ash_typing.specs.Statements.{fresh, decls_typed, vars_typed, head_typed, condition_is, if_typed, if_else_typed, while_typed, do_while_typed, maybe_typed, maybe_condition_is, for_typed, break_typed, continue_typed, gives_nothing, returned, return_typed, stmt_typed, stmts_typed, cases_typed}
 use Rattle.ash_typing.specs.FaultPlaces.{begins_constant}
 use Rattle.ash_typing.proofs.FaultTokens.{HasToken, HasStart, ElementIn, NamedIn, MaybeIn, InitializerIn, DeclIn, VarsIn, IsHeadForm, LabelIn, StmtIn, StmtsIn, CasesIn}
 use Rattle.ash_typing.proofs.FaultAnswers.{Answers, fine, faulty, Fine, At, bind, either}
 use Rattle.ash_typing.proofs.FaultExpressions.{AllAt, ListAt, fitted_in, integer_in, bool_in, called_with_in, called_in, typed_in, all_in}
+use Rattle.ash_typing.specs.Terms.{array_parameters}
+use Rattle.ash_typing.specs.Labels.{is_same_constant, is_last}
+use Rattle.ash_typing.specs.Scopes.{Scope, block_of, loop_of, switch_of, with_variables, behind, is_taken}
 
 -- types
 

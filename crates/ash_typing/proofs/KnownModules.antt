@@ -9,13 +9,13 @@ use Rattle.ash_typed.specs.declared.types.ObjectType.{ObjectType}
 use Rattle.ash_typed.specs.declared.types.ObjectType.TheVariants.{Class as OfClass, Interface as OfInterface, Array as OfArray}
 use Rattle.ash_typing.specs.declared.types.Ty.{Ty}
 use Rattle.ash_typing.specs.declared.types.Ty.TheVariants as ty
-use Rattle.ash_typing.specs.Environment.{Environment, Heads, Interface, Class, first_from, is_class, is_interface_named}
-use Rattle.ash_typing.specs.Heads.{object_named, element_by, element_named, array_named, object_ty, handle_ty, ty_named, result_named, variables, parameter_ty, function_head, signature_head, fields_in, methods_in, construction_in, named_interfaces, named_classes, names_in, interfaces_in, classes_in, functions_in, globals_in, heads}
-use Rattle.ash_typing.specs.Declarations.{Initialization, ty_in, known_ty}
+use Rattle.ash_typing.specs.Environment.{Environment, Heads, Interface, Class, first_from, is_class, is_interface_named, inside}
+use Rattle.ash_typing.specs.Heads.{object_named, element_by, element_named, array_named, object_ty, handle_ty, ty_named, result_named, variables, parameter_ty, function_head, signature_head, names_in, heads, ty_in, interface_head, class_head, named_interface, named_class, all_variables, constructed_by}
+use Rattle.ash_typing.specs.Declarations.{Initialization, known_ty}
 use Rattle.ash_typing.specs.Typing.{IsKnown, IsVariableType, IsResultType, IsKnownVariable, IsKnownFunction, IsKnownInterface, IsKnownClass}
 use Rattle.ash_typed.specs.Modules as modules
-use Rattle.ash_typing.specs.Items.{Names, Row, vars_typed, result_typed, parameters_typed, Routine, routine_of, constructing, routine_typed, placed, untaken, Members, constructor_named, member_typed, members_typed, no_members, inside, all_listed, none_listed, class_typed, interface_typed, room_for_type, Walked, item_typed, items_typed}
-use Rattle.ash_typing.specs.TypedModules.{classes_of, interfaces_of, classes_before, functions_of, globals_of, fields_of, methods_of, constructors_of, IsPassedParameter, IsResult, AreVariables, AreFields, IsRoutine, IsFunction, IsSignature, IsInterface, AreInterfaces, HasConstructor, IsClass, AreClasses, environment}
+use Rattle.ash_typing.specs.Items.{Names, Row, vars_typed, result_typed, parameters_typed, routine_typed, placed, untaken, Members, constructor_named, member_typed, members_typed, no_members, all_listed, none_listed, class_typed, interface_typed, room_for_type, Walked, item_typed, items_typed}
+use Rattle.ash_typing.specs.TypedModules.{IsPassedParameter, IsResult, AreVariables, AreFields, IsRoutine, IsFunction, IsSignature, IsInterface, AreInterfaces, HasConstructor, IsClass, AreClasses, environment}
 use Rattle.ash_typing.proofs.Bindings.{bind_ok}
 use Rattle.ash_typing.proofs.TakenNames.{all_append}
 use Rattle.ash_typing.proofs.StatementsSound.{decls_known}
@@ -24,6 +24,7 @@ use Rattle.ash_typing.proofs.TypedVariables.{known_sound}
 use Rattle.ash_typing.proofs.TypedRoutines.{passed_variable, parameters_sound, result_sound}
 use Rattle.ash_typing.proofs.TypedInterfaces.{interface_sound}
 use Rattle.ash_typing.proofs.TypedClasses.{named_sound}
+use Rattle.ash_tree.specs.Items.{Routine, routine_of, constructing, classes_of, interfaces_of, classes_before, functions_of, globals_of, fields_of, methods_of, constructors_of}
 
 -- the types that are named, by what is looked up
 
@@ -210,51 +211,25 @@ signatures_seen : (calls : List host.Call) (named : Heads) (ms : List written.In
 signatures_seen calls named [] h = tt
 signatures_seen calls named (m ∷ ms) h = (record { result = result_known calls named m.result h.0.0; parameters = types_known calls named m.parameters h.0.1 }, signatures_seen calls named ms h.1)
 
-interfaces_seen : (calls : List host.Call) (named : Heads) (is : List written.Item) → AllByRecursion (KnownInterface (ty_named calls named)) (interfaces_of is) → AllByRecursion IsKnownInterface (interfaces_in calls named is)
+interfaces_seen : (calls : List host.Call) (named : Heads) (is : List written.Interface) → AllByRecursion (KnownInterface (ty_named calls named)) is → AllByRecursion IsKnownInterface (map (interface_head calls named) is)
 interfaces_seen calls named [] h = tt
-interfaces_seen calls named (written.AnInterface i ∷ is) h = (record { methods = signatures_seen calls named i.methods h.0 }, interfaces_seen calls named is h.1)
-interfaces_seen calls named (written.AClass c ∷ is) h = interfaces_seen calls named is h
-interfaces_seen calls named (written.AFunction f ∷ is) h = interfaces_seen calls named is h
-interfaces_seen calls named (written.AGlobal v ∷ is) h = interfaces_seen calls named is h
+interfaces_seen calls named (i ∷ is) h = (record { methods = signatures_seen calls named i.methods h.0 }, interfaces_seen calls named is h.1)
 
-fields_known : (calls : List host.Call) (named : Heads) (ms : List written.Member) → AllByRecursion (KnownVars (ty_named calls named)) (fields_of ms) → AllByRecursion IsKnownVariable (fields_in calls named ms)
-fields_known calls named [] h = tt
-fields_known calls named (written.AField v ∷ ms) h = all_append IsKnownVariable (variables calls named v) (fields_in calls named ms) (decls_known (ty_named calls named v.of) v.decls h.0) (fields_known calls named ms h.1)
-fields_known calls named (written.AMethod f ∷ ms) h = fields_known calls named ms h
-fields_known calls named (written.AConstructor c ∷ ms) h = fields_known calls named ms h
+variables_known : (calls : List host.Call) (named : Heads) (vs : List written.Vars) → AllByRecursion (KnownVars (ty_named calls named)) vs → AllByRecursion IsKnownVariable (all_variables calls named vs)
+variables_known calls named [] h = tt
+variables_known calls named (v ∷ vs) h = all_append IsKnownVariable (variables calls named v) (all_variables calls named vs) (decls_known (ty_named calls named v.of) v.decls h.0) (variables_known calls named vs h.1)
 
-methods_known : (calls : List host.Call) (named : Heads) (ms : List written.Member) → AllByRecursion (KnownFunction (ty_named calls named)) (methods_of ms) → AllByRecursion IsKnownFunction (methods_in calls named ms)
-methods_known calls named [] h = tt
-methods_known calls named (written.AMethod f ∷ ms) h = (head_known calls named f h.0, methods_known calls named ms h.1)
-methods_known calls named (written.AField v ∷ ms) h = methods_known calls named ms h
-methods_known calls named (written.AConstructor c ∷ ms) h = methods_known calls named ms h
-
-construction_known : (calls : List host.Call) (named : Heads) (ms : List written.Member) → AllByRecursion (KnownConstructor (ty_named calls named)) (constructors_of ms) → AllByRecursion IsVariableType (construction_in calls named ms)
-construction_known calls named [] h = tt
-construction_known calls named (written.AConstructor c ∷ ms) h = types_known calls named c.parameters h.0
-construction_known calls named (written.AMethod f ∷ ms) h = construction_known calls named ms h
-construction_known calls named (written.AField v ∷ ms) h = construction_known calls named ms h
-
-classes_known : (calls : List host.Call) (named : Heads) (is : List written.Item) → AllByRecursion (KnownClass (ty_named calls named)) (classes_of is) → AllByRecursion IsKnownClass (classes_in calls named is)
-classes_known calls named [] h = tt
-classes_known calls named (written.AClass c ∷ is) h = (record { fields = fields_known calls named c.members h.0.0; methods = methods_known calls named c.members h.0.1; parameters = construction_known calls named c.members h.0.2 }, classes_known calls named is h.1)
-classes_known calls named (written.AnInterface i ∷ is) h = classes_known calls named is h
-classes_known calls named (written.AFunction f ∷ is) h = classes_known calls named is h
-classes_known calls named (written.AGlobal v ∷ is) h = classes_known calls named is h
-
-functions_known : (calls : List host.Call) (named : Heads) (is : List written.Item) → AllByRecursion (KnownFunction (ty_named calls named)) (functions_of is) → AllByRecursion IsKnownFunction (functions_in calls named is)
+functions_known : (calls : List host.Call) (named : Heads) (fs : List written.Function) → AllByRecursion (KnownFunction (ty_named calls named)) fs → AllByRecursion IsKnownFunction (map (function_head calls named) fs)
 functions_known calls named [] h = tt
-functions_known calls named (written.AFunction f ∷ is) h = (head_known calls named f h.0, functions_known calls named is h.1)
-functions_known calls named (written.AClass c ∷ is) h = functions_known calls named is h
-functions_known calls named (written.AnInterface i ∷ is) h = functions_known calls named is h
-functions_known calls named (written.AGlobal v ∷ is) h = functions_known calls named is h
+functions_known calls named (f ∷ fs) h = (head_known calls named f h.0, functions_known calls named fs h.1)
 
-globals_known : (calls : List host.Call) (named : Heads) (is : List written.Item) → AllByRecursion (KnownVars (ty_named calls named)) (globals_of is) → AllByRecursion IsKnownVariable (globals_in calls named is)
-globals_known calls named [] h = tt
-globals_known calls named (written.AGlobal v ∷ is) h = all_append IsKnownVariable (variables calls named v) (globals_in calls named is) (decls_known (ty_named calls named v.of) v.decls h.0) (globals_known calls named is h.1)
-globals_known calls named (written.AClass c ∷ is) h = globals_known calls named is h
-globals_known calls named (written.AnInterface i ∷ is) h = globals_known calls named is h
-globals_known calls named (written.AFunction f ∷ is) h = globals_known calls named is h
+construction_known : (calls : List host.Call) (named : Heads) (cs : List written.Constructor) → AllByRecursion (KnownConstructor (ty_named calls named)) cs → AllByRecursion IsVariableType (constructed_by calls named cs)
+construction_known calls named [] h = tt
+construction_known calls named (c ∷ cs) h = types_known calls named c.parameters h.0
+
+classes_known : (calls : List host.Call) (named : Heads) (cs : List written.Class) → AllByRecursion (KnownClass (ty_named calls named)) cs → AllByRecursion IsKnownClass (map (class_head calls named) cs)
+classes_known calls named [] h = tt
+classes_known calls named (c ∷ cs) h = (record { fields = variables_known calls named (fields_of c.members) h.0.0; methods = functions_known calls named (methods_of c.members) h.0.1; parameters = construction_known calls named (constructors_of c.members) h.0.2 }, classes_known calls named cs h.1)
 
 -- types are looked up by the names of classes and interfaces alone
 
@@ -272,23 +247,17 @@ class_from name i cs = object_at OfClass (first_from (is_class name) i cs)
 abbrev interface_from : List ℕ → ℕ → List Interface → Option ObjectType
 interface_from name i ts = object_at OfInterface (first_from (is_interface_named name) i ts)
 
-same_class : (calls : List host.Call) (named : Heads) (name : List ℕ) (i : ℕ) (is : List written.Item) → class_from name i (classes_in calls named is) ≡ class_from name i (named_classes is)
+same_class : (calls : List host.Call) (named : Heads) (name : List ℕ) (i : ℕ) (cs : List written.Class) → class_from name i (map (class_head calls named) cs) ≡ class_from name i (map named_class cs)
 same_class calls named name i [] = refl
-same_class calls named name i (written.AClass c ∷ is) = same_first OfClass i (bytes_eq name c.name) _ _ (first_from (is_class name) (i + 1) (classes_in calls named is)) (first_from (is_class name) (i + 1) (named_classes is)) (same_class calls named name (i + 1) is)
-same_class calls named name i (written.AnInterface x ∷ is) = same_class calls named name i is
-same_class calls named name i (written.AFunction f ∷ is) = same_class calls named name i is
-same_class calls named name i (written.AGlobal v ∷ is) = same_class calls named name i is
+same_class calls named name i (c ∷ cs) = same_first OfClass i (bytes_eq name c.name) _ _ (first_from (is_class name) (i + 1) (map (class_head calls named) cs)) (first_from (is_class name) (i + 1) (map named_class cs)) (same_class calls named name (i + 1) cs)
 
-same_interface : (calls : List host.Call) (named : Heads) (name : List ℕ) (i : ℕ) (is : List written.Item) → interface_from name i (interfaces_in calls named is) ≡ interface_from name i (named_interfaces is)
+same_interface : (calls : List host.Call) (named : Heads) (name : List ℕ) (i : ℕ) (is : List written.Interface) → interface_from name i (map (interface_head calls named) is) ≡ interface_from name i (map named_interface is)
 same_interface calls named name i [] = refl
-same_interface calls named name i (written.AnInterface x ∷ is) = same_first OfInterface i (bytes_eq name x.name) _ _ (first_from (is_interface_named name) (i + 1) (interfaces_in calls named is)) (first_from (is_interface_named name) (i + 1) (named_interfaces is)) (same_interface calls named name (i + 1) is)
-same_interface calls named name i (written.AClass c ∷ is) = same_interface calls named name i is
-same_interface calls named name i (written.AFunction f ∷ is) = same_interface calls named name i is
-same_interface calls named name i (written.AGlobal v ∷ is) = same_interface calls named name i is
+same_interface calls named name i (x ∷ is) = same_first OfInterface i (bytes_eq name x.name) _ _ (first_from (is_interface_named name) (i + 1) (map (interface_head calls named) is)) (first_from (is_interface_named name) (i + 1) (map named_interface is)) (same_interface calls named name (i + 1) is)
 
 pub same_object : (calls : List host.Call) (is : List written.Item) (name : List ℕ) → object_named calls (heads calls is) name ≡ object_named calls (names_in is) name
 unfolding object_named heads
-same_object calls is name = rw (same_class calls (names_in is) name 0 is, same_interface calls (names_in is) name 0 is) refl
+same_object calls is name = rw (same_class calls (names_in is) name 0 (classes_of is), same_interface calls (names_in is) name 0 (interfaces_of is)) refl
 
 same_element : (calls : List host.Call) (is : List written.Item) (of : written.Element) → element_named calls (heads calls is) of ≡ element_named calls (names_in is) of
 unfolding element_named
@@ -311,4 +280,4 @@ unfolding heads
 module_known calls is h =
     let named = names_in is in
     let k = subst (λ (look : written.Named → Ty). KnownItems look is) (fun_ext (same_type calls is)) h in
-    record { interfaces = interfaces_seen calls named is k.0; classes = classes_known calls named is k.1; functions = functions_known calls named is k.2; globals = globals_known calls named is k.3; locals = tt }
+    record { interfaces = interfaces_seen calls named (interfaces_of is) k.0; classes = classes_known calls named (classes_of is) k.1; functions = functions_known calls named (functions_of is) k.2; globals = variables_known calls named (globals_of is) k.3; locals = tt }

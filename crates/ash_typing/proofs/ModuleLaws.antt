@@ -6,11 +6,12 @@ use Rattle.ash_tree.specs.Tree.{Item}
 use Rattle.ash_typing.specs.Typing.{IsKnown}
 use Rattle.ash_typing.specs.Items.{nothing, module_walked, items_typed, module_typed}
 use Rattle.ash_typed.specs.Modules.{Module}
-use Rattle.ash_typing.specs.TypedModules.{item_names, globals_of, variable_names, environment, IsTyped}
+use Rattle.ash_typing.specs.TypedModules.{environment, IsTyped}
 use Rattle.ash_typing.proofs.Bindings.{ok_is, bind_ok, bind_is}
 use Rattle.ash_typing.proofs.TakenNames.{CanTake}
 use Rattle.ash_typing.proofs.TypedItems.{walked_with, items_sound, items_complete}
 use Rattle.ash_typing.proofs.KnownModules.{items_known, rules_known, module_known}
+use Rattle.ash_tree.specs.Items.{item_names, globals_of, variable_names}
 
 sound : (calls : List Call) (is : List Item) (typed : Module) → module_typed calls is ≡ Ok typed → IsTyped calls is typed
 unfolding module_typed IsDistinct

@@ -14,12 +14,12 @@ use Rattle.ash_typed.specs.SoundModules as sound
 use Rattle.ash_typing.specs.declared.types.Ty.{Ty}
 use Rattle.ash_typing.specs.declared.types.Ty.TheVariants as ty
 use Rattle.ash_typing.specs.Types.{is_same, var_type, result_type}
-use Rattle.ash_typing.specs.Environment.{Environment, Function, Interface, Class, first_from, is_called}
-use Rattle.ash_typing.specs.Heads.{object_named}
+use Rattle.ash_typing.specs.Environment.{Environment, Function, Interface, Class, first_from, is_called, inside}
+use Rattle.ash_typing.specs.Heads.{object_named, ty_in}
 use Rattle.ash_typing.specs.Typing.{IsKnown, IsVariableType, IsKnownFunction, IsKnownInterface, IsKnownClass, is_known, IsDeclared}
-use Rattle.ash_typing.specs.Declarations.{ty_in}
-use Rattle.ash_typing.specs.Items.{constructing, inside, are_same, has_types_of, matching, method_for, with_first, methods_for, methods_of_class, methods_of_interface, implemented}
-use Rattle.ash_typing.specs.TypedModules.{member_names, fields_of, methods_of, constructors_of, AreFields, IsFunction, IsListed, HasConstructor, IsClass, AreClasses}
+use Rattle.ash_tree.specs.Items.{constructing, member_names, fields_of, methods_of, constructors_of}
+use Rattle.ash_typing.specs.Implementations.{are_same, has_types_of, matching, method_for, with_first, methods_for, methods_of_class, methods_of_interface, implemented}
+use Rattle.ash_typing.specs.TypedModules.{AreFields, IsFunction, IsListed, HasConstructor, IsClass, AreClasses}
 use Rattle.ash_typing.specs.Nesting.{ConstructorDeclaresInBlocks, ClassDeclaresInBlocks}
 use Rattle.ash_typing.specs.Soundness.{signature_of, signatures_of_interface, signature_of_class, seen_in}
 use Rattle.ash_typing.proofs.TypingTypes.{equal_kinds}

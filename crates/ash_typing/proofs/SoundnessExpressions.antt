@@ -34,8 +34,8 @@ use Rattle.ash_typing.specs.declared.forms.Sort.TheVariants as sort
 use Rattle.ash_typing.specs.Types.{signed, object_of, result_type, sort_of, binary_of, meets, outcome, ty_of_element, var_type}
 use Rattle.ash_typing.specs.Environment.{Environment, Known, Callee, Invoked, variable_in, callee_in, member_in, method_in}
 use Rattle.ash_typing.specs.Heads.{object_named, element_named}
-use Rattle.ash_typing.specs.Expressions.{conversion, applied, is_stored, call_of, assignable, bracketed, handle_form, array_parameters}
-use Rattle.ash_typing.specs.Typing.{IsKnown, IsKnownType, IsVariableType, IsResultType, is_known, Term, term, read_term, beside, left_of, right_of, right_by, converted_to, AreArguments, no_arguments, argument, IsCastType, to_class, to_interface, HasType, AllHaveType, LinksHaveType, SuffixesHaveType, SuffixHasType, number, truth, null, this, name, call, brackets, to_integer, to_bool, new_array, cast, postfix, plus, minus, complement, not, increment, decrement, handle, handle_written, binary as operators, conditional, assign, update, none_left, each, no_more, operated, no_suffixes, suffixed, field, method, index, increment_after, decrement_after}
+use Rattle.ash_typing.specs.Terms.{conversion, applied, is_stored, call_of, assignable, bracketed, handle_form, array_parameters, Term, term, read_term, beside, right_by, converted_to}
+use Rattle.ash_typing.specs.Typing.{IsKnown, IsKnownType, IsVariableType, IsResultType, is_known, left_of, right_of, AreArguments, no_arguments, argument, IsCastType, to_class, to_interface, HasType, AllHaveType, LinksHaveType, SuffixesHaveType, SuffixHasType, number, truth, null, this, name, call, brackets, to_integer, to_bool, new_array, cast, postfix, plus, minus, complement, not, increment, decrement, handle, handle_written, binary as operators, conditional, assign, update, none_left, each, no_more, operated, no_suffixes, suffixed, field, method, index, increment_after, decrement_after}
 use Rattle.ash_typing.specs.Soundness.{seen_in}
 use Rattle.ash_typing.proofs.TypingKnown.{at_some, known_type, variable_is_known, element_known, beside_known, outcome_known, variable_known, callee_known, member_known, method_known}
 use Rattle.ash_typing.proofs.TypingTypes.{variable_value, result_value, kept_type}
@@ -60,7 +60,7 @@ plain env of tree h = record { gives = h; place = tt }
 
 -- what reads a place of the type
 read_sound : (env : Environment) (tree : Expr) (of : Ty) → IsVariableType of → IsPlaceOf env tree of → IsSound env (read_term of tree)
-read_sound env tree of v h = record { gives = subst (sound.HasType (seen_in env) tree) (variable_value of v) (subst (λ e. sound.HasType (seen_in env) e (value (kept (var_type of)))) (sym h.1) (sound.read h.2)); place = h }
+read_sound env tree of v h = record { gives = subst (sound.IsWellTyped (seen_in env) tree) (variable_value of v) (subst (λ e. sound.IsWellTyped (seen_in env) e (value (kept (var_type of)))) (sym h.1) (sound.read h.2)); place = h }
 
 place_is : (env : Environment) (tree : Expr) (of : Ty) (at : Place) → IsPlaceOf env tree of → place_in tree ≡ Some at → sound.HasPlace (seen_in env) at (var_type of)
 place_is env tree of at h e = subst (λ p. sound.HasPlace (seen_in env) p (var_type of)) (same_Some h.0 at (ap place_in (sym h.1) ∙ e)) h.2
@@ -91,8 +91,8 @@ stored_type _ ty.Unknown k h = absurd (cc)
 stored_type _ _ k h = absurd (cc)
 
 -- an object or a handle gives a handle
-handle_sound : (env : Environment) (t : Term) (o : ObjectType) → object_of t.ty ≡ Some o → Gives env t.tree t.ty → sound.HasType (seen_in env) t.tree (value (vars.Handle o))
-handle_sound env t o e h = subst (sound.HasType (seen_in env) t.tree) (kept_type t.ty o e) h
+handle_sound : (env : Environment) (t : Term) (o : ObjectType) → object_of t.ty ≡ Some o → Gives env t.tree t.ty → sound.IsWellTyped (seen_in env) t.tree (value (vars.Handle o))
+handle_sound env t o e h = subst (sound.IsWellTyped (seen_in env) t.tree) (kept_type t.ty o e) h
 
 signed_is : (k : Kind) → operations.IsSigned (signed k)
 signed_is kinds.Int = operations.int
@@ -109,13 +109,13 @@ pub arguments_sound : (env : Environment) {parameters : List Ty} {ts : List Term
 arguments_sound env no_arguments known h = sound.no_arguments
 arguments_sound env (argument {of = of} {t = t} e rest) known h = sound.argument (fits_sound env of t (variable_is_known of known.0) h.0.1 h.0.0 e) (arguments_sound env rest known.1 h.1)
 
-called_sound : (env : Environment) (target : Callable) (parameters : List VarType) (gives : Option VarType) (trees : Exprs) → IsCalled env target parameters gives → sound.AreArguments (seen_in env) parameters trees → sound.HasType (seen_in env) (call_of target parameters trees) (given gives)
+called_sound : (env : Environment) (target : Callable) (parameters : List VarType) (gives : Option VarType) (trees : Exprs) → IsCalled env target parameters gives → sound.AreArguments (seen_in env) parameters trees → sound.IsWellTyped (seen_in env) (call_of target parameters trees) (given gives)
 called_sound env (callables.OwnMethod class place result) parameters gives trees h args = sound.invoke (sound.this h.0) h.1 args
 called_sound env (callables.Target target) parameters gives trees h args = sound.call h args
 
 -- a call of what takes these parameters
 pub call_sound : (env : Environment) (callee : Callee) (parameters : List Ty) (trees : Exprs) → IsResultType callee.result → Takes env callee parameters → sound.AreArguments (seen_in env) (map var_type parameters) trees → Gives env (call_of callee.target (map var_type parameters) trees) callee.result
-call_sound env callee parameters trees r takes args = subst (sound.HasType (seen_in env) (call_of callee.target (map var_type parameters) trees)) (result_value callee.result r) (called_sound env callee.target (map var_type parameters) (result_type callee.result) trees takes.0 args)
+call_sound env callee parameters trees r takes args = subst (sound.IsWellTyped (seen_in env) (call_of callee.target (map var_type parameters) trees)) (result_value callee.result r) (called_sound env callee.target (map var_type parameters) (result_type callee.result) trees takes.0 args)
 
 array_if : (env : Environment) (of : Element) (b : Bool) → IsElement (seen_in env).signatures of → operations.IsTarget (seen_in env).signatures (targets.Array of) (map var_type (cond b [] (ty.Integer kinds.Uint ∷ []))) (Some (vars.Handle (objects.Array of))) × AllByRecursion IsVariableType (cond b [] (ty.Integer kinds.Uint ∷ []))
 array_if env of true h = (operations.empty_array h, tt)
@@ -166,11 +166,11 @@ known_place env text found known h = read_sound env found.0 found.1 (at_some (λ
 callee_takes : (env : Environment) (text : List ℕ) (callee : Callee) (parameters : List Ty) → IsKnown env → callee_in env text ≡ Some callee → callee.parameters ≡ Some parameters → Takes env callee parameters
 callee_takes env text callee parameters known c q = at_some (Takes env callee) callee.parameters parameters (at_some (IsSoundCallee env) (callee_in env text) callee (callee_sound env text known) c) q
 
-member_place : (env : Environment) (t : Term) (o : ObjectType) (text : List ℕ) (found : Member × Ty) → IsKnown env → sound.HasType (seen_in env) t.tree (value (vars.Handle o)) → member_in env o text ≡ Some found → IsSound env (read_term found.1 (Read (Held t.tree found.0)))
+member_place : (env : Environment) (t : Term) (o : ObjectType) (text : List ℕ) (found : Member × Ty) → IsKnown env → sound.IsWellTyped (seen_in env) t.tree (value (vars.Handle o)) → member_in env o text ≡ Some found → IsSound env (read_term found.1 (Read (Held t.tree found.0)))
 member_place env t o text found known h i = read_sound env (Read (Held t.tree found.0)) found.1 (at_some (λ found. IsVariableType found.1) (member_in env o text) found (member_known env o text known) i) (_, refl, sound.member h (at_some (λ found. operations.IsMember (seen_in env).signatures o found.0 (var_type found.1)) (member_in env o text) found (member_sound env o text) i))
 
-invoked_sound : (env : Environment) (t : Term) (o : ObjectType) (text : List ℕ) (m : Invoked) (trees : Exprs) → IsKnown env → sound.HasType (seen_in env) t.tree (value (vars.Handle o)) → method_in env o text ≡ Some m → sound.AreArguments (seen_in env) (map var_type m.parameters) trees → Gives env (Invoke t.tree m.method (map var_type m.parameters) trees) m.result
-invoked_sound env t o text m trees known h i args = subst (sound.HasType (seen_in env) (Invoke t.tree m.method (map var_type m.parameters) trees)) (result_value m.result (at_some (λ m. IsResultType m.result) (method_in env o text) m (method_known env o text known) i)) (sound.invoke h (at_some (IsSoundMethod env o) (method_in env o text) m (method_sound env o text known) i).0 args)
+invoked_sound : (env : Environment) (t : Term) (o : ObjectType) (text : List ℕ) (m : Invoked) (trees : Exprs) → IsKnown env → sound.IsWellTyped (seen_in env) t.tree (value (vars.Handle o)) → method_in env o text ≡ Some m → sound.AreArguments (seen_in env) (map var_type m.parameters) trees → Gives env (Invoke t.tree m.method (map var_type m.parameters) trees) m.result
+invoked_sound env t o text m trees known h i args = subst (sound.IsWellTyped (seen_in env) (Invoke t.tree m.method (map var_type m.parameters) trees)) (result_value m.result (at_some (λ m. IsResultType m.result) (method_in env o text) m (method_known env o text known) i)) (sound.invoke h (at_some (IsSoundMethod env o) (method_in env o text) m (method_sound env o text known) i).0 args)
 
 element_place : (env : Environment) (t u : Term) (of : Element) (k : Kind) → object_of t.ty ≡ Some (objects.Array of) → Gives env t.tree t.ty → u.ty ≡ ty.Integer k → Gives env u.tree u.ty → IsSound env (read_term (ty_of_element of) (Read (Indexed t.tree (converted_to (ty.Integer kinds.Uint) u) of)))
 element_place env t u of k e h i g = read_sound env (Read (Indexed t.tree (converted_to (ty.Integer kinds.Uint) u) of)) (ty_of_element of) (element_known of) (_, refl, subst (sound.HasPlace (seen_in env) (Indexed t.tree (converted_to (ty.Integer kinds.Uint) u) of)) (sym (element_type of)) (sound.element (handle_sound env t (objects.Array of) e h) (converted_sound env u k kinds.Uint i g)))
@@ -207,7 +207,7 @@ mutual
   term_sound {env} (conditional {t = t} {x = x} {y = y} {of = of} h i k l m) known = plain env of (Conditional t.tree (converted_to of x) (converted_to of y)) (chosen_sound env t.tree x.tree y.tree x.ty y.ty of (known_type k known) (known_type l known) (of_type env t.tree t.ty ty.Bool i (term_sound h known).gives) (term_sound k known).gives (term_sound l known).gives m)
   term_sound {env} (assign {t = t} {u = u} {at = at} h i s k l) known =
       let is = stored_type t.form t.ty (known_type h known) s in
-      plain env t.ty (Assign at (converted_to t.ty u)) (subst (sound.HasType (seen_in env) (Assign at (converted_to t.ty u))) (variable_value t.ty is.0) (sound.assign (assigned_place env t.form t.tree t.ty at (term_sound h known).place i) is.1 (fits_sound env t.ty u (known_type h known) (known_type k known) (term_sound k known).gives l)))
+      plain env t.ty (Assign at (converted_to t.ty u)) (subst (sound.IsWellTyped (seen_in env) (Assign at (converted_to t.ty u))) (variable_value t.ty is.0) (sound.assign (assigned_place env t.form t.tree t.ty at (term_sound h known).place i) is.1 (fits_sound env t.ty u (known_type h known) (known_type k known) (term_sound k known).gives l)))
   term_sound {env} (update {c = c} {t = t} {u = u} {at = at} {j = j} {k = k} f h i s l m n) known =
       let right = beside (sort_of (binary_of c)) (term t.ty Null) u in
       let made = updated_sound env c (beside (sort_of (binary_of c)) u (term t.ty Null)).ty right j k at (integer_place env t at k (term_sound h known) i l) (beside_sound env (sort_of (binary_of c)) (term t.ty Null) u (term_sound m known).gives) n in

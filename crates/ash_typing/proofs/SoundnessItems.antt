@@ -13,12 +13,12 @@ use Rattle.ash_typing.specs.declared.types.Ty.{Ty}
 use Rattle.ash_typing.specs.declared.types.Ty.TheVariants as ty
 use Rattle.ash_typing.specs.Types.{var_type, result_type}
 use Rattle.ash_typing.specs.Environment.{Environment, with_locals}
-use Rattle.ash_typing.specs.Declarations.{ty_in}
-use Rattle.ash_typing.specs.Bodies.{body_scope, returns_in}
+use Rattle.ash_typing.specs.Heads.{ty_in, result_in}
+use Rattle.ash_typing.specs.Scopes.{body_scope}
 use Rattle.ash_typing.specs.Typing.{IsKnown, IsKnownType, IsVariableType, IsKnownVariable, IsDeclared}
 use Rattle.ash_typing.specs.TypedStatements.{IsKnownScope}
-use Rattle.ash_typing.specs.Items.{Routine, routine_of}
-use Rattle.ash_typing.specs.TypedModules.{classes_of, classes_before, IsPassed, IsPassedParameter, type_of_parameter, parameter_of, IsResult, result_in, AreVariables, AreFields, IsRoutine, IsFunction, IsSignature, IsInterface, AreInterfaces}
+use Rattle.ash_typing.specs.Returning.{returns_in}
+use Rattle.ash_typing.specs.TypedModules.{IsPassed, IsPassedParameter, type_of_parameter, parameter_of, IsResult, AreVariables, AreFields, IsRoutine, IsFunction, IsSignature, IsInterface, AreInterfaces}
 use Rattle.ash_typing.specs.Nesting.{BodyDeclaresInBlocks, FunctionDeclaresInBlocks}
 use Rattle.ash_typing.specs.Soundness.{seen_in}
 use Rattle.ash_typing.proofs.TakenNames.{all_append}
@@ -27,6 +27,7 @@ use Rattle.ash_typing.proofs.TypedRoutines.{passed_known, passed_variable, types
 use Rattle.ash_typing.proofs.SoundnessVariables.{type_sound, declared_sound}
 use Rattle.ash_typing.proofs.SoundnessStatements.{stmts_sound}
 use Rattle.ash_typing.proofs.SoundnessReturning.{any_typed}
+use Rattle.ash_tree.specs.Items.{Routine, routine_of, classes_of, classes_before}
 
 -- parameters and results
 

@@ -7,10 +7,10 @@ use Rattle.ash_typed.specs.Modules as modules
 use Rattle.ash_typed.specs.Signatures as signatures
 use Rattle.ash_typed.specs.SoundModules as sound
 use Rattle.ash_typing.specs.Environment.{Environment}
-use Rattle.ash_typing.specs.Declarations.{ty_in}
-use Rattle.ash_typing.specs.Heads.{heads}
+use Rattle.ash_tree.specs.Items.{classes_of, interfaces_of, classes_before, functions_of, globals_of, variable_names}
+use Rattle.ash_typing.specs.Heads.{heads, ty_in}
 use Rattle.ash_typing.specs.Typing.{IsDeclared}
-use Rattle.ash_typing.specs.TypedModules.{classes_of, interfaces_of, classes_before, functions_of, globals_of, variable_names, AreVariables, environment, IsTyped}
+use Rattle.ash_typing.specs.TypedModules.{AreVariables, environment, IsTyped}
 use Rattle.ash_typing.specs.Nesting.{ItemsDeclareInBlocks}
 use Rattle.ash_typing.specs.Offered.{offered}
 use Rattle.ash_typing.specs.Soundness.{signatures_in}

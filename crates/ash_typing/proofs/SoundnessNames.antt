@@ -31,11 +31,11 @@ use Rattle.ash_typing.specs.declared.types.Ty.TheVariants as ty
 use Rattle.ash_typing.specs.declared.forms.Callable.{Callable}
 use Rattle.ash_typing.specs.declared.forms.Callable.TheVariants as callables
 use Rattle.ash_typing.specs.Types.{var_type, result_type, ty_of, ty_of_element}
-use Rattle.ash_typing.specs.Environment.{Environment, Declared, Function, Interface, Class, Heads, Known, Callee, Invoked, first_from, last_named, declares, is_called, is_class, is_interface_named, this_class, result_of, service_function, host_type, factory_in, factory_parameters, host_method, property, named_in, own_method_in, class_in, function_in, field_in, local_in, own_field_in, global_in, callee_beside, variable_in, callee_in, member_in, method_in, class_method, interface_method, method_of_class, method_of_interface, method_of_array, method_of_kind, array_method_of, is_array_method, host_member_in, name_of_kind}
+use Rattle.ash_typing.specs.Environment.{Environment, Declared, Function, Interface, Class, Heads, Known, Callee, Invoked, first_from, last_named, declares, is_called, is_class, is_interface_named, this_class, result_of, service_function, host_type, factory_in, factory_parameters, host_method, property, named_in, own_method_in, class_in, function_in, field_in, local_in, own_field_in, global_in, callee_beside, variable_in, callee_in, member_in, method_in, class_method, interface_method, method_of_class, method_of_interface, method_of_array, method_of_kind, array_method_of, is_array_method, host_member_in, name_of_kind, type_declared}
 use Rattle.ash_typing.specs.Heads.{object_named, class_type, interface_type, host_object, element_of, element_by, element_named}
 use Rattle.ash_typing.specs.Typing.{IsKnown, IsKnownFunction, IsKnownInterface, IsKnownClass, IsVariableType}
 use Rattle.ash_typing.specs.Offered.{host_signature, kind_in, factory_at, method_at, property_at, function_at}
-use Rattle.ash_typing.specs.Soundness.{type_declared, signature_of, signatures_of_interface, signature_of_class, signatures_in, seen_in}
+use Rattle.ash_typing.specs.Soundness.{signature_of, signatures_of_interface, signature_of_class, signatures_in, seen_in}
 use Rattle.ash_typing.proofs.TypingKnown.{primitive_known, element_known, at_some, if_map, if_or, if_then, if_weaker, if_all, if_first, if_get}
 
 -- places

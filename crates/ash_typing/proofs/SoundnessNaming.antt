@@ -8,10 +8,11 @@ use Rattle.ash_typed.specs.Modules as modules
 use Rattle.ash_typed.specs.SoundModules.{name_of_function, name_of_variable, names_of_globals}
 use Rattle.ash_typing.specs.declared.types.Ty.{Ty}
 use Rattle.ash_typing.specs.Environment.{Environment}
-use Rattle.ash_typing.specs.Declarations.{ty_in}
+use Rattle.ash_typing.specs.Heads.{ty_in}
 use Rattle.ash_typing.specs.Typing.{IsDeclared, declared as is_declared}
-use Rattle.ash_typing.specs.TypedModules.{functions_of, globals_of, decl_name, names_of, variable_names, item_names, AreVariables, IsFunction}
+use Rattle.ash_typing.specs.TypedModules.{AreVariables, IsFunction}
 use Rattle.ash_typing.proofs.TakenNames.{all_append, all_front, all_rest}
+use Rattle.ash_tree.specs.Items.{functions_of, globals_of, decl_name, names_of, variable_names, item_names}
 
 abbrev Distinct : List (List ℕ) → Type 0
 Distinct = IsDistinct bytes_eq

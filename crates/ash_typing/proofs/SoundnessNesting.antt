@@ -5,7 +5,7 @@ use Rattle.ash_tree.specs.Tree.{Stmt, stmts, Case, cases, Function, Member, Clas
 use Rattle.ash_tree.specs.Tokens.{Tokens}
 use Rattle.ash_tree.specs.Statements.{IsNested, nested, AreLocals, no_locals, local_vars, local_stmt, IsBlock, block, IsStmt, inner_block, empty, evaluate, if_only, if_else, while, do_while, for, switch, break, continue, return, AreCases, no_cases, more_cases, AreStmts, no_stmts, more_stmts}
 use Rattle.ash_tree.specs.Grammar.{IsFunction, function, method, fields, constructor, AreMembers, no_members, more_members, IsClass, class, a_class, an_interface, a_function, globals, Derives, no_items, semicolon, item}
-use Rattle.ash_typing.specs.TypedModules.{methods_of, constructors_of}
+use Rattle.ash_tree.specs.Items.{methods_of, constructors_of}
 use Rattle.ash_typing.specs.Nesting.{IsNoDeclaration, DeclaresInBlocks, AllDeclareInBlocks, CasesDeclareInBlocks, LabelledDeclareInBlocks, FunctionDeclaresInBlocks, ConstructorDeclaresInBlocks, ClassDeclaresInBlocks, ItemsDeclareInBlocks}
 
 abbrev IsProper : Stmt → Type 0

@@ -7,7 +7,7 @@ use Rattle.ash_typed.specs.declared.types.Kind.{Kind}
 use Rattle.ash_typed.specs.StatementTree.{Stmt, Stmts, labelled, Cases, no_case, next_case}
 use Rattle.ash_typed.specs.Returning as typed
 use Rattle.ash_typing.specs.Returning.{breaks, any_breaks, breaks_out, is_default, has_default, last_of, returns, any_returns, last_returns}
-use Rattle.ash_typing.specs.Statements.{Scope}
+use Rattle.ash_typing.specs.Scopes.{Scope}
 use Rattle.ash_typing.specs.TypedStatements.{IsStmt, empty, declare, evaluate, block, if_only, if_else, while_loop, do_loop, for_loop, switch, break_out, continue_on, return_nothing, return_value, AreStmts, no_more_stmts, more_stmts, AreCases, no_more_cases, more_cases}
 
 or_left : (a b : Bool) → a ≡ true → (a || b) ≡ true

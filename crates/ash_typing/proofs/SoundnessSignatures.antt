@@ -9,14 +9,13 @@ use Rattle.ash_typed.specs.Modules as modules
 use Rattle.ash_typed.specs.Signatures as signatures
 use Rattle.ash_typing.specs.declared.types.Ty.{Ty}
 use Rattle.ash_typing.specs.Types.{var_type, result_type}
-use Rattle.ash_typing.specs.Environment.{Environment, Declared, Heads}
-use Rattle.ash_typing.specs.Heads.{object_named, ty_named, result_named, declared, variables, parameter_ty, function_head, signature_head, interface_head, class_head, fields_in, methods_in, construction_in, interface_place, with_place, listed_in, interfaces_in, classes_in, functions_in, globals_in, names_in, heads}
-use Rattle.ash_typing.specs.Declarations.{ty_in}
+use Rattle.ash_typing.specs.Environment.{Environment, Declared, Heads, inside, type_declared}
+use Rattle.ash_typing.specs.Heads.{object_named, ty_named, result_named, declared, variables, parameter_ty, function_head, signature_head, interface_head, class_head, interface_place, with_place, listed_in, names_in, heads, ty_in, result_in, all_variables, constructed_by}
+use Rattle.ash_tree.specs.Items.{classes_of, interfaces_of, classes_before, functions_of, globals_of, fields_of, methods_of, constructors_of}
 use Rattle.ash_typing.specs.Typing.{IsDeclared, declared as is_declared}
-use Rattle.ash_typing.specs.Items.{inside}
-use Rattle.ash_typing.specs.TypedModules.{classes_of, interfaces_of, classes_before, functions_of, globals_of, fields_of, methods_of, constructors_of, type_of_parameter, result_in, AreVariables, AreFields, IsFunction, IsSignature, IsInterface, AreInterfaces, IsListed, HasConstructor, IsClass, AreClasses, environment, IsTyped}
+use Rattle.ash_typing.specs.TypedModules.{type_of_parameter, AreVariables, AreFields, IsFunction, IsSignature, IsInterface, AreInterfaces, IsListed, HasConstructor, IsClass, AreClasses, environment, IsTyped}
 use Rattle.ash_typing.specs.Offered.{offered}
-use Rattle.ash_typing.specs.Soundness.{type_declared, signature_of, signatures_of_interface, signature_of_class, signatures_in}
+use Rattle.ash_typing.specs.Soundness.{signature_of, signatures_of_interface, signature_of_class, signatures_in}
 use Rattle.ash_typing.proofs.KnownModules.{same_type, same_object}
 use Rattle.ash_typing.proofs.SoundnessVariables.{map-append}
 
@@ -76,44 +75,12 @@ same_decls {env} looks v vs h = same_variables env (ty_in env v.of) v.decls vs h
 
 -- classes
 
-methods_is : (calls : List host.Call) (named : Heads) (ms : List written.Member) → methods_in calls named ms ≡ map (function_head calls named) (methods_of ms)
-methods_is calls named [] = refl
-methods_is calls named (written.AMethod f ∷ ms) = ap (λ fs. function_head calls named f ∷ fs) (methods_is calls named ms)
-methods_is calls named (written.AField v ∷ ms) = methods_is calls named ms
-methods_is calls named (written.AConstructor c ∷ ms) = methods_is calls named ms
-
--- the variables of several declarations
-all_variables : List host.Call → Heads → List written.Vars → List Declared
-all_variables calls named [] = []
-all_variables calls named (v ∷ vs) = variables calls named v ++ all_variables calls named vs
-
-fields_is : (calls : List host.Call) (named : Heads) (ms : List written.Member) → fields_in calls named ms ≡ all_variables calls named (fields_of ms)
-unfolding all_variables
-fields_is calls named [] = refl
-fields_is calls named (written.AField v ∷ ms) = ap (λ vs. variables calls named v ++ vs) (fields_is calls named ms)
-fields_is calls named (written.AMethod f ∷ ms) = fields_is calls named ms
-fields_is calls named (written.AConstructor c ∷ ms) = fields_is calls named ms
-
 same_fields : {env : Environment} {calls : List host.Call} {named : Heads} → Looks env calls named → (vs : List written.Vars) (ts : List Initialization) → AreFields env vs ts → map signatures.type_declared ts ≡ map type_declared (all_variables calls named vs)
-unfolding all_variables
 same_fields looks [] ts h = ap (map signatures.type_declared) h
 same_fields {env} {calls} {named} looks (v ∷ vs) ts h =
     ap (map signatures.type_declared) h.5 ∙ map-append signatures.type_declared h.0 h.1 ∙ ap₂ (λ xs ys. xs ++ ys) (same_decls looks v h.0 h.3) (same_fields looks vs h.1 h.4) ∙ sym (map-append type_declared (variables calls named v) (all_variables calls named vs))
 
--- what the construction takes
-constructed_by : List host.Call → Heads → List written.Constructor → List Ty
-constructed_by calls named [] = []
-constructed_by calls named (c ∷ cs) = map (parameter_ty calls named) c.parameters
-
-construction_is : (calls : List host.Call) (named : Heads) (ms : List written.Member) → construction_in calls named ms ≡ constructed_by calls named (constructors_of ms)
-unfolding constructed_by
-construction_is calls named [] = refl
-construction_is calls named (written.AConstructor c ∷ ms) = refl
-construction_is calls named (written.AMethod f ∷ ms) = construction_is calls named ms
-construction_is calls named (written.AField v ∷ ms) = construction_is calls named ms
-
 same_construction : {env : Environment} {calls : List host.Call} {named : Heads} → Looks env calls named → (class : List ℕ) (cs : List written.Constructor) (t : Option modules.Function) → HasConstructor env class cs t → signatures.parameters_of t ≡ map var_type (constructed_by calls named cs)
-unfolding constructed_by
 same_construction looks class [] None h = refl
 same_construction looks class [] (Some t) h = absurd h
 same_construction looks class (c ∷ []) None h = absurd h
@@ -131,41 +98,12 @@ same_class : {env : Environment} {calls : List host.Call} {named : Heads} → Lo
 same_class {env} {calls} {named} looks place c t is =
     let inner = within_class looks place in
     let interfaces = same_listed looks place c.interfaces t.interfaces is.interfaces in
-    let fields = same_fields inner (fields_of c.members) t.fields is.fields ∙ sym (ap (map type_declared) (fields_is calls named c.members)) in
-    let parameters = same_construction inner c.name (constructors_of c.members) t.constructor is.constructor ∙ sym (ap (map var_type) (construction_is calls named c.members)) in
-    let methods = same_methods inner (methods_of c.members) t.methods is.methods ∙ sym (ap (map signature_of) (methods_is calls named c.members)) in
+    let fields = same_fields inner (fields_of c.members) t.fields is.fields in
+    let parameters = same_construction inner c.name (constructors_of c.members) t.constructor is.constructor in
+    let methods = same_methods inner (methods_of c.members) t.methods is.methods in
     λ i. record { interfaces = interfaces i; fields = fields i; parameters = parameters i; methods = methods i }
 
 -- modules
-
-interfaces_is : (calls : List host.Call) (named : Heads) (is : List written.Item) → interfaces_in calls named is ≡ map (interface_head calls named) (interfaces_of is)
-interfaces_is calls named [] = refl
-interfaces_is calls named (written.AnInterface i ∷ is) = ap (λ rest. interface_head calls named i ∷ rest) (interfaces_is calls named is)
-interfaces_is calls named (written.AClass c ∷ is) = interfaces_is calls named is
-interfaces_is calls named (written.AFunction f ∷ is) = interfaces_is calls named is
-interfaces_is calls named (written.AGlobal v ∷ is) = interfaces_is calls named is
-
-pub classes_is : (calls : List host.Call) (named : Heads) (is : List written.Item) → classes_in calls named is ≡ map (class_head calls named) (classes_of is)
-classes_is calls named [] = refl
-classes_is calls named (written.AClass c ∷ is) = ap (λ rest. class_head calls named c ∷ rest) (classes_is calls named is)
-classes_is calls named (written.AnInterface i ∷ is) = classes_is calls named is
-classes_is calls named (written.AFunction f ∷ is) = classes_is calls named is
-classes_is calls named (written.AGlobal v ∷ is) = classes_is calls named is
-
-functions_is : (calls : List host.Call) (named : Heads) (is : List written.Item) → functions_in calls named is ≡ map (function_head calls named) (functions_of is)
-functions_is calls named [] = refl
-functions_is calls named (written.AFunction f ∷ is) = ap (λ rest. function_head calls named f ∷ rest) (functions_is calls named is)
-functions_is calls named (written.AClass c ∷ is) = functions_is calls named is
-functions_is calls named (written.AnInterface i ∷ is) = functions_is calls named is
-functions_is calls named (written.AGlobal v ∷ is) = functions_is calls named is
-
-globals_is : (calls : List host.Call) (named : Heads) (is : List written.Item) → globals_in calls named is ≡ all_variables calls named (globals_of is)
-unfolding all_variables
-globals_is calls named [] = refl
-globals_is calls named (written.AGlobal v ∷ is) = ap (λ rest. variables calls named v ++ rest) (globals_is calls named is)
-globals_is calls named (written.AClass c ∷ is) = globals_is calls named is
-globals_is calls named (written.AnInterface i ∷ is) = globals_is calls named is
-globals_is calls named (written.AFunction f ∷ is) = globals_is calls named is
 
 same_interface : {env : Environment} {calls : List host.Call} {named : Heads} → Looks env calls named → (i : written.Interface) (classes : ℕ) (t : modules.Interface) → IsInterface env i classes t → signatures.methods_of_interface t ≡ signatures_of_interface (interface_head calls named i)
 same_interface {env} {calls} {named} looks i classes t is = sym (map-itself t.methods) ∙ zip_same (IsSignature env) (λ m. m) (λ m. signature_of (signature_head calls named m)) (same_signature looks) i.methods t.methods is.methods ∙ sym (map-map signature_of (signature_head calls named) i.methods)
@@ -189,7 +127,6 @@ same_classes looks place (c ∷ cs) [] h = absurd h
 same_classes looks place (c ∷ cs) (t ∷ ts) h = ap₂ (λ x xs. x ∷ xs) (same_class looks place c t h.0) (same_classes looks (place + 1) cs ts h.1)
 
 same_globals : {env : Environment} {calls : List host.Call} {named : Heads} → Looks env calls named → (vs : List written.Vars) (ts : List modules.Variables) → AllZip (AreVariables env) vs ts → signatures.types_of_globals ts ≡ map type_declared (all_variables calls named vs)
-unfolding all_variables
 same_globals looks [] [] h = refl
 same_globals looks [] (t ∷ ts) h = absurd h
 same_globals looks (v ∷ vs) [] h = absurd h
@@ -201,8 +138,8 @@ unfolding heads
 same_signatures calls is m typed =
     let named = names_in is in
     let looks : Looks (environment calls is) calls named = record { types = same_type calls is; names = same_object calls is } in
-    let interfaces = same_interfaces looks (interfaces_of is) (classes_before 0 is) m.interfaces typed.interfaces ∙ sym (ap (map signatures_of_interface) (interfaces_is calls named is)) in
-    let classes = same_classes looks 0 (classes_of is) m.classes typed.classes ∙ sym (ap (map signature_of_class) (classes_is calls named is)) in
-    let functions = same_methods looks (functions_of is) m.functions typed.functions ∙ sym (ap (map signature_of) (functions_is calls named is)) in
-    let globals = same_globals looks (globals_of is) m.globals typed.globals ∙ sym (ap (map type_declared) (globals_is calls named is)) in
+    let interfaces = same_interfaces looks (interfaces_of is) (classes_before 0 is) m.interfaces typed.interfaces in
+    let classes = same_classes looks 0 (classes_of is) m.classes typed.classes in
+    let functions = same_methods looks (functions_of is) m.functions typed.functions in
+    let globals = same_globals looks (globals_of is) m.globals typed.globals in
     λ i. record { host = offered calls; interfaces = interfaces i; classes = classes i; functions = functions i; globals = globals i }

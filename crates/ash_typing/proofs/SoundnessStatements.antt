@@ -16,21 +16,22 @@ use Rattle.ash_typed.specs.SoundStatements as sound_statements
 use Rattle.ash_typing.specs.declared.types.Ty.{Ty}
 use Rattle.ash_typing.specs.declared.types.Ty.TheVariants as ty
 use Rattle.ash_typing.specs.Types.{var_type, result_type}
-use Rattle.ash_typing.specs.Environment.{Environment, Class}
+use Rattle.ash_typing.specs.Environment.{Environment, Class, type_declared}
 use Rattle.ash_typing.specs.Fitting.{fits}
-use Rattle.ash_typing.specs.Declarations.{ty_in}
+use Rattle.ash_typing.specs.Heads.{ty_in}
 use Rattle.ash_typing.specs.Returning.{is_default}
-use Rattle.ash_typing.specs.Switches.{holds_minus, holds_label, is_same_constant}
-use Rattle.ash_typing.specs.Typing.{IsKnown, Term, AllHaveType, none_left, each, converted_to}
-use Rattle.ash_typing.specs.Statements.{Scope, block_of, loop_of, switch_of, with_variables, declared_in, behind, is_last}
+use Rattle.ash_typing.specs.Labels.{holds_minus, holds_label, is_same_constant, is_last}
+use Rattle.ash_typing.specs.Typing.{IsKnown, AllHaveType, none_left, each}
+use Rattle.ash_typing.specs.Terms.{Term, converted_to}
 use Rattle.ash_typing.specs.TypedStatements.{IsKnownScope, IsCondition, condition, MayBeCondition, endless, until, IsHead, heads_nothing, heads_variables, heads_expression, IsLabel, constant, otherwise, tree_of_term, IsStmt, empty, declare, evaluate, block, if_only, if_else, while_loop, do_loop, for_loop, switch, break_out, continue_on, return_nothing, return_value, AreStmts, no_more_stmts, more_stmts, AreCases, no_more_cases, more_cases}
 use Rattle.ash_typing.specs.Nesting.{IsNoDeclaration, DeclaresInBlocks, AllDeclareInBlocks, CasesDeclareInBlocks, LabelledDeclareInBlocks}
-use Rattle.ash_typing.specs.Soundness.{type_declared, seen_in, seen_at}
+use Rattle.ash_typing.specs.Soundness.{seen_in, seen_at}
 use Rattle.ash_typing.proofs.TypingKnown.{known_type, variable_is_known}
 use Rattle.ash_typing.proofs.StatementsSound.{decls_known, more_known}
 use Rattle.ash_typing.proofs.SoundnessTypes.{of_type, within, fits_sound}
 use Rattle.ash_typing.proofs.SoundnessExpressions.{term_sound}
 use Rattle.ash_typing.proofs.SoundnessVariables.{type_sound, seen_with, variables_sound}
+use Rattle.ash_typing.specs.Scopes.{Scope, block_of, loop_of, switch_of, with_variables, declared_in, behind}
 
 -- scopes
 

@@ -29,15 +29,15 @@ use Rattle.ash_typing.specs.declared.forms.Form.TheVariants as form
 use Rattle.ash_typing.specs.Types.{is_same_kind, is_same_element, is_same_object, holds, kind_of, meeting, common, gives_object, agrees, sort_of, meets, outcome, var_type, value_type}
 use Rattle.ash_typing.specs.Environment.{Environment, Class}
 use Rattle.ash_typing.specs.Fitting.{has_interface, lists, is_of, fits}
-use Rattle.ash_typing.specs.Expressions.{conversion, operand_type, applied}
-use Rattle.ash_typing.specs.Typing.{Term, is_known, IsKnownType, converted_to, taking, beside, right_by}
+use Rattle.ash_typing.specs.Terms.{conversion, operand_type, applied, Term, converted_to, taking, beside, right_by}
+use Rattle.ash_typing.specs.Typing.{is_known, IsKnownType}
 use Rattle.ash_typing.specs.Soundness.{signature_of_class, seen_in}
 use Rattle.ash_typing.proofs.TypingTypes.{equal_kinds}
 use Rattle.ash_typing.proofs.SoundnessNames.{mapped}
 
 -- the tree gives what an expression of the type gives
 abbrev pub Gives : Environment → Expr → Ty → Type 0
-Gives env tree of = sound.HasType (seen_in env) tree (value_type of)
+Gives env tree of = sound.IsWellTyped (seen_in env) tree (value_type of)
 
 -- equal types
 
@@ -114,7 +114,7 @@ AreOperands env sort.Order (operands.Integers k) a b = Gives env a (ty.Integer k
 AreOperands env sort.Equality (operands.Integers k) a b = Gives env a (ty.Integer k) × Gives env b (ty.Integer k)
 AreOperands env sort.Equality operands.Bools a b = Gives env a ty.Bool × Gives env b ty.Bool
 AreOperands env sort.Logic operands.Bools a b = Gives env a ty.Bool × Gives env b ty.Bool
-AreOperands env sort.Identity operands.Handles a b = (x y : ValueType) × sound.HasType (seen_in env) a x × operations.IsOperand operands.Handles x × sound.HasType (seen_in env) b y × operations.IsOperand operands.Handles y
+AreOperands env sort.Identity operands.Handles a b = (x y : ValueType) × sound.IsWellTyped (seen_in env) a x × operations.IsOperand operands.Handles x × sound.IsWellTyped (seen_in env) b y × operations.IsOperand operands.Handles y
 AreOperands env _ _ _ _ = ⊥
 
 -- what becomes of two terms
@@ -231,10 +231,10 @@ abbrev IsChosen : Environment → Expr → Ty → Ty → Expr → Expr → Ty �
 IsChosen env c a b x y of = Gives env (Conditional c (converted (conversion of a) x) (converted (conversion of b) y)) of
 
 abbrev IsHandle : Environment → Expr → ObjectType → Type 0
-IsHandle env tree o = sound.HasType (seen_in env) tree (value (vars.Handle o))
+IsHandle env tree o = sound.IsWellTyped (seen_in env) tree (value (vars.Handle o))
 
 -- one branch is an object, and the other gives one of its type, or null
-object_chosen : (env : Environment) (c x y : Expr) (o : ObjectType) (b : Ty) → is_known b ≡ true → Gives env c ty.Bool → IsHandle env x o → Gives env y b → gives_object o b ≡ true → sound.HasType (seen_in env) (Conditional c x y) (value (vars.Handle o))
+object_chosen : (env : Environment) (c x y : Expr) (o : ObjectType) (b : Ty) → is_known b ≡ true → Gives env c ty.Bool → IsHandle env x o → Gives env y b → gives_object o b ≡ true → sound.IsWellTyped (seen_in env) (Conditional c x y) (value (vars.Handle o))
 object_chosen env c x y o (ty.Object p) k h i l e = sound.choose h i (subst (IsHandle env y) (sym (equal_objects o p e)) l)
 object_chosen env c x y o (ty.Handle p) k h i l e = sound.choose h i (subst (IsHandle env y) (sym (equal_objects o p e)) l)
 object_chosen env c x y o ty.Null k h i l e = sound.choose_or_null h i l

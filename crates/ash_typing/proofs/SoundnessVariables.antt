@@ -24,15 +24,14 @@ use Rattle.ash_typing.specs.declared.types.Ty.{Ty}
 use Rattle.ash_typing.specs.declared.types.Ty.TheVariants as ty
 use Rattle.ash_typing.specs.declared.forms.Callable.TheVariants as callables
 use Rattle.ash_typing.specs.Types.{is_interface, object_of, var_type, ty_of}
-use Rattle.ash_typing.specs.Environment.{Environment, Declared, Class, Heads, Callee, host_type, with_locals}
+use Rattle.ash_typing.specs.Environment.{Environment, Declared, Class, Heads, Callee, host_type, with_locals, class_built, class_construction, kind_construction, construction, type_declared}
 use Rattle.ash_typing.specs.Heads.{object_named, element_named, array_named, object_ty, handle_ty, ty_named, declared}
-use Rattle.ash_typing.specs.Declarations.{class_built, class_construction, kind_construction, construction}
-use Rattle.ash_typing.specs.Expressions.{call_of}
-use Rattle.ash_typing.specs.Typing.{IsKnown, IsKnownType, IsVariableType, Term, is_object, IsConstructed, construct, BeginsWith, empty, default, value, one, built_by, IsDeclared, declared as is_declared}
-use Rattle.ash_typing.specs.Statements.{Scope}
+use Rattle.ash_typing.specs.Terms.{call_of, Term}
+use Rattle.ash_typing.specs.Scopes.{Scope}
+use Rattle.ash_typing.specs.Typing.{IsKnown, IsKnownType, IsVariableType, is_object, IsConstructed, construct, BeginsWith, empty, default, value, one, built_by, IsDeclared, declared as is_declared}
 use Rattle.ash_typing.specs.TypedStatements.{IsKnownScope, AreDeclared, none_declared, and_declared}
 use Rattle.ash_typing.specs.Offered.{factory_at}
-use Rattle.ash_typing.specs.Soundness.{type_declared, signatures_in, seen_in}
+use Rattle.ash_typing.specs.Soundness.{signatures_in, seen_in}
 use Rattle.ash_typing.proofs.TypingKnown.{at_some, if_then, known_type}
 use Rattle.ash_typing.proofs.StatementsSound.{more_known}
 use Rattle.ash_typing.proofs.SoundnessNames.{found_with, class_takes, host_found, object_sound, element_sound}

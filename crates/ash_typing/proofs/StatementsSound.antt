@@ -14,13 +14,13 @@ use Rattle.ash_typed.specs.declared.tree.statements.Test.TheVariants.{First, Las
 use Rattle.ash_typed.specs.Tree.{Expr}
 use Rattle.ash_typed.specs.StatementTree.{Initialization, Stmt, Declare, If, no_branch, branch, Head, Repeat, For, repeated, Return, Stmts, labelled, Cases, next_case}
 use Rattle.ash_typing.specs.Environment.{Environment, Declared, Class}
-use Rattle.ash_typing.specs.Expressions.{Typed, typed, all_typed, integer_of, bool_of, is_void}
-use Rattle.ash_typing.specs.Heads.{declared}
-use Rattle.ash_typing.specs.Declarations.{ty_in, at_type, known_ty, decl_typed}
-use Rattle.ash_typing.specs.Typing.{converted_to, term_of, AllHaveType, IsKnown, IsKnownType, IsVariableType, IsKnownVariable}
+use Rattle.ash_typing.specs.Expressions.{Typed, typed, all_typed, integer_of, bool_of, is_void, term_of}
+use Rattle.ash_typing.specs.Heads.{declared, ty_in}
+use Rattle.ash_typing.specs.Declarations.{at_type, known_ty, decl_typed}
+use Rattle.ash_typing.specs.Typing.{AllHaveType, IsKnown, IsKnownType, IsVariableType, IsKnownVariable}
 use Rattle.ash_typing.specs.Returning.{is_default}
-use Rattle.ash_typing.specs.Switches.{kind_in, is_within, holds_label, is_same_constant, constant_typed, label_typed}
-use Rattle.ash_typing.specs.Statements.{Scope, behind, block_of, loop_of, switch_of, with_variables, is_taken, fresh, decls_typed, vars_typed, condition_is, if_typed, if_else_typed, while_typed, do_while_typed, maybe_typed, maybe_condition_is, tree_of, head_typed, for_typed, break_typed, continue_typed, gives_nothing, returned, return_typed, is_last, stmt_typed, stmts_typed, cases_typed}
+use Rattle.ash_typing.specs.Switches.{kind_in, is_within, constant_typed, label_typed}
+use Rattle.ash_typing.specs.Statements.{fresh, decls_typed, vars_typed, condition_is, if_typed, if_else_typed, while_typed, do_while_typed, maybe_typed, maybe_condition_is, tree_of, head_typed, for_typed, break_typed, continue_typed, gives_nothing, returned, return_typed, stmt_typed, stmts_typed, cases_typed}
 use Rattle.ash_typing.specs.TypedStatements.{IsKnownScope, AreDeclared, none_declared, and_declared, IsCondition, condition, MayBeCondition, endless, until, IsHead, heads_nothing, heads_variables, heads_expression, IsLabel, constant, otherwise, IsStmt, empty, declare, evaluate, block, if_only, if_else, while_loop, do_loop, for_loop, switch, break_out, continue_on, return_nothing, return_value, AreStmts, no_more_stmts, more_stmts, AreCases, no_more_cases, more_cases}
 use Rattle.ash_typing.proofs.Bindings.{no_err, ok_is, bind_ok, if_ok}
 use Rattle.ash_typing.proofs.TakenNames.{all_append}
@@ -30,6 +30,9 @@ use Rattle.ash_typing.proofs.TypingComplete.{terms}
 use Rattle.ash_typing.proofs.TypingSound.{sound, all_sound, fitted_ok}
 use Rattle.ash_typing.proofs.TypingVariables.{declared_sound}
 use Rattle.ash_typing.proofs.StatementsComplete.{trees_of}
+use Rattle.ash_typing.specs.Terms.{converted_to}
+use Rattle.ash_typing.specs.Labels.{holds_label, is_same_constant, is_last}
+use Rattle.ash_typing.specs.Scopes.{Scope, behind, block_of, loop_of, switch_of, with_variables, is_taken}
 
 -- scopes whose types are known
 

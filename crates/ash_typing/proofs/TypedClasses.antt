@@ -6,17 +6,19 @@ use Rattle.std.proofs.lemmas.List.{append_assoc, append-nil, length-append, leng
 use Rattle.std.proofs.lemmas.Slice.Eq.{bytes_eq-Decides}
 use Rattle.ash_tree.specs.Tree as written
 use Rattle.ash_typing.specs.declared.types.Ty.TheVariants as ty
-use Rattle.ash_typing.specs.Environment.{Environment}
+use Rattle.ash_typing.specs.Environment.{Environment, inside}
 use Rattle.ash_typing.specs.Typing.{IsKnown}
 use Rattle.ash_typed.specs.StatementTree.{Initialization}
 use Rattle.ash_typed.specs.Modules.{Variables, Function, Implementation, Class}
-use Rattle.ash_typing.specs.Items.{Names, placed, vars_typed, result_typed, Routine, routine_of, constructing, routine_typed, Members, constructor_named, member_typed, members_typed, no_members, inside, class_of_members, Listed, all_listed, none_listed, class_typed}
-use Rattle.ash_typing.specs.TypedModules.{decl_name, names_of, fields_of, methods_of, constructors_of, member_names, listed_name, AreVariables, AreFields, IsFunction, IsConstructor, HasConstructor, result_in, IsListed, IsClass}
+use Rattle.ash_typing.specs.Items.{Names, placed, vars_typed, result_typed, routine_typed, Members, constructor_named, member_typed, members_typed, no_members, class_of_members, Listed, all_listed, none_listed, class_typed}
+use Rattle.ash_typing.specs.TypedModules.{listed_name, AreVariables, AreFields, IsFunction, IsConstructor, HasConstructor, IsListed, IsClass}
 use Rattle.ash_typing.proofs.Bindings.{no_err, ok_is, bind_ok, bind_is, if_ok}
 use Rattle.ash_typing.proofs.TakenNames.{all_free, Distinct, grown, grown-none, grown-then, CanTake, takes_none, takes_then, takes_first, takes_rest, placed_sound, placed_complete}
 use Rattle.ash_typing.proofs.TypedVariables.{vars_sound, vars_complete}
 use Rattle.ash_typing.proofs.TypedInterfaces.{listed_with, listed_sound, listed_complete}
 use Rattle.ash_typing.proofs.TypedRoutines.{routine_sound, routine_complete, result_complete, function_sound}
+use Rattle.ash_tree.specs.Items.{Routine, routine_of, constructing, decl_name, names_of, fields_of, methods_of, constructors_of, member_names}
+use Rattle.ash_typing.specs.Heads.{result_in}
 
 -- a class so far
 

@@ -8,13 +8,14 @@ use Rattle.ash_typed.specs.declared.types.ObjectType.TheVariants.{Class as OfCla
 use Rattle.ash_typed.specs.Modules.{Signature, Interface, Implementation}
 use Rattle.ash_typing.specs.declared.types.Ty.{Ty}
 use Rattle.ash_typing.specs.Types.{result_type}
-use Rattle.ash_typing.specs.Environment.{Environment, Declared}
-use Rattle.ash_typing.specs.Heads.{object_named}
-use Rattle.ash_typing.specs.Items.{Names, untaken, placed, result_typed, parameters_typed, type_of, Signatures, signature_of, signature_typed, signatures_typed, no_signatures, interface_of, interface_typed, listed_at, implemented, implemented_at, Listed, listed_typed, all_listed}
-use Rattle.ash_typing.specs.TypedModules.{signature_name, listed_name, parameter_of, result_in, IsSignature, IsInterface, IsListed}
+use Rattle.ash_typing.specs.Environment.{Environment, Declared, type_declared}
+use Rattle.ash_typing.specs.Heads.{object_named, result_in}
+use Rattle.ash_typing.specs.Items.{Names, untaken, placed, result_typed, parameters_typed, Signatures, signature_of, signature_typed, signatures_typed, no_signatures, interface_of, interface_typed, listed_at, implemented_at, Listed, listed_typed, all_listed}
+use Rattle.ash_typing.specs.TypedModules.{signature_name, listed_name, parameter_of, IsSignature, IsInterface, IsListed}
 use Rattle.ash_typing.proofs.Bindings.{no_err, ok_is, bind_ok, bind_is}
 use Rattle.ash_typing.proofs.TakenNames.{all_free, Distinct, grown, grown-none, grown-then, CanTake, takes_none, takes_then, takes_first, takes_rest, untaken_sound, untaken_complete, placed_sound, placed_complete}
 use Rattle.ash_typing.proofs.TypedRoutines.{parameters_sound, parameters_complete, types_of, result_sound, result_complete}
+use Rattle.ash_typing.specs.Implementations.{implemented}
 
 -- an interface so far
 
@@ -50,7 +51,7 @@ signature_sound env m of parameters h k =
       result = ap result_type r.1;
       passed = s.passed;
       differ = s.differ;
-      parameters = ap (map type_of) s.is ∙ types_of env m.parameters;
+      parameters = ap (map type_declared) s.is ∙ types_of env m.parameters;
     }
 
 signature_exact : (env : Environment) (m : written.InterfaceMethod) (t : Signature) → IsSignature env m t → t ≡ signature_in env m

@@ -7,14 +7,16 @@ use Rattle.ash_tree.specs.Tree as written
 use Rattle.ash_typing.specs.Environment.{Environment}
 use Rattle.ash_typing.specs.Typing.{IsKnown}
 use Rattle.ash_typed.specs.Modules.{Variables, Function, Interface, Class, Module}
-use Rattle.ash_typing.specs.Items.{Names, untaken, vars_typed, result_typed, routine_of, routine_typed, class_typed, interface_typed, room_for_type, Walked, item_typed, items_typed}
-use Rattle.ash_typing.specs.TypedModules.{names_of, variable_names, item_names, classes_of, interfaces_of, classes_before, functions_of, globals_of, AreVariables, IsFunction, result_in, AreInterfaces, AreClasses}
+use Rattle.ash_typing.specs.Items.{Names, untaken, vars_typed, result_typed, routine_typed, class_typed, interface_typed, room_for_type, Walked, item_typed, items_typed}
+use Rattle.ash_typing.specs.TypedModules.{AreVariables, IsFunction, AreInterfaces, AreClasses}
 use Rattle.ash_typing.proofs.Bindings.{no_err, ok_is, bind_ok, bind_is, if_ok}
 use Rattle.ash_typing.proofs.TakenNames.{Distinct, grown, grown-none, grown-then, CanTake, takes_none, takes_then, takes_first, takes_rest, untaken_sound, untaken_complete}
 use Rattle.ash_typing.proofs.TypedVariables.{vars_sound, vars_complete}
 use Rattle.ash_typing.proofs.TypedRoutines.{routine_complete, result_complete, function_sound}
 use Rattle.ash_typing.proofs.TypedInterfaces.{interface_sound, interface_complete}
 use Rattle.ash_typing.proofs.TypedClasses.{count_names, class_sound, class_complete}
+use Rattle.ash_tree.specs.Items.{routine_of, names_of, variable_names, item_names, classes_of, interfaces_of, classes_before, functions_of, globals_of}
+use Rattle.ash_typing.specs.Heads.{result_in}
 
 -- a module so far
 

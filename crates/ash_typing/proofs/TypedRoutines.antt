@@ -11,19 +11,22 @@ use Rattle.ash_typed.specs.declared.types.ObjectType.{ObjectType}
 use Rattle.ash_typing.specs.declared.types.Ty.{Ty}
 use Rattle.ash_typing.specs.declared.types.Ty.TheVariants as ty
 use Rattle.ash_typing.specs.Types.{ty_of, var_type}
-use Rattle.ash_typing.specs.Environment.{Environment, Declared, declares}
+use Rattle.ash_typing.specs.Environment.{Environment, Declared, with_locals, declares, type_declared}
 use Rattle.ash_typing.specs.Expressions.{is_void}
-use Rattle.ash_typing.specs.Heads.{object_named, array_named, object_ty, handle_ty, ty_named}
+use Rattle.ash_typing.specs.Heads.{object_named, array_named, object_ty, handle_ty, ty_named, ty_in, result_in}
 use Rattle.ash_typing.specs.Typing.{IsKnown, IsKnownType, IsVariableType, IsKnownVariable}
-use Rattle.ash_typing.specs.Bodies.{Body, body_scope, body_typed, returns_in, with_locals}
-use Rattle.ash_typing.specs.Declarations.{ty_in}
+use Rattle.ash_typed.specs.StatementTree.{Body}
+use Rattle.ash_typing.specs.Statements.{body_typed}
+use Rattle.ash_typing.specs.Scopes.{body_scope}
 use Rattle.ash_typed.specs.Modules.{Function}
-use Rattle.ash_typing.specs.Items.{passed_ty, result_typed, parameters_typed, Routine, routine_of, returning, type_of, routine_typed}
-use Rattle.ash_typing.specs.TypedModules.{parameter_name, IsPassed, type_of_parameter, parameter_of, IsPassedParameter, IsBody, IsRoutine, IsResult, result_in, IsFunction}
+use Rattle.ash_typing.specs.Items.{passed_ty, result_typed, parameters_typed, returning, routine_typed}
+use Rattle.ash_typing.specs.TypedModules.{IsPassed, type_of_parameter, parameter_of, IsPassedParameter, IsBody, IsRoutine, IsResult, IsFunction}
 use Rattle.ash_typing.proofs.Bindings.{no_err, ok_is, bind_ok, bind_is, if_ok}
 use Rattle.ash_typing.proofs.StatementsSound.{stmts_sound}
 use Rattle.ash_typing.proofs.StatementsComplete.{stmts_complete}
 use Rattle.ash_typing.proofs.TakenNames.{Distinct, distinct_push, distinct_new}
+use Rattle.ash_typing.specs.Returning.{returns_in}
+use Rattle.ash_tree.specs.Items.{Routine, routine_of, parameter_name}
 
 -- what may be passed
 
@@ -123,7 +126,7 @@ parameters_complete env (p ∷ ps) before h d =
     bind_is (passed_ty p.of (ty_in env p.of)) _ (ty_in env p.of) _ (passed_complete p.of (ty_in env p.of) h.0)
     (rw new (parameters_complete env ps (before ++ v ∷ []) h.1 there ∙ ap (λ (vs : List Declared). Ok vs) (append_assoc before (v ∷ []) (map (parameter_of env) ps))))
 
-pub types_of : (env : Environment) (ps : List written.Parameter) → map type_of (map (parameter_of env) ps) ≡ map (type_of_parameter env) ps
+pub types_of : (env : Environment) (ps : List written.Parameter) → map type_declared (map (parameter_of env) ps) ≡ map (type_of_parameter env) ps
 types_of env [] = refl
 types_of env (p ∷ ps) = ap (λ ts. var_type (ty_in env p.of) ∷ ts) (types_of env ps)
 
@@ -185,7 +188,7 @@ routine_sound env known of known_of r typed h =
       result = ap (λ (f : Function). f.result) (sym is);
       passed = s.passed;
       differ = s.differ;
-      parameters = ap (λ (f : Function). f.parameters) (sym is) ∙ ap (map type_of) s.is ∙ types_of env r.parameters;
+      parameters = ap (λ (f : Function). f.parameters) (sym is) ∙ ap (map type_declared) s.is ∙ types_of env r.parameters;
       body = subst (λ (t : Body). IsBody (with_locals env (map (parameter_of env) r.parameters)) of r.body t) (sym e.0 ∙ ap (λ (f : Function). f.body) is) body;
       returns = e.1;
     }

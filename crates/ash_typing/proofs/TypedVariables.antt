@@ -11,15 +11,16 @@ use Rattle.ash_typing.specs.declared.types.Ty.{Ty}
 use Rattle.ash_typing.specs.declared.types.Ty.TheVariants as ty
 use Rattle.ash_typing.specs.Types.{ty_of}
 use Rattle.ash_typing.specs.Environment.{Environment}
-use Rattle.ash_typing.specs.Heads.{object_named, array_named, object_ty, handle_ty, ty_named}
+use Rattle.ash_typing.specs.Heads.{object_named, array_named, object_ty, handle_ty, ty_named, ty_in}
 use Rattle.ash_typing.specs.Typing.{IsKnown, IsVariableType, IsDeclared}
-use Rattle.ash_typing.specs.Declarations.{Initialization, ty_in, at_type, known_ty, decl_typed}
+use Rattle.ash_typing.specs.Declarations.{Initialization, at_type, known_ty, decl_typed}
 use Rattle.ash_typed.specs.Modules.{Variables}
 use Rattle.ash_typing.specs.Items.{Names, Row, placed, with_variable, decls_typed, no_variables, vars_typed}
-use Rattle.ash_typing.specs.TypedModules.{decl_name, names_of, AreVariables}
+use Rattle.ash_typing.specs.TypedModules.{AreVariables}
 use Rattle.ash_typing.proofs.Bindings.{no_err, ok_is, bind_ok, bind_is}
 use Rattle.ash_typing.proofs.TakenNames.{Distinct, grown, grown-none, grown-then, CanTake, takes_none, takes_then, takes_first, takes_rest, placed_sound, placed_complete}
 use Rattle.ash_typing.proofs.TypingVariables.{declared_sound, declared_complete}
+use Rattle.ash_tree.specs.Items.{decl_name, names_of}
 
 -- a type of variables
 

@@ -31,9 +31,10 @@ use Rattle.ash_typed.specs.Tree.{Expr, Exprs, Null, Read, Invoke, Cast, Alter, C
 use Rattle.ash_typing.specs.Fitting.{fits}
 use Rattle.ash_typing.specs.Heads.{object_named, element_named}
 use Rattle.ash_typing.specs.Environment.{Environment, Class, Callee, Invoked, callee_in, member_in, method_in}
-use Rattle.ash_typing.specs.Expressions.{Typed, typed, all_typed, links_typed, suffixes_typed, suffix_typed, call_typed, invocation_typed, called, arguments_at, all_fitted, fitted, operate, counted, unary_at, convert_at, choice, operator_of, is_stored, assigned, stored, is_assign, field_of, method_of, invoked, made, read_at, applied, call_of, assignable, handle_form, indexed, array_parameters, array_typed, cast_type, cast_at}
-use Rattle.ash_typing.specs.Typing.{Term, term, read_term, placed, all_placed, term_of, first_at, HasType, AllHaveType, LinksHaveType, SuffixesHaveType, SuffixHasType, AreArguments, no_arguments, argument, IsCastType, to_class, to_interface, number, truth, null, this, name, call, brackets, to_integer, to_bool, new_array, cast, postfix, plus, minus, complement, not, increment, decrement, handle, handle_written, binary, conditional, assign, update, none_left, each, no_more, operated, no_suffixes, suffixed, field, method, index, increment_after, decrement_after, Meet, converted_to, left_of, right_of}
+use Rattle.ash_typing.specs.Expressions.{Typed, typed, all_typed, links_typed, suffixes_typed, suffix_typed, call_typed, invocation_typed, called, arguments_at, all_fitted, fitted, operate, counted, unary_at, convert_at, choice, assigned, stored, is_assign, field_of, method_of, invoked, made, read_at, indexed, array_typed, cast_type, cast_at, placed, all_placed, term_of, first_at}
+use Rattle.ash_typing.specs.Typing.{HasType, AllHaveType, LinksHaveType, SuffixesHaveType, SuffixHasType, AreArguments, no_arguments, argument, IsCastType, to_class, to_interface, number, truth, null, this, name, call, brackets, to_integer, to_bool, new_array, cast, postfix, plus, minus, complement, not, increment, decrement, handle, handle_written, binary, conditional, assign, update, none_left, each, no_more, operated, no_suffixes, suffixed, field, method, index, increment_after, decrement_after, Meet, left_of, right_of}
 use Rattle.ash_typing.proofs.TypingWords.{same_kind, met_is}
+use Rattle.ash_typing.specs.Terms.{operator_of, is_stored, applied, call_of, assignable, handle_form, array_parameters, Term, term, read_term, converted_to}
 
 -- arguments
 

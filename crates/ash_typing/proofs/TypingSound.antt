@@ -34,12 +34,13 @@ use Rattle.ash_typing.specs.Types.{var_type, signed, common, object_of, ty_of, t
 use Rattle.ash_typed.specs.Tree.{Expr, Exprs, Truth, Null, This, Read, Invoke, Cast, Alter, Conditional, Assign, Update, Count, Call, Place, Held, Indexed, no_expr, expr}
 use Rattle.ash_typing.specs.Fitting.{fits}
 use Rattle.ash_typing.specs.Heads.{object_named, element_named}
-use Rattle.ash_typing.specs.Environment.{Environment, Class, Known, Callee, Invoked, variable_in, callee_in, member_in, method_in}
-use Rattle.ash_typing.specs.Expressions.{Typed, Met, typed, all_typed, links_typed, suffixes_typed, suffix_typed, call_typed, invocation_typed, called, callee_at, known_at, this_at, arguments_at, all_fitted, fitted, brought, numeral, right_operand, operate, operated as joined, met, met_as, met_by, counted, altered, unary_at, integer_of, bool_of, handle_of, handle_at, convert_at, converting, choice, chosen, operator_of, is_stored, assigned, assigned_to, stored, updated, is_assign, field_of, member_at, method_of, invoked, invoked_at, made, read_at, integer_at, in_brackets, applied, call_of, assignable, handle_form, index_in, indexed_object, indexed, at_element, known_element, array_parameters, array_built, array_typed, cast_type, cast_at}
-use Rattle.ash_typing.specs.Typing.{IsKnown, is_known, Term, term, placed, term_of, HasType, AllHaveType, LinksHaveType, SuffixesHaveType, SuffixHasType, AreArguments, no_arguments, argument, IsCastType, to_class, to_interface, number, truth, null, this, name, call, brackets, to_integer, to_bool, new_array, cast, postfix, plus, minus, complement, not, increment, decrement, handle, handle_written, binary, conditional, assign, update, none_left, each, no_more, operated, no_suffixes, suffixed, field, method, index, increment_after, decrement_after, Meet, beside, converted_to, left_of, right_of, right_by}
+use Rattle.ash_typing.specs.Environment.{Environment, Class, Known, Callee, Invoked, variable_in, callee_in, member_in, method_in, array_built}
+use Rattle.ash_typing.specs.Expressions.{Typed, Met, typed, all_typed, links_typed, suffixes_typed, suffix_typed, call_typed, invocation_typed, called, callee_at, known_at, this_at, arguments_at, all_fitted, fitted, brought, operate, operated as joined, met, met_as, met_by, counted, altered, unary_at, integer_of, bool_of, handle_of, handle_at, convert_at, converting, choice, chosen, assigned, assigned_to, stored, updated, is_assign, field_of, member_at, method_of, invoked, invoked_at, made, read_at, integer_at, in_brackets, index_in, indexed_object, indexed, at_element, known_element, array_typed, cast_type, cast_at, placed, term_of}
+use Rattle.ash_typing.specs.Typing.{IsKnown, is_known, HasType, AllHaveType, LinksHaveType, SuffixesHaveType, SuffixHasType, AreArguments, no_arguments, argument, IsCastType, to_class, to_interface, number, truth, null, this, name, call, brackets, to_integer, to_bool, new_array, cast, postfix, plus, minus, complement, not, increment, decrement, handle, handle_written, binary, conditional, assign, update, none_left, each, no_more, operated, no_suffixes, suffixed, field, method, index, increment_after, decrement_after, Meet, left_of, right_of}
 use Rattle.ash_typing.proofs.TypingWords.{no_fault, same_ok, bind_ok, unconverted, beside_is, known_alone, right_is, calculated_integers}
 use Rattle.ash_typing.proofs.TypingKnown.{known_type, outcome_known, beside_known, suffix_known}
 use Rattle.ash_typing.proofs.TypingComplete.{terms}
+use Rattle.ash_typing.specs.Terms.{operator_of, is_stored, applied, call_of, assignable, handle_form, array_parameters, Term, term, number_term, beside, converted_to, right_by}
 
 -- what holds of what is answered holds of its equal
 pub at_ok : {A : Type 0} (Q : A → Type 0) (x y : A) → ◌≡◌ {A = Checking A} (Ok x) (Ok y) → Q x → Q y
@@ -235,7 +236,7 @@ unary_sound env left p unary.Handle e u r d known h = handle_sound env left p e 
 
 -- operators between two operands
 
-met_as_ok : (s : Sort) (x y : Typed) (found : Option Operands) (m : Met) → met_as s x y found ≡ Ok m → (o : Operands) × (found ≡ Some o) × (record { left = x; operands = o; right = right_operand s o y } ≡ m)
+met_as_ok : (s : Sort) (x y : Typed) (found : Option Operands) (m : Met) → met_as s x y found ≡ Ok m → (o : Operands) × (found ≡ Some o) × (record { left = x; operands = o; right = right_by s o (term_of y) } ≡ m)
 met_as_ok s x y None m h = absurd (no_fault _ m h)
 met_as_ok s x y (Some o) m h = (o, refl, same_ok _ m h)
 
@@ -365,7 +366,7 @@ walked env left e f r Q known sound h go =
 
 mutual
   pub sound : (env : Environment) → IsKnown env → (left : Bool) (e : written.Expr) → Sound env left e
-  sound env known left (written.Number p n) r h = at_ok (λ r. HasType env left (written.Number p n) (term_of r)) (numeral p.at n) r h number
+  sound env known left (written.Number p n) r h = at_ok (λ r. HasType env left (written.Number p n) (term_of r)) (placed p.at (number_term n)) r h number
   sound env known left (written.Truth p b) r h = at_ok (λ r. HasType env left (written.Truth p b) (term_of r)) (made p.at ty.Bool (Truth b)) r h truth
   sound env known left (written.Null p) r h = at_ok (λ r. HasType env left (written.Null p) (term_of r)) (made p.at ty.Null Null) r h null
   sound env known left (written.This p) r h = this_sound env left p env.this r refl h

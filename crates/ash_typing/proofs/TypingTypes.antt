@@ -35,8 +35,8 @@ use Rattle.ash_typing.specs.Types.{var_type, result_type, ty_of_var, value_type,
 use Rattle.ash_typing.specs.Environment.{Environment, Declared, Function, Interface, Class, Known, Callee, Invoked, first_from, last_named, declares, is_called, is_class, this_class, variable_in, callee_in, member_in, method_in, method_of_class, method_of_interface, method_of_array, method_of_kind, array_method_of, is_array_method, host_member_in, service_function, host_type, host_method, property, named_in, own_method_in, class_in, function_in, field_in, local_in, own_field_in, global_in, callee_beside, class_method, interface_method}
 use Rattle.ash_typing.specs.declared.forms.Form.{Form}
 use Rattle.ash_typing.specs.declared.forms.Form.TheVariants as form
-use Rattle.ash_typing.specs.Expressions.{conversion, applied, call_of, assignable, bracketed, handle_form}
-use Rattle.ash_typing.specs.Typing.{IsKnown, IsVariableType, IsResultType, is_known, Term, converted_to, IsRead, IsReadWherePlace, HasType, LinksHaveType, SuffixesHaveType, SuffixHasType, number, truth, null, this, name, call, brackets, to_integer, to_bool, new_array, cast, postfix, plus, minus, complement, not, increment, decrement, handle, handle_written, binary as operators, conditional, assign, update, no_more, operated, no_suffixes, suffixed, field, method, index, increment_after, decrement_after}
+use Rattle.ash_typing.specs.Terms.{conversion, applied, call_of, assignable, bracketed, handle_form, Term, converted_to}
+use Rattle.ash_typing.specs.Typing.{IsKnown, IsVariableType, IsResultType, is_known, IsRead, IsReadWherePlace, HasType, LinksHaveType, SuffixesHaveType, SuffixHasType, number, truth, null, this, name, call, brackets, to_integer, to_bool, new_array, cast, postfix, plus, minus, complement, not, increment, decrement, handle, handle_written, binary as operators, conditional, assign, update, no_more, operated, no_suffixes, suffixed, field, method, index, increment_after, decrement_after}
 use Rattle.ash_typing.proofs.TypingWords.{arithmetic_integers, shift_integers}
 use Rattle.ash_typing.proofs.TypingKnown.{known_type, variable_known, callee_known, member_known, method_known, at_some, if_map, if_or, if_then, if_weaker, if_any, if_all}
 

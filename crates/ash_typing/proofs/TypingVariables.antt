@@ -8,13 +8,14 @@ use Rattle.ash_typing.specs.declared.types.Ty.TheVariants as ty
 use Rattle.ash_typing.specs.Types.{var_type, object_of}
 use Rattle.ash_typing.specs.Fitting.{fits}
 use Rattle.ash_typed.specs.Tree.{Expr, Exprs, Call}
-use Rattle.ash_typing.specs.Environment.{Environment, Class, Callee}
-use Rattle.ash_typing.specs.Expressions.{Typed, typed, all_typed, fitted, called, call_of}
-use Rattle.ash_typing.specs.Declarations.{Initialization, initialization, construction, constructed, begun, begun_with, begun_by, begun_by_one, stored_first, initialized, decl_typed, built}
-use Rattle.ash_typing.specs.Typing.{IsKnown, Term, placed, all_placed, term_of, first_at, is_object, HasType, AllHaveType, each, AreArguments, IsConstructed, construct, BeginsWith, empty, default, value, one, built_by, IsDeclared, declared, converted_to}
+use Rattle.ash_typing.specs.Environment.{Environment, Class, Callee, construction}
+use Rattle.ash_typing.specs.Expressions.{Typed, typed, all_typed, fitted, called, placed, all_placed, term_of, first_at}
+use Rattle.ash_typing.specs.Declarations.{Initialization, constructed, begun, begun_with, begun_by, begun_by_one, stored_first, initialized, decl_typed, built}
+use Rattle.ash_typing.specs.Typing.{IsKnown, is_object, HasType, AllHaveType, each, AreArguments, IsConstructed, construct, BeginsWith, empty, default, value, one, built_by, IsDeclared, declared}
 use Rattle.ash_typing.proofs.TypingWords.{no_fault, same_ok, bind_ok}
 use Rattle.ash_typing.proofs.TypingComplete.{terms, all_terms, placed_count, complete, all_complete, fitted_is, arguments_is}
 use Rattle.ash_typing.proofs.TypingSound.{at_ok, fitted_ok, called_ok, sound, all_sound}
+use Rattle.ash_typing.specs.Terms.{call_of, initialization, Term, converted_to}
 
 -- what begins by the rules begins so in the walk
 

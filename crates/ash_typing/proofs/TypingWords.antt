@@ -18,8 +18,9 @@ use Rattle.ash_typed.specs.declared.tree.operations.Operands.TheVariants as oper
 use Rattle.ash_typing.specs.Checking.{Checking, ◌>>=◌}
 use Rattle.ash_typing.specs.Types.{is_same_kind, meeting, holds, sort_of, binary_of, integers_in, meets, assumed}
 use Rattle.ash_typed.specs.Tree.{Number}
-use Rattle.ash_typing.specs.Expressions.{adapted, adapted_to, met, right_operand}
-use Rattle.ash_typing.specs.Typing.{Term, placed, taking, beside, is_known, Meet, converted_to, right_of, right_by}
+use Rattle.ash_typing.specs.Expressions.{adapted, met, placed, term_of}
+use Rattle.ash_typing.specs.Typing.{is_known, Meet, right_of}
+use Rattle.ash_typing.specs.Terms.{Term, taking, beside, converted_to, right_by}
 
 -- answers
 
@@ -57,19 +58,9 @@ unconverted k t h = rw h (rw (same_kind k) refl)
 
 -- operands
 
-placed_if : (b : Bool) (at : ℕ) (t u : Term) → cond b (placed at t) (placed at u) ≡ placed at (cond b t u)
-placed_if true at t u = refl
-placed_if false at t u = refl
-
-pub taking_is : (a : Form) (of : Ty) (b : Form) (at : ℕ) (t : Term) → adapted_to a of b (placed at t) ≡ placed at (taking a of b t)
-taking_is (form.Number m) of (form.Number n) at t = refl
-taking_is a (ty.Integer k) (form.Number n) at t = placed_if (holds k n) at (record { ty = ty.Integer k; form = form.Number n; tree = Number k n }) t
-taking_is a of b at t = refl
-
 pub beside_is : (s : Sort) (other t : Term) (at : ℕ) → adapted s other.form other.ty (placed at t) ≡ placed at (beside s other t)
 unfolding adapted
-beside_is sort.Shift other t at = refl
-beside_is _ other t at = taking_is other.form other.ty t.form at t
+beside_is s other t at = refl
 
 pub known_alone : (s : Sort) (beside of : Ty) → is_known of ≡ true → assumed s beside of ≡ of
 known_alone sort.Equality ty.Bool ty.Unknown h = cc
@@ -112,7 +103,7 @@ calculated_integers calculators.BitAnd x y o h = arithmetic_integers x y o h
 calculated_integers calculators.BitXor x y o h = arithmetic_integers x y o h
 calculated_integers calculators.BitOr x y o h = arithmetic_integers x y o h
 
-pub right_is : (s : Sort) (o : Operands) (b : ℕ) (u : Term) → right_operand s o (placed b u) ≡ right_by s o u
+pub right_is : (s : Sort) (o : Operands) (b : ℕ) (u : Term) → right_by s o (term_of (placed b u)) ≡ right_by s o u
 right_is sort.Shift o b u = refl
 right_is _ o b u = refl
 

@@ -1,28 +1,18 @@
 -- Variables, and what they begin with (AngelScript manual, "Variables"): an initialiser is walked, then the variable.
-use Rattle.std.specs.Prelude.{ℕ, length, false, List, [], ◌∷◌, Option, Some, None, Ok, option_map, find, slice_get}
-use Rattle.std.specs.Option.{option_and_then}
-use Rattle.ash_registrations.specs.Calls as host
+use Rattle.std.specs.Prelude.{ℕ, length, false, List, [], ◌∷◌, Option, Some, None, Ok}
 use Rattle.ash_tree.specs.Tree as written
 use Rattle.ash_typing.specs.declared.fault.Rule.TheVariants.{UnknownType, TypeMismatch, NotAssignable, Misplaced, NoFactory}
-use Rattle.ash_typed.specs.declared.types.ObjectType.{ObjectType}
-use Rattle.ash_typed.specs.declared.types.ObjectType.TheVariants.{Class as OfClass, Interface as OfInterface, Host as OfHost, Array as OfArray}
+use Rattle.ash_typed.specs.declared.types.ObjectType.TheVariants.{Interface as OfInterface}
 use Rattle.ash_typing.specs.declared.types.Ty.{Ty}
 use Rattle.ash_typing.specs.declared.types.Ty.TheVariants as ty
-use Rattle.ash_typed.specs.declared.tree.operations.Target.TheVariants as targets
-use Rattle.ash_typing.specs.declared.forms.Callable.TheVariants as callables
 use Rattle.ash_typing.specs.Checking.{Checking, ◌>>=◌, broken}
 use Rattle.ash_typed.specs.Tree.{Expr}
-use Rattle.ash_typing.specs.Types.{var_type}
-use Rattle.ash_typing.specs.Environment.{Environment, Class, Callee, host_type}
-use Rattle.ash_typing.specs.Heads.{ty_named}
+use Rattle.ash_typing.specs.Environment.{Environment, Class, Callee, construction}
 pub use Rattle.ash_typed.specs.StatementTree.{Initialization}
-use Rattle.ash_typing.specs.Expressions.{Typed, typed, all_typed, fitted, called, at_element, array_built}
+use Rattle.ash_typing.specs.Expressions.{Typed, typed, all_typed, fitted, called, at_element}
+use Rattle.ash_typing.specs.Terms.{initialization}
 
 -- the type of variables
-
--- the type that is written
-abbrev pub ty_in : Environment → written.Named → Ty
-ty_in env of = ty_named env.registered env.heads of
 
 abbrev pub at_type : written.Named → ℕ
 at_type of = (written.place_of_type of).at
@@ -39,28 +29,7 @@ known_ty of ty.Unknown = broken UnknownType (at_type_name of)
 known_ty of (ty.Object (OfInterface i)) = broken Misplaced (at_type of)
 known_ty of t = Ok t
 
--- what they begin with
-
-abbrev pub initialization : List ℕ → Ty → Option Expr → Initialization
-initialization name of value = record { name = name; of = var_type of; value = value }
-
 -- objects are constructed
-
-abbrev pub class_built : ℕ → Class → Callee
-class_built place c = record { target = callables.Target (targets.Class place); result = ty.Handle (OfClass place); parameters = Some c.parameters }
-
-unfoldable pub class_construction : List Class → ℕ → Option Callee
-class_construction classes place = option_map (class_built place) (slice_get classes place)
-
-unfoldable pub kind_construction : List host.Call → ℕ → Option Callee
-kind_construction calls kind = option_and_then (host_type calls) (find (host.takes_kind kind) calls)
-
--- the construction of an object by so many arguments
-unfoldable pub construction : Environment → ObjectType → ℕ → Option Callee
-construction env (OfClass place) count = class_construction env.heads.classes place
-construction env (OfInterface place) count = None
-construction env (OfHost kind) count = kind_construction env.registered kind
-construction env (OfArray of) count = Some (array_built of count)
 
 abbrev pub built : Typed → Option Expr
 built t = Some t.tree

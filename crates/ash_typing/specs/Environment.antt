@@ -4,6 +4,7 @@ use Rattle.std.specs.Option.{option_and_then, option_map, option_or}
 use Rattle.std.specs.Str.{bytes_eq}
 use Rattle.ash_tree.specs.declared.tree.types.Primitive.{Primitive}
 use Rattle.ash_registrations.specs.Calls as host
+use Rattle.ash_typed.specs.declared.types.VarType.{VarType}
 use Rattle.ash_typed.specs.declared.types.ObjectType.{ObjectType}
 use Rattle.ash_typed.specs.declared.types.Kind.TheVariants.{Uint}
 use Rattle.ash_typed.specs.declared.types.Element.{Element}
@@ -22,11 +23,15 @@ use Rattle.ash_typing.specs.declared.forms.Callable.{Callable}
 use Rattle.ash_typing.specs.declared.forms.Callable.TheVariants as callables
 use Rattle.ash_typing.specs.Types.{ty_of, ty_of_element, var_type, result_type}
 use Rattle.ash_typed.specs.Tree.{Expr, This, Read, Stored, Held}
+use Rattle.ash_typing.specs.Terms.{array_parameters}
 
 -- a variable, a parameter or a field
 pub record Declared : Type 0 where
   pub name : List ℕ
   pub of : Ty
+
+abbrev pub type_declared : Declared → VarType
+type_declared v = var_type v.of
 
 -- a function or a method, whose result is `Void` where it has none
 pub record Function : Type 0 where
@@ -62,6 +67,14 @@ pub record Environment : Type 0 where
 
 abbrev pub with_locals : Environment → List Declared → Environment
 with_locals env locals = record { heads = env.heads; registered = env.registered; this = env.this; locals = locals }
+
+-- what each item of a module sees
+abbrev pub seen : List host.Call → Heads → Environment
+seen calls h = record { heads = h; registered = calls; this = None; locals = [] }
+
+-- what the members of the class of a place see
+abbrev pub inside : Environment → ℕ → Environment
+inside env place = record { heads = env.heads; registered = env.registered; this = Some place; locals = [] }
 
 -- look-ups
 
@@ -238,3 +251,24 @@ method_in env (OfClass i) name = method_of_class env.heads.classes i name
 method_in env (OfInterface i) name = method_of_interface env.heads.interfaces i name
 method_in env (OfHost kind) name = method_of_kind env.registered kind name
 method_in env (OfArray of) name = method_of_array of name
+
+-- Objects are constructed.
+
+abbrev pub class_built : ℕ → Class → Callee
+class_built place c = record { target = callables.Target (targets.Class place); result = ty.Handle (OfClass place); parameters = Some c.parameters }
+
+unfoldable pub class_construction : List Class → ℕ → Option Callee
+class_construction classes place = option_map (class_built place) (slice_get classes place)
+
+unfoldable pub kind_construction : List host.Call → ℕ → Option Callee
+kind_construction calls kind = option_and_then (host_type calls) (find (host.takes_kind kind) calls)
+
+abbrev pub array_built : Element → ℕ → Callee
+array_built of count = record { target = callables.Target (targets.Array of); result = ty.Handle (OfArray of); parameters = Some (array_parameters count) }
+
+-- the construction of an object by so many arguments
+unfoldable pub construction : Environment → ObjectType → ℕ → Option Callee
+construction env (OfClass place) count = class_construction env.heads.classes place
+construction env (OfInterface place) count = None
+construction env (OfHost kind) count = kind_construction env.registered kind
+construction env (OfArray of) count = Some (array_built of count)

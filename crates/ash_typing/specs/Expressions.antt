@@ -6,7 +6,6 @@ use Rattle.ash_tree.specs.declared.tree.types.Primitive.{Primitive}
 use Rattle.ash_tree.specs.declared.tree.operators.UnaryOp.{UnaryOp}
 use Rattle.ash_tree.specs.declared.tree.operators.UnaryOp.TheVariants as unary
 use Rattle.ash_tree.specs.declared.tree.operators.BinaryOp.{BinaryOp}
-use Rattle.ash_tree.specs.declared.tree.operators.BinaryOp.TheVariants as binary
 use Rattle.ash_tree.specs.declared.tree.operators.AssignOp.{AssignOp}
 use Rattle.ash_tree.specs.declared.tree.operators.AssignOp.TheVariants as assigns
 use Rattle.ash_tree.specs.Tree as written
@@ -20,34 +19,22 @@ use Rattle.ash_typed.specs.declared.types.ObjectType.TheVariants as objects
 use Rattle.ash_typing.specs.declared.types.Ty.{Ty}
 use Rattle.ash_typing.specs.declared.types.Ty.TheVariants as ty
 use Rattle.ash_typing.specs.declared.forms.Sort.{Sort}
-use Rattle.ash_typing.specs.declared.forms.Sort.TheVariants as sort
 use Rattle.ash_typing.specs.declared.forms.Form.{Form}
-use Rattle.ash_typing.specs.declared.forms.Form.TheVariants as form
 use Rattle.ash_typed.specs.declared.tree.operations.Change.{Change}
 use Rattle.ash_typed.specs.declared.tree.operations.Change.TheVariants as changes
-use Rattle.ash_typed.specs.declared.tree.operations.Conversion.{Conversion}
 use Rattle.ash_typed.specs.declared.tree.operations.Calculator.{Calculator}
-use Rattle.ash_typed.specs.declared.tree.operations.Calculator.TheVariants as calculators
-use Rattle.ash_typed.specs.declared.tree.operations.Operation.TheVariants as operations
-use Rattle.ash_typing.specs.declared.forms.Operator.{Operator}
-use Rattle.ash_typing.specs.declared.forms.Operator.TheVariants as operators
-use Rattle.ash_typed.specs.declared.tree.operations.Method.TheVariants as methods
-use Rattle.ash_typing.specs.declared.forms.Callable.{Callable}
-use Rattle.ash_typing.specs.declared.forms.Callable.TheVariants as callables
-use Rattle.ash_typed.specs.declared.tree.operations.Target.TheVariants as targets
 use Rattle.ash_typed.specs.declared.tree.operations.Member.{Member}
 use Rattle.ash_typed.specs.declared.tree.operations.Member.TheVariants as members
 use Rattle.ash_typed.specs.declared.tree.operations.Operands.{Operands}
-use Rattle.ash_typed.specs.declared.tree.operations.Operands.TheVariants as operands
 use Rattle.ash_typed.specs.declared.tree.operations.Step.{Step}
 use Rattle.ash_typed.specs.declared.tree.operations.Step.TheVariants as steps
 use Rattle.ash_typing.specs.Checking.{Checking, ◌>>=◌, broken}
-use Rattle.ash_typed.specs.declared.types.VarType.{VarType}
-use Rattle.ash_typing.specs.Types.{var_type, kind_of, holds, signed, is_same_kind, common, ty_of, ty_of_element, sort_of, typed_operator, binary_of, integers_in, takes, assumed, meets, outcome}
-use Rattle.ash_typed.specs.Tree.{Expr, Number, Truth, Null, This, Read, Invoke, Cast, Alter, Operate, Lazily, Conditional, Assign, Update, Count, Call, Place, Held, Indexed, Exprs, no_expr, expr, place_in, converted}
+use Rattle.ash_typing.specs.Types.{var_type, signed, common, ty_of, ty_of_element, sort_of, binary_of, integers_in, takes, assumed, meets, outcome}
+use Rattle.ash_typed.specs.Tree.{Expr, Truth, Null, This, Read, Invoke, Cast, Alter, Conditional, Assign, Update, Count, Place, Held, Indexed, Exprs, no_expr, expr}
 use Rattle.ash_typing.specs.Fitting.{fits}
 use Rattle.ash_typing.specs.Heads.{object_named, element_named}
-use Rattle.ash_typing.specs.Environment.{Environment, Class, Known, Callee, Invoked, variable_in, callee_in, member_in, method_in}
+use Rattle.ash_typing.specs.Environment.{Environment, Class, Known, Callee, Invoked, variable_in, callee_in, member_in, method_in, array_built}
+use Rattle.ash_typing.specs.Terms.{operand_type, applied, assignable, bracketed, handle_form, operator_of, is_stored, call_of, array_parameters, Term, term, read_term, number_term, converted_to, right_by, beside_by}
 
 -- a typed expression, with the offset of its first token and what it is by itself
 pub record Typed : Type 0 where
@@ -56,28 +43,23 @@ pub record Typed : Type 0 where
   pub form : Form
   pub tree : Expr
 
+-- a term, of an expression whose first token is at this offset
+abbrev pub placed : ℕ → Term → Typed
+placed at t = record { at = at; ty = t.ty; form = t.form; tree = t.tree }
+
+abbrev pub term_of : Typed → Term
+term_of t = record { ty = t.ty; form = t.form; tree = t.tree }
+
 abbrev pub made : ℕ → Ty → Expr → Typed
-made at t tree = record { at = at; ty = t; form = form.Value; tree = tree }
+made at of tree = placed at (term of tree)
 
--- what can be assigned: its tree reads the place
 abbrev pub read_at : ℕ → Ty → Expr → Typed
-read_at at t tree = record { at = at; ty = t; form = form.Place; tree = tree }
-
--- the place that can be assigned, where an expression is one
-abbrev pub assignable : Form → Expr → Option Place
-assignable form.Place tree = place_in tree
-assignable form.HandlePlace tree = place_in tree
-assignable _ tree = None
+read_at at of tree = placed at (read_term of tree)
 
 -- conversions
 
--- what a value of the second type becomes in the place of one of the first
-abbrev pub conversion : Ty → Ty → Option Conversion
-conversion (ty.Integer k) (ty.Integer j) = if is_same_kind j k then None else Some (record { from = j; to = k })
-conversion _ _ = None
-
 abbrev pub brought : Ty → Typed → Expr
-brought to t = converted (conversion to t.ty) t.tree
+brought to t = converted_to to (term_of t)
 
 -- as in an assignment to a variable of this type
 unfoldable pub fitted : List Class → Ty → Typed → Checking Expr
@@ -102,32 +84,11 @@ handle_of at (ty.Handle o) = Ok (ty.Handle o)
 handle_of at ty.Unknown = Ok ty.Unknown
 handle_of at _ = broken TypeMismatch at
 
--- a number has the first of the four integer types that holds it
-abbrev pub numeral : ℕ → ℕ → Typed
-numeral at n = record { at = at; ty = ty.Integer (kind_of n); form = form.Number n; tree = Number (kind_of n) n }
-
--- A number alone takes the type of the other operand, where that holds it and the other is no number.
-abbrev pub adapted_to : Form → Ty → Form → Typed → Typed
-adapted_to (form.Number m) k (form.Number n) t = t
-adapted_to _ (ty.Integer k) (form.Number n) t = if holds k n then record { at = t.at; ty = ty.Integer k; form = form.Number n; tree = Number k n } else t
-adapted_to _ _ _ t = t
-
 -- the operand of an operator, beside one of this form and type
 unfoldable pub adapted : Sort → Form → Ty → Typed → Typed
-adapted sort.Shift beside of t = t
-adapted _ beside of t = adapted_to beside of t.form t
+adapted s other of t = placed t.at (beside_by s other of (term_of t))
 
 -- operators between two operands
-
-abbrev pub operand_type : Operands → Ty
-operand_type (operands.Integers k) = ty.Integer k
-operand_type operands.Bools = ty.Bool
-operand_type operands.Handles = ty.Null
-
--- the count of a shift keeps its type
-abbrev pub right_operand : Sort → Operands → Typed → Expr
-right_operand sort.Shift o t = t.tree
-right_operand _ o t = brought (operand_type o) t
 
 -- the operands, and what an operator takes them for
 pub record Met : Type 0 where
@@ -136,7 +97,7 @@ pub record Met : Type 0 where
   pub right : Expr
 
 abbrev pub met_as : Sort → Typed → Typed → Option Operands → Checking Met
-met_as s a b (Some o) = Ok (record { left = a; operands = o; right = right_operand s o b })
+met_as s a b (Some o) = Ok (record { left = a; operands = o; right = right_by s o (term_of b) })
 met_as s a b None = broken TypeMismatch (if takes s a.ty then b.at else a.at)
 
 abbrev pub met_by : Sort → Typed → Typed → Checking Met
@@ -144,15 +105,6 @@ met_by s a b = met_as s a b (meets s (assumed s b.ty a.ty) (assumed s a.ty b.ty)
 
 unfoldable pub met : BinaryOp → Typed → Typed → Checking Met
 met op a b = met_by (sort_of op) (adapted (sort_of op) b.form b.ty a) (adapted (sort_of op) a.form a.ty b)
-
--- what an operator makes of its operands
-abbrev pub applied_by : Operator → Operands → Expr → Expr → Expr
-applied_by (operators.Calculate c) o a b = Operate (operations.Calculate (record { operator = c; of = integers_in o })) a b
-applied_by (operators.Compare c) o a b = Operate (operations.Compare c o) a b
-applied_by (operators.Lazy l) o a b = Lazily l a b
-
-abbrev pub applied : BinaryOp → Operands → Expr → Expr → Expr
-applied op o a b = applied_by (typed_operator op) o a b
 
 abbrev pub operated : BinaryOp → Met → Typed
 operated op m = made m.left.at (outcome (sort_of op) m.operands) (applied op m.operands (brought (operand_type m.operands) m.left) m.right)
@@ -172,11 +124,6 @@ altered at k change t = made at (ty.Integer k) (Alter change (brought (ty.Intege
 -- the value alone, which can't be assigned
 abbrev pub integer_at : ℕ → Kind → Typed → Typed
 integer_at at k t = made at (ty.Integer k) (brought (ty.Integer k) t)
-
--- Left of `=` a place with its sign `@` is what is written to, and its type is tested there.
-abbrev pub handle_form : Form → Form
-handle_form form.Place = form.HandlePlace
-handle_form _ = form.Value
 
 abbrev pub handle_at : Bool → ℕ → Typed → Checking Typed
 handle_at true at t = Ok (record { at = at; ty = t.ty; form = handle_form t.form; tree = t.tree })
@@ -214,30 +161,6 @@ choice c a b = bool_of c.at c.ty >>= λ yes. chosen c a b (common a.ty b.ty)
 
 -- assignments
 
--- the operator of `a op= b`
-abbrev pub operator_of : AssignOp → Option Calculator
-operator_of assigns.Assign = None
-operator_of assigns.Add = Some calculators.Add
-operator_of assigns.Subtract = Some calculators.Subtract
-operator_of assigns.Multiply = Some calculators.Multiply
-operator_of assigns.Divide = Some calculators.Divide
-operator_of assigns.Remainder = Some calculators.Remainder
-operator_of assigns.BitAnd = Some calculators.BitAnd
-operator_of assigns.BitOr = Some calculators.BitOr
-operator_of assigns.BitXor = Some calculators.BitXor
-operator_of assigns.ShiftLeft = Some calculators.ShiftLeft
-operator_of assigns.ShiftRight = Some calculators.ShiftRight
-operator_of assigns.ShiftRightArithmetic = Some calculators.ShiftRightArithmetic
-
--- what a place takes: `=` and `op=` a primitive type, `@p =` a handle
-abbrev pub is_stored : Form → Ty → Bool
-is_stored form.HandlePlace (ty.Handle o) = true
-is_stored form.HandlePlace ty.Unknown = true
-is_stored form.Place ty.Bool = true
-is_stored form.Place (ty.Integer k) = true
-is_stored form.Place ty.Unknown = true
-is_stored _ _ = false
-
 -- what stands at a place is an operand of its type
 abbrev pub updated : ℕ → Ty → Place → Calculator → Typed → Checking Typed
 updated at of p c v = met (binary_of c) (made at of Null) v >>= λ m. integer_of at of >>= λ k. Ok (made at (ty.Integer k) (Update p k (record { operator = c; of = integers_in m.operands }) m.right))
@@ -265,11 +188,6 @@ all_fitted classes _ _ = Ok no_expr
 
 unfoldable pub arguments_at : List Class → ℕ → List Ty → List Typed → Checking Exprs
 arguments_at classes at parameters ts = if nat_eq (length parameters) (length ts) then all_fitted classes parameters ts else broken WrongArgumentCount at
-
--- a call says its parameters' types; a method is called on the object that runs
-abbrev pub call_of : Callable → List VarType → Exprs → Expr
-call_of (callables.OwnMethod class method result) parameters es = Invoke (This class) (methods.Script class method result) parameters es
-call_of (callables.Target target) parameters es = Call target parameters es
 
 unfoldable pub called : List Class → ℕ → Callee → List Typed → Option (List Ty) → Checking Typed
 called classes at callee ts None = broken NoFactory at
@@ -316,11 +234,6 @@ unfoldable pub invoked : List Class → Typed → ℕ → List Typed → Option 
 invoked classes t at ts None = Ok (made t.at ty.Unknown Null)
 invoked classes t at ts (Some m) = arguments_at classes at m.parameters ts >>= λ es. Ok (made t.at m.result (Invoke t.tree m.method (map var_type m.parameters) es))
 
--- a place in brackets is one; a number in brackets has its own type
-abbrev pub bracketed : Form → Form
-bracketed form.Place = form.Place
-bracketed _ = form.Value
-
 abbrev pub in_brackets : ℕ → Typed → Typed
 in_brackets at t = record { at = at; ty = t.ty; form = bracketed t.form; tree = t.tree }
 
@@ -358,13 +271,6 @@ abbrev pub known_element : ℕ → Option Element → Checking Element
 known_element at None = broken UnknownType at
 known_element at (Some e) = Ok e
 
--- what the construction of an array takes, of so many arguments: at most one, how many elements it has
-abbrev pub array_parameters : ℕ → List Ty
-array_parameters count = if nat_eq count 0 then [] else ty.Integer kinds.Uint ∷ []
-
-abbrev pub array_built : Element → ℕ → Callee
-array_built of count = record { target = callables.Target (targets.Array of); result = ty.Handle (objects.Array of); parameters = Some (array_parameters count) }
-
 -- `array<T>(e ..)`
 abbrev pub array_typed : Environment → ℕ → written.Element → Checking (List Typed) → Checking Typed
 array_typed env at of arguments = known_element (at_element of) (element_named env.registered env.heads of) >>= λ e. arguments >>= λ ts. called env.heads.classes at (array_built e (length ts)) ts (Some (array_parameters (length ts)))
@@ -385,7 +291,7 @@ cast_at at to t = handle_of t.at t.ty >>= λ h. Ok (made at (ty.Handle to) (Cast
 -- The walk. `left` is whether the expression stands left of `=`.
 abbrev mutual
   pub typed : Environment → Bool → written.Expr → Checking Typed
-  typed env left (written.Number p n) = Ok (numeral p.at n)
+  typed env left (written.Number p n) = Ok (placed p.at (number_term n))
   typed env left (written.Truth p b) = Ok (made p.at ty.Bool (Truth b))
   typed env left (written.Null p) = Ok (made p.at ty.Null Null)
   typed env left (written.This p) = this_at p.at env.this
@@ -421,3 +327,18 @@ abbrev mutual
   suffix_typed env t (written.Index e) = typed env false e >>= λ i. indexed t t.ty i
   suffix_typed env t written.Increment = counted t.at steps.IncrementAfter t (assignable t.form t.tree)
   suffix_typed env t written.Decrement = counted t.at steps.DecrementAfter t (assignable t.form t.tree)
+
+-- offsets
+
+-- where the first token of an expression stands
+abbrev pub first_at : written.Expr → ℕ
+first_at (written.Postfix p e ss) = first_at e
+first_at (written.Binary p e ls) = first_at e
+first_at (written.Conditional p c a b) = first_at c
+first_at (written.Assign p e op v) = first_at e
+first_at e = (written.place_of e).at
+
+-- what the walk answers of terms
+abbrev pub all_placed : written.Exprs → List Term → List Typed
+all_placed (written.expr e es) (t ∷ ts) = placed (first_at e) t ∷ all_placed es ts
+all_placed _ _ = []

@@ -14,7 +14,8 @@ use Rattle.ash_typed.specs.declared.types.ObjectType.TheVariants.{Class as OfCla
 use Rattle.ash_typing.specs.declared.types.Ty.{Ty}
 use Rattle.ash_typing.specs.declared.types.Ty.TheVariants as ty
 use Rattle.ash_typing.specs.Types.{ty_of}
-use Rattle.ash_typing.specs.Environment.{Declared, Function, Interface, Class, Heads, first_from, is_class, is_interface_named}
+use Rattle.ash_typing.specs.Environment.{Declared, Function, Interface, Class, Heads, first_from, is_class, is_interface_named, Environment}
+use Rattle.ash_tree.specs.Items.{classes_of, interfaces_of, functions_of, globals_of, fields_of, methods_of, constructors_of}
 
 -- types by their names
 
@@ -75,6 +76,15 @@ abbrev pub result_named : List host.Call → Heads → Option written.Named → 
 result_named calls named None = ty.Void
 result_named calls named (Some of) = ty_named calls named of
 
+-- the same where they are seen
+
+-- the type that is written
+abbrev pub ty_in : Environment → written.Named → Ty
+ty_in env of = ty_named env.registered env.heads of
+
+abbrev pub result_in : Environment → Option written.Named → Ty
+result_in env of = result_named env.registered env.heads of
+
 -- what is declared
 
 abbrev pub declared : Ty → written.Decl → Declared
@@ -82,6 +92,11 @@ declared of d = record { name = d.name; of = of }
 
 abbrev pub variables : List host.Call → Heads → written.Vars → List Declared
 variables calls named v = map (declared (ty_named calls named v.of)) v.decls
+
+-- the variables of several declarations
+abbrev pub all_variables : List host.Call → Heads → List written.Vars → List Declared
+all_variables calls named [] = []
+all_variables calls named (v ∷ vs) = variables calls named v ++ all_variables calls named vs
 
 abbrev pub parameter_ty : List host.Call → Heads → written.Parameter → Ty
 parameter_ty calls named p = ty_named calls named p.of
@@ -95,24 +110,10 @@ signature_head calls named m = record { name = m.name; result = result_named cal
 abbrev pub interface_head : List host.Call → Heads → written.Interface → Interface
 interface_head calls named i = record { name = i.name; methods = map (signature_head calls named) i.methods }
 
-abbrev pub fields_in : List host.Call → Heads → List written.Member → List Declared
-fields_in calls named [] = []
-fields_in calls named (written.AField v ∷ ms) = variables calls named v ++ fields_in calls named ms
-fields_in calls named (written.AMethod f ∷ ms) = fields_in calls named ms
-fields_in calls named (written.AConstructor c ∷ ms) = fields_in calls named ms
-
-abbrev pub methods_in : List host.Call → Heads → List written.Member → List Function
-methods_in calls named [] = []
-methods_in calls named (written.AMethod f ∷ ms) = function_head calls named f ∷ methods_in calls named ms
-methods_in calls named (written.AField v ∷ ms) = methods_in calls named ms
-methods_in calls named (written.AConstructor c ∷ ms) = methods_in calls named ms
-
 -- what the construction of an object takes: nothing where no constructor is written
-abbrev pub construction_in : List host.Call → Heads → List written.Member → List Ty
-construction_in calls named [] = []
-construction_in calls named (written.AConstructor c ∷ ms) = map (parameter_ty calls named) c.parameters
-construction_in calls named (written.AMethod f ∷ ms) = construction_in calls named ms
-construction_in calls named (written.AField v ∷ ms) = construction_in calls named ms
+abbrev pub constructed_by : List host.Call → Heads → List written.Constructor → List Ty
+constructed_by calls named [] = []
+constructed_by calls named (c ∷ cs) = map (parameter_ty calls named) c.parameters
 
 -- the interfaces that a class lists
 
@@ -129,7 +130,7 @@ listed_in calls named [] = []
 listed_in calls named (n ∷ ns) = with_place (interface_place (object_named calls named n.name)) (listed_in calls named ns)
 
 abbrev pub class_head : List host.Call → Heads → written.Class → Class
-class_head calls named c = record { name = c.name; interfaces = listed_in calls named c.interfaces; fields = fields_in calls named c.members; methods = methods_in calls named c.members; parameters = construction_in calls named c.members }
+class_head calls named c = record { name = c.name; interfaces = listed_in calls named c.interfaces; fields = all_variables calls named (fields_of c.members); methods = map (function_head calls named) (methods_of c.members); parameters = constructed_by calls named (constructors_of c.members) }
 
 -- a class and an interface of which only the name is known, since types name no more of them
 
@@ -139,54 +140,12 @@ named_class c = record { name = c.name; interfaces = []; fields = []; methods = 
 abbrev pub named_interface : written.Interface → Interface
 named_interface i = record { name = i.name; methods = [] }
 
-abbrev pub named_interfaces : List written.Item → List Interface
-named_interfaces [] = []
-named_interfaces (written.AnInterface i ∷ is) = named_interface i ∷ named_interfaces is
-named_interfaces (written.AClass c ∷ is) = named_interfaces is
-named_interfaces (written.AFunction f ∷ is) = named_interfaces is
-named_interfaces (written.AGlobal v ∷ is) = named_interfaces is
-
-abbrev pub named_classes : List written.Item → List Class
-named_classes [] = []
-named_classes (written.AClass c ∷ is) = named_class c ∷ named_classes is
-named_classes (written.AnInterface i ∷ is) = named_classes is
-named_classes (written.AFunction f ∷ is) = named_classes is
-named_classes (written.AGlobal v ∷ is) = named_classes is
-
 -- what types name
 abbrev pub names_in : List written.Item → Heads
-names_in is = record { interfaces = named_interfaces is; classes = named_classes is; functions = []; globals = [] }
-
-abbrev pub interfaces_in : List host.Call → Heads → List written.Item → List Interface
-interfaces_in calls named [] = []
-interfaces_in calls named (written.AnInterface i ∷ is) = interface_head calls named i ∷ interfaces_in calls named is
-interfaces_in calls named (written.AClass c ∷ is) = interfaces_in calls named is
-interfaces_in calls named (written.AFunction f ∷ is) = interfaces_in calls named is
-interfaces_in calls named (written.AGlobal v ∷ is) = interfaces_in calls named is
-
-abbrev pub classes_in : List host.Call → Heads → List written.Item → List Class
-classes_in calls named [] = []
-classes_in calls named (written.AClass c ∷ is) = class_head calls named c ∷ classes_in calls named is
-classes_in calls named (written.AnInterface i ∷ is) = classes_in calls named is
-classes_in calls named (written.AFunction f ∷ is) = classes_in calls named is
-classes_in calls named (written.AGlobal v ∷ is) = classes_in calls named is
-
-abbrev pub functions_in : List host.Call → Heads → List written.Item → List Function
-functions_in calls named [] = []
-functions_in calls named (written.AFunction f ∷ is) = function_head calls named f ∷ functions_in calls named is
-functions_in calls named (written.AClass c ∷ is) = functions_in calls named is
-functions_in calls named (written.AnInterface i ∷ is) = functions_in calls named is
-functions_in calls named (written.AGlobal v ∷ is) = functions_in calls named is
-
-abbrev pub globals_in : List host.Call → Heads → List written.Item → List Declared
-globals_in calls named [] = []
-globals_in calls named (written.AGlobal v ∷ is) = variables calls named v ++ globals_in calls named is
-globals_in calls named (written.AClass c ∷ is) = globals_in calls named is
-globals_in calls named (written.AnInterface i ∷ is) = globals_in calls named is
-globals_in calls named (written.AFunction f ∷ is) = globals_in calls named is
+names_in is = record { interfaces = map named_interface (interfaces_of is); classes = map named_class (classes_of is); functions = []; globals = [] }
 
 abbrev pub heads_by : List host.Call → Heads → List written.Item → Heads
-heads_by calls named is = record { interfaces = interfaces_in calls named is; classes = classes_in calls named is; functions = functions_in calls named is; globals = globals_in calls named is }
+heads_by calls named is = record { interfaces = map (interface_head calls named) (interfaces_of is); classes = map (class_head calls named) (classes_of is); functions = map (function_head calls named) (functions_of is); globals = all_variables calls named (globals_of is) }
 
 unfoldable pub heads : List host.Call → List written.Item → Heads
 heads calls is = heads_by calls (names_in is) is

@@ -1,29 +1,32 @@
 -- The typing of a module, or its first fault. Items are walked in source order: an item's types and names in the order
 -- of the text, then its body. The members of a class, and the variables of one declaration, are items of their own. Of
 -- several faults of one name the one that stands first in the list of rules is told.
-use Rattle.std.specs.Prelude.{ℕ, ◌+◌, ◌&&◌, ◌-◌, List, [], ◌∷◌, ◌++◌, Bool, ◌||◌, true, false, Option, Some, None, Ok, map, find, length, slice_get, nat_eq, nat_le, if◌then◌else◌}
+use Rattle.std.specs.Prelude.{ℕ, ◌+◌, ◌-◌, List, [], ◌∷◌, ◌++◌, Bool, ◌||◌, Option, Some, None, Ok, map, length, nat_eq, nat_le, if◌then◌else◌}
 use Rattle.std.specs.List.{list_any}
-use Rattle.std.specs.Option.{is_some, option_map_or}
+use Rattle.std.specs.Option.{is_some}
 use Rattle.std.specs.Str.{bytes_eq}
 use Rattle.ash_registrations.specs.Calls as host
-use Rattle.ash_tree.specs.declared.tree.places.Place.{Place}
 use Rattle.ash_tree.specs.Tree as written
 use Rattle.ash_typing.specs.declared.fault.Rule.TheVariants.{UnknownType, NameTaken, TypeMismatch, NoReturn, Misplaced, TooMany}
 use Rattle.ash_typing.specs.declared.types.Ty.{Ty}
 use Rattle.ash_typing.specs.declared.types.Ty.TheVariants as ty
-use Rattle.ash_typed.specs.declared.types.VarType.{VarType}
 use Rattle.ash_typed.specs.declared.types.ObjectType.{ObjectType}
 use Rattle.ash_typed.specs.declared.types.ObjectType.TheVariants.{Class as OfClass, Interface as OfInterface}
-use Rattle.ash_typing.specs.Types.{is_same, var_type, result_type}
+use Rattle.ash_typing.specs.Types.{result_type}
 use Rattle.ash_typing.specs.Checking.{Checking, ◌>>=◌, broken}
-use Rattle.ash_typing.specs.Environment as head
-use Rattle.ash_typing.specs.Environment.{Declared, Heads, Environment, declares, is_called, first_from}
+use Rattle.ash_typing.specs.Environment.{Declared, type_declared, Heads, Environment, with_locals, declares, named_in}
+pub use Rattle.ash_typing.specs.Environment.{inside, seen}
 use Rattle.ash_typing.specs.Expressions.{is_void}
 use Rattle.ash_typing.specs.Heads.{object_named, heads}
+pub use Rattle.ash_typing.specs.Heads.{ty_in}
 use Rattle.ash_typing.specs.Declarations.{Initialization, decl_typed}
-pub use Rattle.ash_typing.specs.Declarations.{ty_in, at_type, at_type_name, known_ty}
-use Rattle.ash_typing.specs.Bodies.{Body, body_typed, returns_in, with_locals}
+pub use Rattle.ash_typing.specs.Declarations.{at_type, at_type_name, known_ty}
+use Rattle.ash_typed.specs.StatementTree.{Body}
+use Rattle.ash_typing.specs.Statements.{body_typed}
 use Rattle.ash_typed.specs.Modules.{Variables, Function, Signature, Interface, Implementation, Class, Module}
+use Rattle.ash_typing.specs.Returning.{returns_in}
+use Rattle.ash_tree.specs.Items.{Routine, routine_of, constructing}
+use Rattle.ash_typing.specs.Implementations.{implemented}
 
 -- names
 
@@ -35,7 +38,7 @@ pub record Names : Type 0 where
   pub room : ℕ
 
 abbrev pub is_taken : Names → List ℕ → Bool
-is_taken names name = is_some (find (host.takes_name name) names.registered) || list_any (bytes_eq name) names.taken
+is_taken names name = is_some (named_in names.registered name) || list_any (bytes_eq name) names.taken
 
 -- a name at this offset that was not taken, and is from now on
 unfoldable pub untaken : Names → ℕ → List ℕ → Checking Names
@@ -86,28 +89,12 @@ abbrev pub parameters_typed : Environment → List Declared → List written.Par
 parameters_typed env before [] = Ok before
 parameters_typed env before (p ∷ ps) = passed_ty p.of (ty_in env p.of) >>= λ of. if list_any (declares p.name) before then broken NameTaken p.place.at else parameters_typed env (before ++ record { name = p.name; of = of } ∷ []) ps
 
--- a function, a method or a constructor, as it is written behind its result
-pub record Routine : Type 0 where
-  pub place : Place
-  pub name : List ℕ
-  pub parameters : List written.Parameter
-  pub body : List written.Stmt
-
-abbrev pub routine_of : written.Function → Routine
-routine_of f = record { place = f.place; name = f.name; parameters = f.parameters; body = f.body }
-
-abbrev pub constructing : written.Constructor → Routine
-constructing c = record { place = c.place; name = c.name; parameters = c.parameters; body = c.body }
-
 -- a function with a result has to return
 unfoldable pub returning : ℕ → Ty → List written.Stmt → Body → Checking Body
 returning at of statements body = if is_void of || returns_in statements then Ok body else broken NoReturn at
 
-abbrev pub type_of : Declared → VarType
-type_of v = var_type v.of
-
 unfoldable pub routine_typed : Environment → Ty → Routine → Checking Function
-routine_typed env of c = parameters_typed env [] c.parameters >>= λ locals. body_typed (with_locals env locals) of c.body >>= λ body. returning c.place.at of c.body body >>= λ done. Ok (record { name = c.name; line = c.place.line; result = result_type of; parameters = map type_of locals; body = done })
+routine_typed env of c = parameters_typed env [] c.parameters >>= λ locals. body_typed (with_locals env locals) of c.body >>= λ body. returning c.place.at of c.body body >>= λ done. Ok (record { name = c.name; line = c.place.line; result = result_type of; parameters = map type_declared locals; body = done })
 
 -- interfaces
 
@@ -117,7 +104,7 @@ pub record Signatures : Type 0 where
   pub methods : List Signature
 
 abbrev pub signature_of : List ℕ → Ty → List Declared → Signature
-signature_of name of parameters = record { name = name; result = result_type of; parameters = map type_of parameters }
+signature_of name of parameters = record { name = name; result = result_type of; parameters = map type_declared parameters }
 
 -- a method that an interface declares, behind those before it
 unfoldable pub signature_typed : Environment → Signatures → written.InterfaceMethod → Checking Signatures
@@ -145,42 +132,6 @@ abbrev pub listed_at : ℕ → Option ObjectType → Checking ℕ
 listed_at at (Some (OfInterface place)) = Ok place
 listed_at at (Some (OfClass place)) = broken Misplaced at
 listed_at at _ = broken UnknownType at
-
-abbrev pub are_same : List Ty → List Ty → Bool
-are_same [] [] = true
-are_same (t ∷ ts) (u ∷ us) = is_same t u && are_same ts us
-are_same _ _ = false
-
--- whether a method has the result and the parameters of another
-abbrev pub has_types_of : head.Function → head.Function → Bool
-has_types_of f g = is_same f.result g.result && are_same f.parameters g.parameters
-
--- the place of the method of a class that a method of an interface runs
-abbrev pub matching : head.Function → Option (ℕ × head.Function) → Option ℕ
-matching f None = None
-matching f (Some (place, g)) = if has_types_of f g then Some place else None
-
-unfoldable pub method_for : List head.Function → head.Function → Option ℕ
-method_for methods f = matching f (first_from (is_called f.name) 0 methods)
-
-abbrev pub with_first : Option ℕ → Option (List ℕ) → Option (List ℕ)
-with_first (Some place) (Some places) = Some (place ∷ places)
-with_first _ _ = None
-
--- the places of those for each method of an interface, where the class has them all
-abbrev pub methods_for : List head.Function → List head.Function → Option (List ℕ)
-methods_for methods [] = Some []
-methods_for methods (f ∷ fs) = with_first (method_for methods f) (methods_for methods fs)
-
-abbrev pub methods_of_class : head.Class → List head.Function
-methods_of_class c = c.methods
-
-abbrev pub methods_of_interface : head.Interface → List head.Function
-methods_of_interface i = i.methods
-
--- the class of this place has the methods of the interface of that place
-unfoldable pub implemented : Environment → ℕ → ℕ → Option (List ℕ)
-implemented env class interface = methods_for (option_map_or methods_of_class (slice_get env.heads.classes class) []) (option_map_or methods_of_interface (slice_get env.heads.interfaces interface) [])
 
 abbrev pub implemented_at : ℕ → ℕ → Option (List ℕ) → Checking Implementation
 implemented_at at interface None = broken TypeMismatch at
@@ -235,9 +186,6 @@ members_typed env ms (m ∷ rest) = member_typed env ms m >>= λ next. members_t
 abbrev pub no_members : written.Class → List Implementation → Members
 no_members c listed = record { names = record { registered = []; taken = []; room = 32 }; class = record { name = c.name; line = c.place.line; interfaces = listed; fields = []; constructor = None; methods = [] } }
 
-abbrev pub inside : Environment → ℕ → Environment
-inside env place = record { heads = env.heads; registered = env.registered; this = Some place; locals = [] }
-
 abbrev pub class_of_members : Members → Class
 class_of_members ms = ms.class
 
@@ -278,10 +226,6 @@ item_typed env w (written.AGlobal v) = vars_typed env w.names v >>= λ row. Ok (
 abbrev pub items_typed : Environment → Walked → List written.Item → Checking Walked
 items_typed env w [] = Ok w
 items_typed env w (i ∷ is) = item_typed env w i >>= λ next. items_typed env next is
-
--- what each item sees
-abbrev pub seen : List host.Call → Heads → Environment
-seen calls h = record { heads = h; registered = calls; this = None; locals = [] }
 
 -- there are at most 256 variables in a module
 abbrev pub nothing : List host.Call → Walked

@@ -3,7 +3,7 @@
 use Rattle.std.specs.Prelude.{List}
 use Rattle.std.specs.List.{AllByRecursion}
 use Rattle.ash_tree.specs.Tree.{Stmt, Declare, Block, If, IfElse, While, DoWhile, For, Switch, Stmts, no_stmt, stmt, stmts, labelled, Cases, no_case, next_case, Function, Constructor, Class, Item}
-use Rattle.ash_typing.specs.TypedModules.{classes_of, functions_of, methods_of, constructors_of}
+use Rattle.ash_tree.specs.Items.{classes_of, functions_of, methods_of, constructors_of}
 
 abbrev pub IsNoDeclaration : Stmt → Type 0
 IsNoDeclaration (Declare p v) = ⊥

@@ -1,8 +1,8 @@
 -- Which statements return, however their conditions turn out, as a test.
-use Rattle.std.specs.Prelude.{Bool, true, false, not, ◌&&◌, ◌||◌}
+use Rattle.std.specs.Prelude.{Bool, true, false, not, ◌&&◌, ◌||◌, List}
 use Rattle.ash_tree.specs.declared.tree.statements.Label.{Label}
 use Rattle.ash_tree.specs.declared.tree.statements.Label.TheVariants as labels
-use Rattle.ash_tree.specs.Tree.{Stmt, Stmts, Case, Cases, Block, If, IfElse, Switch, Break, Return, no_stmt, stmt, labelled, no_case, next_case}
+use Rattle.ash_tree.specs.Tree.{Stmt, Stmts, Case, Cases, Block, If, IfElse, Switch, Break, Return, no_stmt, stmt, stmts, labelled, no_case, next_case}
 
 -- a `break` that leaves what the statement stands in, and no loop or `switch` inside it
 abbrev mutual
@@ -53,3 +53,7 @@ abbrev mutual
 
   pub case_returns : Case → Bool
   case_returns (labelled p l ss) = any_returns ss
+
+-- whether a body returns, however its conditions turn out
+unfoldable pub returns_in : List Stmt → Bool
+returns_in body = any_returns (stmts body)

@@ -1,18 +1,14 @@
 -- What expressions and statements see, as sound typed trees speak of it.
 use Rattle.std.specs.Prelude.{◌||◌, List, map}
 use Rattle.ash_registrations.specs.Calls as host
-use Rattle.ash_typed.specs.declared.types.VarType.{VarType}
 use Rattle.ash_typed.specs.Modules.{Signature}
 use Rattle.ash_typed.specs.Signatures.{ClassSignature, Signatures}
 use Rattle.ash_typed.specs.SoundExpressions as expressions
 use Rattle.ash_typed.specs.SoundStatements as statements
 use Rattle.ash_typing.specs.Types.{var_type, result_type}
-use Rattle.ash_typing.specs.Environment.{Declared, Function, Interface, Class, Heads, Environment}
-use Rattle.ash_typing.specs.Statements.{Scope}
+use Rattle.ash_typing.specs.Environment.{type_declared, Function, Interface, Class, Heads, Environment}
+use Rattle.ash_typing.specs.Scopes.{Scope}
 use Rattle.ash_typing.specs.Offered.{offered}
-
-abbrev pub type_declared : Declared → VarType
-type_declared v = var_type v.of
 
 abbrev pub signature_of : Function → Signature
 signature_of f = record { name = f.name; result = result_type f.result; parameters = map var_type f.parameters }

@@ -1,8 +1,7 @@
 -- The typing of statements (AngelScript manual, "Statements"), as a function whose order is that of the walk: the parts of
 -- a statement in the order of the text, then the statement. So a condition that is no `bool` is told behind the faults
 -- of what it governs.
-use Rattle.std.specs.Prelude.{ℕ, List, [], ◌∷◌, ◌++◌, Bool, true, false, ◌||◌, Option, Some, None, Ok, length, drop, map, option_map, if◌then◌else◌}
-use Rattle.std.specs.List.{list_any}
+use Rattle.std.specs.Prelude.{ℕ, List, [], ◌∷◌, ◌++◌, Bool, true, false, ◌||◌, Option, Some, None, Ok, map, option_map, if◌then◌else◌}
 use Rattle.ash_tree.specs.declared.tree.places.Place.{Place}
 use Rattle.ash_tree.specs.declared.tree.statements.Label.{Label}
 use Rattle.ash_tree.specs.Tree as written
@@ -13,48 +12,16 @@ use Rattle.ash_typing.specs.declared.types.Ty.TheVariants as ty
 use Rattle.ash_typing.specs.Checking.{Checking, ◌>>=◌, broken}
 use Rattle.ash_typed.specs.declared.tree.statements.Test.TheVariants.{First, Last}
 use Rattle.ash_typed.specs.Tree.{Expr}
-use Rattle.ash_typed.specs.StatementTree.{Initialization, Stmt, Empty, Declare, Evaluate, Block, If, no_branch, branch, Head, no_head, declared_head, evaluated_head, Repeat, For, repeated, Switch, Break, Continue, Return, Stmts, no_stmt, stmt, labelled, Cases, no_case, next_case}
-use Rattle.ash_typing.specs.Environment.{Declared, Class, Environment, declares, with_locals}
+use Rattle.ash_typed.specs.StatementTree.{Initialization, Body, Stmt, Empty, Declare, Evaluate, Block, If, no_branch, branch, Head, no_head, declared_head, evaluated_head, Repeat, For, repeated, Switch, Break, Continue, Return, Stmts, no_stmt, stmt, labelled, Cases, no_case, next_case}
+use Rattle.ash_typing.specs.Environment.{Declared, Class, Environment}
 use Rattle.ash_typing.specs.Expressions.{Typed, typed, all_typed, fitted, integer_of, bool_of, is_void}
-use Rattle.ash_typing.specs.Heads.{declared, variables}
-use Rattle.ash_typing.specs.Declarations.{ty_in, at_type, known_ty, decl_typed}
+use Rattle.ash_typing.specs.Heads.{declared, ty_in}
+use Rattle.ash_typing.specs.Declarations.{at_type, known_ty, decl_typed}
 use Rattle.ash_typing.specs.Switches.{kind_in, label_typed}
-
--- what a statement sees
-
--- `first` is how many locals stand before those of the block, `gives` what the function gives
-pub record Scope : Type 0 where
-  pub env : Environment
-  pub first : ℕ
-  pub gives : Ty
-  pub in_loop : Bool
-  pub in_switch : Bool
-
--- in a block none of its names is taken yet
-abbrev pub block_of : Scope → Scope
-block_of scope = record { env = scope.env; first = length scope.env.locals; gives = scope.gives; in_loop = scope.in_loop; in_switch = scope.in_switch }
-
-abbrev pub loop_of : Scope → Scope
-loop_of scope = record { env = scope.env; first = scope.first; gives = scope.gives; in_loop = true; in_switch = scope.in_switch }
-
-abbrev pub switch_of : Scope → Scope
-switch_of scope = record { env = scope.env; first = scope.first; gives = scope.gives; in_loop = scope.in_loop; in_switch = true }
-
-abbrev pub with_variables : Scope → List Declared → Scope
-with_variables scope vs = record { env = with_locals scope.env (scope.env.locals ++ vs); first = scope.first; gives = scope.gives; in_loop = scope.in_loop; in_switch = scope.in_switch }
-
-abbrev pub declared_in : Scope → written.Vars → List Declared
-declared_in scope v = variables scope.env.registered scope.env.heads v
-
--- what the statements behind one see: the variables that it declares
-abbrev pub behind : Scope → written.Stmt → Scope
-behind scope (written.Declare p v) = with_variables scope (declared_in scope v)
-behind scope _ = scope
+use Rattle.ash_typing.specs.Scopes.{Scope, block_of, loop_of, switch_of, with_variables, behind, is_taken, body_scope}
+use Rattle.ash_typing.specs.Labels.{is_last}
 
 -- variables
-
-abbrev pub is_taken : Scope → List ℕ → Bool
-is_taken scope name = list_any (declares name) (drop scope.first scope.env.locals)
 
 -- a variable whose name is not taken in its block
 unfoldable pub fresh : Scope → Ty → written.Decl → Checking Declared
@@ -137,10 +104,6 @@ unfoldable pub return_typed : Scope → Place → Option written.Expr → Checki
 return_typed scope p None = if gives_nothing scope.gives then Ok (Return p.line None) else broken TypeMismatch p.at
 return_typed scope p (Some e) = typed scope.env false e >>= λ t. returned scope.env.heads.classes scope.gives p.at t >>= λ value. Ok (Return p.line (Some value))
 
-abbrev pub is_last : written.Cases → Bool
-is_last written.no_case = true
-is_last (written.next_case c cs) = false
-
 -- the walk
 abbrev mutual
   pub stmt_typed : Scope → written.Stmt → Checking Stmt
@@ -167,3 +130,7 @@ abbrev mutual
   pub cases_typed : Scope → Option Kind → List Label → written.Cases → Checking Cases
   cases_typed scope kind before written.no_case = Ok no_case
   cases_typed scope kind before (written.next_case (written.labelled p l ss) cs) = label_typed kind before (is_last cs) p.at l >>= λ label. stmts_typed scope ss >>= λ body. cases_typed scope kind (before ++ l ∷ []) cs >>= λ rest. Ok (next_case (labelled label body) rest)
+
+-- the body of a function that gives this type; its parameters are the locals
+unfoldable pub body_typed : Environment → Ty → List written.Stmt → Checking Body
+body_typed env of body = stmts_typed (body_scope env of) (written.stmts body)

@@ -11,101 +11,18 @@ use Rattle.ash_typing.specs.declared.types.Ty.TheVariants as ty
 use Rattle.ash_typed.specs.declared.types.VarType.{VarType}
 use Rattle.ash_typed.specs.declared.types.ObjectType.TheVariants.{Interface as OfInterface}
 use Rattle.ash_typing.specs.Types.{var_type, result_type}
-use Rattle.ash_typing.specs.Environment.{Declared, Environment, named_in}
+use Rattle.ash_typing.specs.Environment.{Declared, Environment, named_in, inside, seen, with_locals}
 use Rattle.ash_typing.specs.Typing.{IsVariableType, IsDeclared}
-use Rattle.ash_typing.specs.Heads.{heads, object_named, result_named}
-use Rattle.ash_typing.specs.Declarations.{Initialization, ty_in}
-use Rattle.ash_typing.specs.Bodies.{Body, body_scope, returns_in, with_locals}
+use Rattle.ash_typing.specs.Heads.{heads, object_named, ty_in, result_in}
+use Rattle.ash_typed.specs.StatementTree.{Initialization, Body}
 use Rattle.ash_typing.specs.TypedStatements.{AreStmts}
 use Rattle.ash_typed.specs.Modules.{Variables, Function, Signature, Interface, Implementation, Class, Module}
-use Rattle.ash_typing.specs.Items.{Routine, routine_of, constructing, implemented, inside, seen}
-
--- what is written, by kind
-
-abbrev pub classes_of : List written.Item → List written.Class
-classes_of [] = []
-classes_of (written.AClass c ∷ is) = c ∷ classes_of is
-classes_of (written.AnInterface i ∷ is) = classes_of is
-classes_of (written.AFunction f ∷ is) = classes_of is
-classes_of (written.AGlobal v ∷ is) = classes_of is
-
-abbrev pub interfaces_of : List written.Item → List written.Interface
-interfaces_of [] = []
-interfaces_of (written.AnInterface i ∷ is) = i ∷ interfaces_of is
-interfaces_of (written.AClass c ∷ is) = interfaces_of is
-interfaces_of (written.AFunction f ∷ is) = interfaces_of is
-interfaces_of (written.AGlobal v ∷ is) = interfaces_of is
-
--- how many classes are declared before each interface, where there are so many before the first item
-abbrev pub classes_before : ℕ → List written.Item → List ℕ
-classes_before count [] = []
-classes_before count (written.AnInterface i ∷ is) = count ∷ classes_before count is
-classes_before count (written.AClass c ∷ is) = classes_before (count + 1) is
-classes_before count (written.AFunction f ∷ is) = classes_before count is
-classes_before count (written.AGlobal v ∷ is) = classes_before count is
-
-abbrev pub functions_of : List written.Item → List written.Function
-functions_of [] = []
-functions_of (written.AFunction f ∷ is) = f ∷ functions_of is
-functions_of (written.AClass c ∷ is) = functions_of is
-functions_of (written.AnInterface i ∷ is) = functions_of is
-functions_of (written.AGlobal v ∷ is) = functions_of is
-
-abbrev pub globals_of : List written.Item → List written.Vars
-globals_of [] = []
-globals_of (written.AGlobal v ∷ is) = v ∷ globals_of is
-globals_of (written.AClass c ∷ is) = globals_of is
-globals_of (written.AnInterface i ∷ is) = globals_of is
-globals_of (written.AFunction f ∷ is) = globals_of is
-
-abbrev pub fields_of : List written.Member → List written.Vars
-fields_of [] = []
-fields_of (written.AField v ∷ ms) = v ∷ fields_of ms
-fields_of (written.AMethod f ∷ ms) = fields_of ms
-fields_of (written.AConstructor c ∷ ms) = fields_of ms
-
-abbrev pub methods_of : List written.Member → List written.Function
-methods_of [] = []
-methods_of (written.AMethod f ∷ ms) = f ∷ methods_of ms
-methods_of (written.AField v ∷ ms) = methods_of ms
-methods_of (written.AConstructor c ∷ ms) = methods_of ms
-
-abbrev pub constructors_of : List written.Member → List written.Constructor
-constructors_of [] = []
-constructors_of (written.AConstructor c ∷ ms) = c ∷ constructors_of ms
-constructors_of (written.AMethod f ∷ ms) = constructors_of ms
-constructors_of (written.AField v ∷ ms) = constructors_of ms
+use Rattle.ash_typing.specs.Scopes.{body_scope}
+use Rattle.ash_typing.specs.Returning.{returns_in}
+use Rattle.ash_tree.specs.Items.{Routine, routine_of, constructing, classes_of, interfaces_of, classes_before, functions_of, globals_of, fields_of, methods_of, constructors_of, variable_names, member_names, item_names, parameter_name}
+use Rattle.ash_typing.specs.Implementations.{implemented}
 
 -- names
-
-abbrev pub decl_name : written.Decl → List ℕ
-decl_name d = d.name
-
-abbrev pub names_of : written.Vars → List (List ℕ)
-names_of v = map decl_name v.decls
-
--- the names of variables
-abbrev pub variable_names : List written.Vars → List (List ℕ)
-variable_names [] = []
-variable_names (v ∷ vs) = names_of v ++ variable_names vs
-
--- the names of a class's fields and methods
-abbrev pub member_names : List written.Member → List (List ℕ)
-member_names [] = []
-member_names (written.AField v ∷ ms) = names_of v ++ member_names ms
-member_names (written.AMethod f ∷ ms) = f.name ∷ member_names ms
-member_names (written.AConstructor c ∷ ms) = member_names ms
-
--- the names of a module's classes, interfaces, functions and variables
-abbrev pub item_names : List written.Item → List (List ℕ)
-item_names [] = []
-item_names (written.AClass c ∷ is) = c.name ∷ item_names is
-item_names (written.AnInterface i ∷ is) = i.name ∷ item_names is
-item_names (written.AFunction f ∷ is) = f.name ∷ item_names is
-item_names (written.AGlobal v ∷ is) = names_of v ++ item_names is
-
-abbrev pub parameter_name : written.Parameter → List ℕ
-parameter_name p = p.name
 
 -- a name that no type and no function is registered by
 abbrev pub IsFree : List host.Call → List ℕ → Type 0
@@ -167,9 +84,6 @@ pub record IsRoutine (env : Environment) (of : Ty) (r : Routine) (typed : Functi
 abbrev pub IsResult : Environment → Option written.Named → Type 0
 IsResult env None = Unit {0}
 IsResult env (Some of) = IsPassed (ty_in env of)
-
-abbrev pub result_in : Environment → Option written.Named → Ty
-result_in env of = result_named env.registered env.heads of
 
 -- `T f(..) { .. }`
 pub record IsFunction (env : Environment) (f : written.Function) (typed : Function) : Type 0 where

@@ -17,12 +17,12 @@ use Rattle.ash_typed.specs.declared.tree.statements.Test.TheVariants.{First, Las
 use Rattle.ash_typed.specs.Tree.{Expr}
 use Rattle.ash_typed.specs.StatementTree.{Initialization, Stmt, Empty, Declare, Evaluate, Block, If, no_branch, branch, Head, no_head, declared_head, evaluated_head, Repeat, For, repeated, Switch, Break, Continue, Return, Stmts, no_stmt, stmt, labelled, Cases, no_case, next_case}
 use Rattle.ash_typing.specs.Environment.{Environment}
-use Rattle.ash_typing.specs.Heads.{declared}
-use Rattle.ash_typing.specs.Declarations.{ty_in}
-use Rattle.ash_typing.specs.Typing.{IsKnown, IsKnownType, IsVariableType, Term, converted_to, HasType, AllHaveType, IsDeclared}
+use Rattle.ash_typing.specs.Heads.{declared, ty_in}
+use Rattle.ash_typing.specs.Terms.{Term, converted_to}
+use Rattle.ash_typing.specs.Typing.{IsKnown, IsKnownType, IsVariableType, HasType, AllHaveType, IsDeclared}
 use Rattle.ash_typing.specs.Returning.{is_default}
-use Rattle.ash_typing.specs.Switches.{holds_label, is_same_constant}
-use Rattle.ash_typing.specs.Statements.{Scope, block_of, loop_of, switch_of, with_variables, behind, is_taken, is_last}
+use Rattle.ash_typing.specs.Labels.{holds_label, is_same_constant, is_last}
+use Rattle.ash_typing.specs.Scopes.{Scope, block_of, loop_of, switch_of, with_variables, behind, is_taken}
 
 -- a scope whose types are known
 pub record IsKnownScope (scope : Scope) : Type 0 where

@@ -4,7 +4,7 @@
 --
 -- `HasType env left e t`: the expression `e` has the type of the term `t`, and its tree. `left` says that `e` stands left
 -- of `=`, where `@e` is what is written to.
-use Rattle.std.specs.Prelude.{◌≡◌, ℕ, length, List, [], ◌∷◌, Bool, true, false, Option, Some, None, map, if◌then◌else◌}
+use Rattle.std.specs.Prelude.{◌≡◌, ℕ, length, List, [], ◌∷◌, Bool, true, false, Option, Some, None, map}
 use Rattle.std.specs.List.{AllByRecursion}
 use Rattle.ash_tree.specs.declared.tree.places.Place as place
 use Rattle.ash_tree.specs.declared.tree.types.Primitive.{Primitive}
@@ -20,8 +20,6 @@ use Rattle.ash_typed.specs.declared.types.ObjectType.{ObjectType}
 use Rattle.ash_typed.specs.declared.types.ObjectType.TheVariants as objects
 use Rattle.ash_typing.specs.declared.types.Ty.{Ty}
 use Rattle.ash_typing.specs.declared.types.Ty.TheVariants as ty
-use Rattle.ash_typing.specs.declared.forms.Sort.{Sort}
-use Rattle.ash_typing.specs.declared.forms.Sort.TheVariants as sort
 use Rattle.ash_typing.specs.declared.forms.Form.{Form}
 use Rattle.ash_typing.specs.declared.forms.Form.TheVariants as form
 use Rattle.ash_typed.specs.declared.tree.operations.Change.TheVariants as changes
@@ -31,13 +29,13 @@ use Rattle.ash_typed.specs.declared.tree.operations.Calculator.{Calculator}
 use Rattle.ash_typed.specs.declared.tree.operations.Operands.{Operands}
 use Rattle.ash_typed.specs.declared.tree.operations.Operands.TheVariants as operands
 use Rattle.ash_typed.specs.declared.tree.operations.Step.TheVariants as steps
-use Rattle.ash_typing.specs.Types.{is_variable, is_result, var_type, kind_of, holds, signed, common, object_of, ty_of, ty_of_element, sort_of, binary_of, meets, outcome}
-use Rattle.ash_typed.specs.Tree.{Expr, Number, Truth, Null, This, Read, Invoke, Cast, Call, Alter, Conditional, Assign, Update, Count, Place, Held, Indexed, Exprs, no_expr, expr, converted}
+use Rattle.ash_typing.specs.Types.{is_variable, is_result, var_type, signed, common, object_of, ty_of, ty_of_element, sort_of, binary_of, meets, outcome}
+use Rattle.ash_typed.specs.Tree.{Expr, Truth, Null, This, Read, Invoke, Cast, Call, Alter, Conditional, Assign, Update, Count, Place, Held, Indexed, Exprs, no_expr, expr}
 use Rattle.ash_typing.specs.Fitting.{fits}
 use Rattle.ash_typing.specs.Heads.{object_named, element_named}
-use Rattle.ash_typing.specs.Environment.{Environment, Declared, Function, Interface, Class, Known, Callee, Invoked, variable_in, callee_in, member_in, method_in}
-use Rattle.ash_typing.specs.Expressions.{Typed, conversion, operand_type, applied, operator_of, is_stored, call_of, assignable, bracketed, handle_form, array_parameters}
-use Rattle.ash_typing.specs.Declarations.{Initialization, initialization, construction}
+use Rattle.ash_typing.specs.Environment.{Environment, Declared, Function, Interface, Class, Known, Callee, Invoked, variable_in, callee_in, member_in, method_in, construction}
+use Rattle.ash_typed.specs.StatementTree.{Initialization}
+use Rattle.ash_typing.specs.Terms.{operand_type, applied, operator_of, is_stored, call_of, assignable, bracketed, handle_form, array_parameters, initialization, Term, term, read_term, number_term, converted_to, beside, right_by}
 
 -- an environment whose types are known
 
@@ -80,38 +78,6 @@ pub record IsKnown (env : Environment) : Type 0 where
 
 -- terms
 
--- what an expression is typed as, and what it is by itself
-pub record Term : Type 0 where
-  pub ty : Ty
-  pub form : Form
-  pub tree : Expr
-
-abbrev pub term : Ty → Expr → Term
-term of tree = record { ty = of; form = form.Value; tree = tree }
-
--- what can be assigned: its tree reads the place
-abbrev pub read_term : Ty → Expr → Term
-read_term of tree = record { ty = of; form = form.Place; tree = tree }
-
--- a number has the first of the four integer types that holds it
-abbrev pub number_term : ℕ → Term
-number_term n = record { ty = ty.Integer (kind_of n); form = form.Number n; tree = Number (kind_of n) n }
-
--- converted to a type
-abbrev pub converted_to : Ty → Term → Expr
-converted_to of t = converted (conversion of t.ty) t.tree
-
--- A number alone takes the type of the other operand, where that holds it and the other is no number.
-abbrev pub taking : Form → Ty → Form → Term → Term
-taking (form.Number m) of (form.Number n) t = t
-taking _ (ty.Integer k) (form.Number n) t = if holds k n then record { ty = ty.Integer k; form = form.Number n; tree = Number k n } else t
-taking _ _ _ t = t
-
--- the operand of an operator beside another operand: the two of a shift have a type each
-abbrev pub beside : Sort → Term → Term → Term
-beside sort.Shift other t = t
-beside _ other t = taking other.form other.ty t.form t
-
 -- The operator takes the two terms, each beside the other, for these operands.
 abbrev pub Meet : BinaryOp → Term → Term → Operands → Type 0
 Meet op t u o = meets (sort_of op) (beside (sort_of op) u t).ty (beside (sort_of op) t u).ty ≡ Some o
@@ -119,11 +85,6 @@ Meet op t u o = meets (sort_of op) (beside (sort_of op) u t).ty (beside (sort_of
 -- what becomes of the left one
 abbrev pub left_of : BinaryOp → Operands → Term → Term → Expr
 left_of op o t u = converted_to (operand_type o) (beside (sort_of op) u t)
-
--- the count of a shift keeps its type
-abbrev pub right_by : Sort → Operands → Term → Expr
-right_by sort.Shift o u = u.tree
-right_by _ o u = converted_to (operand_type o) u
 
 -- what becomes of the right one
 abbrev pub right_of : BinaryOp → Operands → Term → Term → Expr
@@ -363,37 +324,6 @@ pub data IsDeclared (env : Environment) : Ty → written.Decl → Initialization
   declared : {of : Ty} {d : written.Decl} {value : Option Expr}
       → BeginsWith env of d.initializer value
       → IsDeclared env of d (initialization d.name of value)
-
--- offsets
-
--- where the first token of an expression stands
-abbrev pub first_at : written.Expr → ℕ
-first_at (written.Number p n) = p.at
-first_at (written.Truth p b) = p.at
-first_at (written.Null p) = p.at
-first_at (written.This p) = p.at
-first_at (written.Name p text) = p.at
-first_at (written.Call p text es) = p.at
-first_at (written.Brackets p e) = p.at
-first_at (written.Convert p to e) = p.at
-first_at (written.NewArray p of es) = p.at
-first_at (written.Cast p to e) = p.at
-first_at (written.Postfix p e ss) = first_at e
-first_at (written.Unary p op e) = p.at
-first_at (written.Binary p e ls) = first_at e
-first_at (written.Conditional p c a b) = first_at c
-first_at (written.Assign p e op v) = first_at e
-
--- what the walk answers of a term
-abbrev pub placed : ℕ → Term → Typed
-placed at t = record { at = at; ty = t.ty; form = t.form; tree = t.tree }
-
-abbrev pub all_placed : written.Exprs → List Term → List Typed
-all_placed (written.expr e es) (t ∷ ts) = placed (first_at e) t ∷ all_placed es ts
-all_placed _ _ = []
-
-abbrev pub term_of : Typed → Term
-term_of t = record { ty = t.ty; form = t.form; tree = t.tree }
 
 -- what can be assigned has the tree of a read
 

@@ -11,10 +11,11 @@ ghost use Rattle.ash_typing.specs.FaultPlaces.{IsTokenOf, IsFaultOf};
 ghost use Rattle.ash_typing.specs.Items.{module_typed};
 ghost use Rattle.ash_typed.specs.Modules as modules;
 ghost use Rattle.ash_typed.specs.StatementTree.{Stmts};
-ghost use Rattle.ash_typing.specs.Statements.{Scope, stmts_typed};
+ghost use Rattle.ash_typing.specs.Statements.{stmts_typed};
 ghost use Rattle.ash_typing.specs.TypedModules.{environment, IsTyped};
 ghost use Rattle.ash_typing.specs.TypedStatements.{IsKnownScope, AreStmts};
 ghost use Rattle.ash_typing.specs.Typing.{IsKnown};
+ghost use Rattle.ash_typing.specs.Scopes.{Scope};
 
 /// That the walk types the statements that have a typed tree by the rules, and no others where all types are known; and
 /// then its answer is that tree. It does nothing when it runs.

@@ -14,16 +14,17 @@ ghost use Rattle.ash_typing.specs.Environment.{Environment};
 ghost use Rattle.ash_typing.specs.Nesting.{AllDeclareInBlocks, ItemsDeclareInBlocks};
 ghost use Rattle.ash_typing.specs.Offered.{offered};
 ghost use Rattle.ash_typing.specs.Soundness.{seen_in, seen_at};
-ghost use Rattle.ash_typing.specs.Statements.{Scope};
+ghost use Rattle.ash_typing.specs.Scopes.{Scope};
 ghost use Rattle.ash_typing.specs.Types.{value_type};
 ghost use Rattle.ash_typing.specs.TypedModules.{IsTyped};
 ghost use Rattle.ash_typing.specs.TypedStatements.{IsKnownScope, AreStmts};
-ghost use Rattle.ash_typing.specs.Typing.{IsKnown, Term, HasType};
+ghost use Rattle.ash_typing.specs.Typing.{IsKnown, HasType};
+ghost use Rattle.ash_typing.specs.Terms.{Term};
 
 /// That what the rules of typing type is sound. It does nothing when it runs.
 pub fn typed_is_sound()
     ensures expressions { (env : Environment) → IsKnown env → (left : Bool) (e : written.Expr) (t : Term) →
-        HasType env left e t → expressions.HasType (seen_in env) t.tree (value_type t.ty) }
+        HasType env left e t → expressions.IsWellTyped (seen_in env) t.tree (value_type t.ty) }
     ensures statements { (scope : Scope) → IsKnownScope scope → (ss : written.Stmts) (ts : Stmts) →
         AllDeclareInBlocks ss → AreStmts scope ss ts → statements.AreStmts (seen_at scope) ts }
     ensures modules { (calls : List Call) (is : List written.Item) (typed : Module) →

@@ -5,13 +5,14 @@ ghost use Rattle.ash_tree.specs.Tree as written;
 ghost use Rattle.ash_typing.specs.declared.types.Ty.{Ty};
 ghost use Rattle.ash_typing.specs.declared.types.Ty.TheVariants.{Unknown};
 ghost use Rattle.ash_typing.specs.Environment.{Environment};
-ghost use Rattle.ash_typing.specs.Expressions.{Typed, typed, all_typed};
+ghost use Rattle.ash_typing.specs.Expressions.{Typed, typed, all_typed, first_at, placed, all_placed, term_of};
 ghost use Rattle.ash_typing.specs.Declarations.{Initialization, initialized, decl_typed};
 ghost use Rattle.ash_typed.specs.Tree.{Expr};
 ghost use Rattle.ash_typed.specs.TypeOf.{type_of};
 ghost use Rattle.ash_typed.specs.declared.types.VarType.{VarType};
 ghost use Rattle.ash_typing.specs.Types.{var_type, ty_of_var, value_type};
-ghost use Rattle.ash_typing.specs.Typing.{IsKnown, IsVariableType, Term, HasType, AllHaveType, BeginsWith, IsDeclared, IsReadWherePlace, first_at, placed, all_placed, term_of};
+ghost use Rattle.ash_typing.specs.Typing.{IsKnown, IsVariableType, HasType, AllHaveType, BeginsWith, IsDeclared, IsReadWherePlace};
+ghost use Rattle.ash_typing.specs.Terms.{Term};
 
 /// That the walk types what has a type by the rules, and nothing else where all types are known. Its answer is the term
 /// of the rules, with the offset of the first token. And that the tree of a term says what an expression of the term's

@@ -1,9 +1,10 @@
 use Rattle.std.proofs.Common.{◌≡◌, ◌++◌, map, drop}
 use Rattle.ash_registrations.specs.Registered.{registered}
 use Rattle.ash_tree.specs.Views.{member_of}
-use Rattle.ash_typing.specs.Heads.{fields_in}
+use Rattle.ash_typing.specs.Heads.{all_variables}
+use Rattle.ash_tree.specs.Items.{fields_of}
 use Rattle.ash_expressions.specs.Views.{declared_of, heads_of}
 use Rattle.ash_check.proofs.heads.fields.Given as goal
 
 abbrev pub invariant-loop-member : goal.invariant-loop-member
-invariant-loop-member l = map declared_of l.all.items ++ fields_in (registered l.registry) (heads_of l.named) (map member_of (drop l.member-index l.members)) ≡ fields_in (registered l.registry) (heads_of l.named) (map member_of l.members)
+invariant-loop-member l = map declared_of l.all.items ++ all_variables (registered l.registry) (heads_of l.named) (fields_of (map member_of (drop l.member-index l.members))) ≡ all_variables (registered l.registry) (heads_of l.named) (fields_of (map member_of l.members))

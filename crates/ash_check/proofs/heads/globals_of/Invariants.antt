@@ -1,9 +1,10 @@
 use Rattle.std.proofs.Common.{◌≡◌, ◌++◌, map, drop}
 use Rattle.ash_registrations.specs.Registered.{registered}
 use Rattle.ash_tree.specs.Views.{item_of}
-use Rattle.ash_typing.specs.Heads.{globals_in}
+use Rattle.ash_typing.specs.Heads.{all_variables}
+use Rattle.ash_tree.specs.Items.{globals_of}
 use Rattle.ash_expressions.specs.Views.{declared_of, heads_of}
 use Rattle.ash_check.proofs.heads.globals_of.Given as goal
 
 abbrev pub invariant-loop-item : goal.invariant-loop-item
-invariant-loop-item l = map declared_of l.all.items ++ globals_in (registered l.registry) (heads_of l.named) (map item_of (drop l.item-index l.items)) ≡ globals_in (registered l.registry) (heads_of l.named) (map item_of l.items)
+invariant-loop-item l = map declared_of l.all.items ++ all_variables (registered l.registry) (heads_of l.named) (globals_of (map item_of (drop l.item-index l.items))) ≡ all_variables (registered l.registry) (heads_of l.named) (globals_of (map item_of l.items))

@@ -1,9 +1,10 @@
 use Rattle.std.proofs.Common.{◌≡◌, ◌++◌, map, drop}
 use Rattle.ash_registrations.specs.Registered.{registered}
 use Rattle.ash_tree.specs.Views.{item_of}
-use Rattle.ash_typing.specs.Heads.{interfaces_in}
+use Rattle.ash_typing.specs.Heads.{interface_head}
+use Rattle.ash_tree.specs.Items.{interfaces_of}
 use Rattle.ash_expressions.specs.Views.{interface_of, heads_of}
 use Rattle.ash_check.proofs.heads.interfaces_of.Given as goal
 
 abbrev pub invariant-loop-item : goal.invariant-loop-item
-invariant-loop-item l = map interface_of l.all.items ++ interfaces_in (registered l.registry) (heads_of l.named) (map item_of (drop l.item-index l.items)) ≡ interfaces_in (registered l.registry) (heads_of l.named) (map item_of l.items)
+invariant-loop-item l = map interface_of l.all.items ++ map (interface_head (registered l.registry) (heads_of l.named)) (interfaces_of (map item_of (drop l.item-index l.items))) ≡ map (interface_head (registered l.registry) (heads_of l.named)) (interfaces_of (map item_of l.items))

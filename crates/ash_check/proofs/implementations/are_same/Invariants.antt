@@ -1,5 +1,5 @@
 use Rattle.std.proofs.Common.{◌≡◌, drop}
-use Rattle.ash_typing.specs.Items as definition
+use Rattle.ash_typing.specs.Implementations as definition
 use Rattle.ash_check.proofs.implementations.are_same.Given as goal
 
 -- what is left gives what the whole gives

@@ -1,5 +1,5 @@
 use Rattle.std.proofs.Common.{◌≡◌, map, drop}
-use Rattle.ash_typing.specs.Items as definition
+use Rattle.ash_typing.specs.Implementations as definition
 use Rattle.ash_expressions.specs.Views.{function_of}
 use Rattle.ash_check.proofs.MethodLaws.{behind}
 use Rattle.ash_check.proofs.implementations.methods_for.Given as goal

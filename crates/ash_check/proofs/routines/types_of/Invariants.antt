@@ -1,7 +1,7 @@
 use Rattle.std.proofs.Common.{◌≡◌, ◌++◌, map, drop}
-use Rattle.ash_typing.specs.Items as definition
+use Rattle.ash_typing.specs.Environment.{type_declared}
 use Rattle.ash_expressions.specs.Views.{declared_of}
 use Rattle.ash_check.proofs.routines.types_of.Given as goal
 
 abbrev pub invariant-loop-declared : goal.invariant-loop-declared
-invariant-loop-declared l = l.types.items ++ map definition.type_of (map declared_of (drop l.declared-index l.all)) ≡ map definition.type_of (map declared_of l.all)
+invariant-loop-declared l = l.types.items ++ map type_declared (map declared_of (drop l.declared-index l.all)) ≡ map type_declared (map declared_of l.all)

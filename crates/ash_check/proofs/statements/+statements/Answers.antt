@@ -5,6 +5,7 @@ use Rattle.ash_tree.specs.declared.tree.statements.Case as code_case
 use Rattle.ash_tree.specs.Tree as written
 use Rattle.ash_tree.specs.Views.{stmt_of, case_of}
 use Rattle.ash_typed.specs.BodyViews as typed_views
+use Rattle.ash_typing.specs.Labels.{is_last}
 use Rattle.ash_typing.specs.Statements as definition
 use Rattle.ash_typing.specs.Statements.{stmts_typed}
 use Rattle.ash_typing.specs.Switches.{label_typed}
@@ -45,7 +46,7 @@ cases_typed-returns-in_err-known-clause-typed t c =
     let p = err_from_is_err_and c.from_residual-in_err-known.result c.from_residual-in_err-known.ensures.1 in
     let labels = c.args.labels.now in
     let x = c.index-labels-i.result in
-    let last = definition.is_last (written.cases (map case_of (drop (c.loop-i.i + 1) labels))) in
+    let last = is_last (written.cases (map case_of (drop (c.loop-i.i + 1) labels))) in
     let at = (code_case.out-Case x).place.at in
     let l = (code_case.out-Case x).label in
     let told : label_typed c.args.kind c.loop-i.before.items last at l ≡ label_typed c.args.kind c.deref.result.now c.is_last-last.result at l =
@@ -57,7 +58,7 @@ cases_typed-returns-in_err-body-clause-typed t c =
     let p = err_from_is_err_and c.from_residual-in_err-body.result c.from_residual-in_err-body.ensures.1 in
     let labels = c.args.labels.now in
     let x = c.index-labels-i.result in
-    let last = definition.is_last (written.cases (map case_of (drop (c.loop-i.i + 1) labels))) in
+    let last = is_last (written.cases (map case_of (drop (c.loop-i.i + 1) labels))) in
     let at = (code_case.out-Case x).place.at in
     let l = (code_case.out-Case x).label in
     let told : label_typed c.args.kind c.loop-i.before.items last at l ≡ label_typed c.args.kind c.deref.result.now c.is_last-last.result at l =
@@ -70,7 +71,7 @@ pub cases_typed-loop-i-preserved : goal.cases_typed-loop-i-preserved
 cases_typed-loop-i-preserved t c =
     let labels = c.args.labels.now in
     let x = c.index-labels-i.result in
-    let last = definition.is_last (written.cases (map case_of (drop (c.loop-i.i + 1) labels))) in
+    let last = is_last (written.cases (map case_of (drop (c.loop-i.i + 1) labels))) in
     let at = (code_case.out-Case x).place.at in
     let l = (code_case.out-Case x).label in
     let told : label_typed c.args.kind c.loop-i.before.items last at l ≡ label_typed c.args.kind c.deref.result.now c.is_last-last.result at l =

@@ -2,7 +2,7 @@ use Rattle.std.proofs.Common.{◌≡◌, ℕ, zero, suc, ◌+◌, ◌≤◌, Lis
 use Rattle.ash_tree.specs.declared.tree.statements.Case as code_case
 use Rattle.ash_tree.specs.Tree.{cases}
 use Rattle.ash_tree.specs.Views.{case_of}
-use Rattle.ash_typing.specs.Statements.{is_last}
+use Rattle.ash_typing.specs.Labels.{is_last}
 use Rattle.ash_check.proofs.switches.is_last.Goals as goal
 
 ends : (xs : List code_case.Case) (n : ℕ) → n ≤ length xs → is_last (cases (map case_of (drop n xs))) ≡ nat_eq n (length xs)

@@ -1,5 +1,4 @@
-use Rattle.ash_typing.specs.Expressions.{all_typed}
-use Rattle.ash_typing.specs.Typing.{all_placed}
+use Rattle.ash_typing.specs.Expressions.{all_typed, all_placed}
 use Rattle.ash_typing.proofs.TypingWords.{answered, no_fault_at}
 use Rattle.ash_typing.proofs.TypingComplete.{terms, all_complete}
 use Rattle.ash_typing.proofs.TypingSound.{all_sound}

@@ -1,6 +1,6 @@
 use Rattle.std.proofs.Common.{sym, ap, ◌∙◌}
-use Rattle.ash_typing.specs.Expressions.{typed}
-use Rattle.ash_typing.specs.Typing.{is_known, placed, term_of, first_at}
+use Rattle.ash_typing.specs.Expressions.{typed, placed, term_of, first_at}
+use Rattle.ash_typing.specs.Typing.{is_known}
 use Rattle.ash_typing.proofs.TypingWords.{answered, no_fault_at, same_ok}
 use Rattle.ash_typing.proofs.TypingKnown.{known_type}
 use Rattle.ash_typing.proofs.TypingComplete.{complete}

@@ -1,0 +1,43 @@
+-- What a statement sees, for the rules and for the walk alike.
+use Rattle.std.specs.Prelude.{ℕ, List, ◌++◌, Bool, true, false, length, drop}
+use Rattle.std.specs.List.{list_any}
+use Rattle.ash_tree.specs.Tree as written
+use Rattle.ash_typing.specs.declared.types.Ty.{Ty}
+use Rattle.ash_typing.specs.Environment.{Declared, Environment, declares, with_locals}
+use Rattle.ash_typing.specs.Heads.{variables}
+
+-- `first` is how many locals stand before those of the block, `gives` what the function gives
+pub record Scope : Type 0 where
+  pub env : Environment
+  pub first : ℕ
+  pub gives : Ty
+  pub in_loop : Bool
+  pub in_switch : Bool
+
+-- in a block none of its names is taken yet
+abbrev pub block_of : Scope → Scope
+block_of scope = record { env = scope.env; first = length scope.env.locals; gives = scope.gives; in_loop = scope.in_loop; in_switch = scope.in_switch }
+
+abbrev pub loop_of : Scope → Scope
+loop_of scope = record { env = scope.env; first = scope.first; gives = scope.gives; in_loop = true; in_switch = scope.in_switch }
+
+abbrev pub switch_of : Scope → Scope
+switch_of scope = record { env = scope.env; first = scope.first; gives = scope.gives; in_loop = scope.in_loop; in_switch = true }
+
+abbrev pub with_variables : Scope → List Declared → Scope
+with_variables scope vs = record { env = with_locals scope.env (scope.env.locals ++ vs); first = scope.first; gives = scope.gives; in_loop = scope.in_loop; in_switch = scope.in_switch }
+
+abbrev pub declared_in : Scope → written.Vars → List Declared
+declared_in scope v = variables scope.env.registered scope.env.heads v
+
+-- what the statements behind one see: the variables that it declares
+abbrev pub behind : Scope → written.Stmt → Scope
+behind scope (written.Declare p v) = with_variables scope (declared_in scope v)
+behind scope _ = scope
+
+abbrev pub is_taken : Scope → List ℕ → Bool
+is_taken scope name = list_any (declares name) (drop scope.first scope.env.locals)
+
+-- parameters and the variables of the body are one block
+abbrev pub body_scope : Environment → Ty → Scope
+body_scope env of = record { env = env; first = 0; gives = of; in_loop = false; in_switch = false }
