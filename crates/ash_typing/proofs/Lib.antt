@@ -31,6 +31,7 @@ pub mod FaultTokens
 pub mod DerivedPlaces
 pub mod DerivedItems
 pub mod FaultAnswers
+pub mod FaultReached
 pub mod FaultExpressions
 pub mod FaultStatements
 pub mod FaultItems

@@ -14,6 +14,8 @@ pub mod Bodies
 pub mod Items
 pub mod TypedModules
 pub mod FaultPlaces
+pub mod Reached
+pub mod FaultMeaning
 pub mod Offered
 pub mod Soundness
 pub mod Nesting

@@ -21,7 +21,9 @@ mod typing;
 
 pub use fault::{Fault, Rule};
 pub use forms::{Callable, Form, Operator, Sort};
-pub use modules::{faults_are_at_tokens, typing_of_modules, typing_of_statements};
+pub use modules::{
+    faults_are_at_tokens, faults_are_what_they_say, typing_of_modules, typing_of_statements,
+};
 pub use soundness::typed_is_sound;
 pub use types::Ty;
 pub use typing::{

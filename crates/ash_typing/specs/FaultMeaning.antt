@@ -1,0 +1,225 @@
+-- What is wrong where the fault of a module is told, for each rule that one sentence says. A phrase that breaks the rule
+-- stands there, with what it sees. `TypeMismatch` and `NotAssignable` are told at a token of their kind, and no more is
+-- said of them here: what they compare are the types of two phrases.
+use Rattle.std.specs.Prelude.{◌≡◌, ℕ, ◌+◌, Bool, true, false, ◌||◌, List, [], ◌∷◌, Option, Some, None, length, nat_eq, nat_le}
+use Rattle.std.specs.List.{Any, list_any}
+use Rattle.std.specs.Option.{is_some}
+use Rattle.std.specs.Str.{bytes_eq}
+use Rattle.ash_lex.specs.Tokens.{Meaning, name, reserved}
+use Rattle.ash_lex.specs.declared.words.ReservedWord.TheVariants as words
+use Rattle.ash_registrations.specs.Calls.{Call}
+use Rattle.ash_tree.specs.Tree as written
+use Rattle.ash_tree.specs.Tokens.{Tokens}
+use Rattle.ash_tree.specs.declared.tree.places.Place.{Place}
+use Rattle.ash_tree.specs.declared.tree.statements.Label.{Label}
+use Rattle.ash_tree.specs.declared.tree.statements.Label.TheVariants as labels
+use Rattle.ash_typed.specs.declared.types.Kind.{Kind}
+use Rattle.ash_typed.specs.declared.types.ObjectType.{ObjectType}
+use Rattle.ash_typed.specs.declared.types.ObjectType.TheVariants as objects
+use Rattle.ash_typing.specs.declared.fault.Rule.{Rule}
+use Rattle.ash_typing.specs.declared.fault.Rule.TheVariants as rules
+use Rattle.ash_typing.specs.declared.fault.Fault.{Fault}
+use Rattle.ash_typing.specs.declared.types.Ty.{Ty}
+use Rattle.ash_typing.specs.declared.types.Ty.TheVariants as ty
+use Rattle.ash_typing.specs.Types.{object_of}
+use Rattle.ash_typing.specs.Environment.{Environment, Declared, Callee, Invoked, declares, variable_in, callee_in, member_in, method_in}
+use Rattle.ash_typing.specs.Heads.{heads, object_named}
+use Rattle.ash_typing.specs.Expressions.{Typed, is_void, array_parameters}
+use Rattle.ash_typing.specs.Declarations.{construction}
+use Rattle.ash_typing.specs.Switches.{is_within, is_same_constant}
+use Rattle.ash_typing.specs.Statements as statements
+use Rattle.ash_typing.specs.Statements.{Scope, is_last}
+use Rattle.ash_typing.specs.Bodies.{returns_in}
+use Rattle.ash_typing.specs.Items.{Names, is_taken, Row, Routine, Signatures, Listed, Members, Walked}
+use Rattle.ash_typing.specs.FaultPlaces.{breaks_at}
+use Rattle.ash_typing.specs.Reached.{Phrase, Expression, Suffixes, Initializer, Locals, Statement, Cases, Parameters, ARoutine, Variables, Methods, Interfaces, ClassMembers, Items, IsReached}
+
+-- how many arguments are given
+
+abbrev pub given : written.Exprs → ℕ
+given written.no_expr = 0
+given (written.expr e es) = given es + 1
+
+-- to the object that a variable begins with
+abbrev pub given_first : written.Initializer → ℕ
+given_first written.Default = 0
+given_first (written.Value e) = 1
+given_first (written.Arguments es) = given (written.exprs es)
+
+-- whether what is constructed takes something: of a type without factory nothing can be said
+abbrev pub is_constructible : Option Callee → Bool
+is_constructible None = false
+is_constructible (Some callee) = is_some callee.parameters
+
+-- a class or an interface, where the names in types mean that
+abbrev pub is_declared : Option ObjectType → Bool
+is_declared (Some (objects.Class place)) = true
+is_declared (Some (objects.Interface place)) = true
+is_declared _ = false
+
+-- names that are declared
+
+-- A name that a phrase declares at an offset, and whether another one of its space has it already.
+pub record Naming : Type 0 where
+  pub at : ℕ
+  pub text : List ℕ
+  pub is_taken : Bool
+
+abbrev pub naming : Place → List ℕ → Bool → Option Naming
+naming p text b = Some (record { at = p.at; text = text; is_taken = b })
+
+-- What the first of these declares: behind the names that are registered and those of the items before, of the members
+-- before, of the methods before, of the interfaces listed before, of the parameters before or of the locals of the block.
+-- A class has one constructor.
+abbrev pub named_by : Phrase → Option Naming
+named_by (Items env w (written.AClass c ∷ is)) = naming c.place c.name (is_taken w.names c.name)
+named_by (Items env w (written.AnInterface i ∷ is)) = naming i.place i.name (is_taken w.names i.name)
+named_by (Items env w (written.AFunction f ∷ is)) = naming f.place f.name (is_taken w.names f.name)
+named_by (Variables env at of row (d ∷ ds)) = naming d.place d.name (is_taken row.names d.name)
+named_by (ClassMembers env ms (written.AMethod f ∷ rest)) = naming f.place f.name (is_taken ms.names f.name)
+named_by (ClassMembers env ms (written.AConstructor c ∷ rest)) = naming c.place c.name (is_some ms.class.constructor)
+named_by (Methods env ss (m ∷ ms)) = naming m.place m.name (is_taken ss.names m.name)
+named_by (Interfaces env class listed (n ∷ ns)) = naming n.place n.name (is_taken listed.names n.name)
+named_by (Parameters env before (x ∷ xs)) = naming x.place x.name (list_any (declares x.name) before)
+named_by (Locals scope at of (d ∷ ds)) = naming d.place d.name (statements.is_taken scope d.name)
+named_by _ = None
+
+-- What there may be only so many of, and whether there are that many: 256 classes and interfaces and 256 variables in a
+-- module, 32 members of a class or methods of an interface.
+abbrev pub counted_by : Phrase → Option Naming
+counted_by (Items env w (written.AClass c ∷ is)) = naming c.place c.name (nat_le 256 (length w.typed.classes + length w.typed.interfaces))
+counted_by (Items env w (written.AnInterface i ∷ is)) = naming i.place i.name (nat_le 256 (length w.typed.classes + length w.typed.interfaces))
+counted_by (Variables env at of row (d ∷ ds)) = naming d.place d.name (nat_eq row.names.room 0)
+counted_by (ClassMembers env ms (written.AMethod f ∷ rest)) = naming f.place f.name (nat_eq ms.names.room 0)
+counted_by (Methods env ss (m ∷ ms)) = naming m.place m.name (nat_eq ss.names.room 0)
+counted_by _ = None
+
+-- What is wrong at an offset, where a token means this: in this module, where these calls are registered.
+pub data IsWrong (calls : List Call) (script : List written.Item) : Rule → ℕ → Meaning → Type 0 where
+  -- no local, field or global has this name
+  no_variable : {env : Environment} {p : Place} {text : List ℕ}
+      → IsReached calls script (Expression env (written.Name p text))
+      → variable_in env text ≡ None
+      → IsWrong calls script rules.UnknownName p.at (name text)
+  -- no method, function, class or registered type or function has this name
+  no_callee : {env : Environment} {p : Place} {text : List ℕ} {es : written.Exprs}
+      → IsReached calls script (Expression env (written.Call p text es))
+      → callee_in env text ≡ None
+      → IsWrong calls script rules.UnknownName p.at (name text)
+  -- objects of the type before the point have no field or property, and no method, of this name
+  no_member : {env : Environment} {t : Typed} {p : Place} {text : List ℕ} {ss : written.Suffixes} {o : ObjectType}
+      → IsReached calls script (Suffixes env t (written.suffix (written.Field p text) ss))
+      → object_of t.ty ≡ Some o
+      → member_in env o text ≡ None
+      → IsWrong calls script rules.UnknownName p.at (name text)
+  no_method : {env : Environment} {t : Typed} {p : Place} {text : List ℕ} {es : written.Exprs} {ss : written.Suffixes} {o : ObjectType}
+      → IsReached calls script (Suffixes env t (written.suffix (written.Method p text es) ss))
+      → object_of t.ty ≡ Some o
+      → method_in env o text ≡ None
+      → IsWrong calls script rules.UnknownName p.at (name text)
+  -- no class, interface or registered type has this name
+  no_type : {at : ℕ} {text : List ℕ}
+      → object_named calls (heads calls script) text ≡ None
+      → IsWrong calls script rules.UnknownType at (name text)
+  -- a class lists what is no interface of the module
+  no_interface : {env : Environment} {class : ℕ} {listed : Listed} {n : written.TypeName} {ns : List written.TypeName}
+      → IsReached calls script (Interfaces env class listed (n ∷ ns))
+      → is_declared (object_named calls (heads calls script) n.name) ≡ false
+      → IsWrong calls script rules.UnknownType n.place.at (name n.name)
+  -- a name that is declared has been declared before
+  taken : {x : Phrase} {n : Naming}
+      → IsReached calls script x
+      → named_by x ≡ Some n
+      → n.is_taken ≡ true
+      → IsWrong calls script rules.NameTaken n.at (name n.text)
+  too_many : {x : Phrase} {n : Naming}
+      → IsReached calls script x
+      → counted_by x ≡ Some n
+      → n.is_taken ≡ true
+      → IsWrong calls script rules.TooMany n.at (name n.text)
+  -- what gives a value may end without one
+  no_return : {env : Environment} {of : Ty} {r : Routine}
+      → IsReached calls script (ARoutine env of r)
+      → is_void of ≡ false
+      → returns_in r.body ≡ false
+      → IsWrong calls script rules.NoReturn r.place.at (name r.name)
+  -- what is called takes another number of arguments than it is given
+  call_count : {env : Environment} {p : Place} {text : List ℕ} {es : written.Exprs} {callee : Callee} {parameters : List Ty}
+      → IsReached calls script (Expression env (written.Call p text es))
+      → callee_in env text ≡ Some callee
+      → callee.parameters ≡ Some parameters
+      → nat_eq (length parameters) (given es) ≡ false
+      → IsWrong calls script rules.WrongArgumentCount p.at (name text)
+  method_count : {env : Environment} {t : Typed} {p : Place} {text : List ℕ} {es : written.Exprs} {ss : written.Suffixes} {o : ObjectType} {m : Invoked}
+      → IsReached calls script (Suffixes env t (written.suffix (written.Method p text es) ss))
+      → object_of t.ty ≡ Some o
+      → method_in env o text ≡ Some m
+      → nat_eq (length m.parameters) (given es) ≡ false
+      → IsWrong calls script rules.WrongArgumentCount p.at (name text)
+  array_count : {env : Environment} {p : Place} {of : written.Element} {es : written.Exprs}
+      → IsReached calls script (Expression env (written.NewArray p of es))
+      → nat_eq (length (array_parameters (given es))) (given es) ≡ false
+      → IsWrong calls script rules.WrongArgumentCount p.at (reserved words.Array)
+  variable_count : {env : Environment} {of_at at : ℕ} {o : ObjectType} {i : written.Initializer} {callee : Callee} {parameters : List Ty} {m : Meaning}
+      → IsReached calls script (Initializer env of_at at (ty.Object o) i)
+      → construction env o (given_first i) ≡ Some callee
+      → callee.parameters ≡ Some parameters
+      → nat_eq (length parameters) (given_first i) ≡ false
+      → IsWrong calls script rules.WrongArgumentCount of_at m
+  -- a registered type is constructed, and has no factory
+  call_factory : {env : Environment} {p : Place} {text : List ℕ} {es : written.Exprs} {callee : Callee}
+      → IsReached calls script (Expression env (written.Call p text es))
+      → callee_in env text ≡ Some callee
+      → callee.parameters ≡ None
+      → IsWrong calls script rules.NoFactory p.at (name text)
+  variable_factory : {env : Environment} {of_at at : ℕ} {o : ObjectType} {i : written.Initializer} {m : Meaning}
+      → IsReached calls script (Initializer env of_at at (ty.Object o) i)
+      → is_constructible (construction env o (given_first i)) ≡ false
+      → IsWrong calls script rules.NoFactory of_at m
+  -- the type of the value of a `switch` does not hold the constant of a label
+  out_of_range : {scope : Scope} {kind : Option Kind} {before : List Label} {p : Place} {l : Label} {ss : written.Stmts} {cs : written.Cases} {m : Meaning}
+      → IsReached calls script (Cases scope kind before (written.next_case (written.labelled p l ss) cs))
+      → is_within kind l ≡ false
+      → IsWrong calls script rules.ConstantOutOfRange p.at m
+  -- a label before has the same constant
+  duplicate : {scope : Scope} {kind : Option Kind} {before : List Label} {p : Place} {l : Label} {ss : written.Stmts} {cs : written.Cases} {m : Meaning}
+      → IsReached calls script (Cases scope kind before (written.next_case (written.labelled p l ss) cs))
+      → list_any (is_same_constant l) before ≡ true
+      → IsWrong calls script rules.DuplicateCase p.at m
+  -- `this` where no object runs
+  no_object : {env : Environment} {p : Place}
+      → IsReached calls script (Expression env (written.This p))
+      → env.this ≡ None
+      → IsWrong calls script rules.Misplaced p.at (reserved words.This)
+  -- `break` where there is nothing that it leaves, and `continue`
+  no_loop_to_leave : {scope : Scope} {p : Place}
+      → IsReached calls script (Statement scope (written.Break p))
+      → (scope.in_loop || scope.in_switch) ≡ false
+      → IsWrong calls script rules.Misplaced p.at (reserved words.Break)
+  no_loop : {scope : Scope} {p : Place}
+      → IsReached calls script (Statement scope (written.Continue p))
+      → scope.in_loop ≡ false
+      → IsWrong calls script rules.Misplaced p.at (reserved words.Continue)
+  -- `default` before another label
+  early_default : {scope : Scope} {kind : Option Kind} {before : List Label} {p : Place} {ss : written.Stmts} {cs : written.Cases}
+      → IsReached calls script (Cases scope kind before (written.next_case (written.labelled p labels.Default ss) cs))
+      → is_last cs ≡ false
+      → IsWrong calls script rules.Misplaced p.at (reserved words.Default)
+  -- the name of an object type where there may be none of it: objects are passed by handles, no variable stands for an
+  -- object of an interface, and no class lists a class; and an array, which is passed by its handle
+  object_type : {at : ℕ} {text : List ℕ} {o : ObjectType}
+      → object_named calls (heads calls script) text ≡ Some o
+      → IsWrong calls script rules.Misplaced at (name text)
+  array_type : {at : ℕ} → IsWrong calls script rules.Misplaced at (reserved words.Array)
+  -- a constructor has the name of its class
+  other_constructor : {env : Environment} {ms : Members} {c : written.Constructor} {rest : List written.Member}
+      → IsReached calls script (ClassMembers env ms (written.AConstructor c ∷ rest))
+      → bytes_eq c.name ms.class.name ≡ false
+      → IsWrong calls script rules.Misplaced c.place.at (name c.name)
+  mismatch : {at : ℕ} {m : Meaning} → IsWrong calls script rules.TypeMismatch at m
+  not_assignable : {at : ℕ} {m : Meaning} → IsWrong calls script rules.NotAssignable at m
+
+-- A token of the list has its first byte at the offset of the fault, means what one of its rule may, and there the rule is
+-- broken.
+abbrev pub IsBrokenAt : List Call → List written.Item → Tokens → Fault → Type 0
+IsBrokenAt calls script tokens f = Any (λ token. (token.1.at ≡ f.at) × (breaks_at f.rule token.0 ≡ true) × IsWrong calls script f.rule f.at token.0) tokens
