@@ -4,7 +4,7 @@ use Rattle.std.specs.Prelude.{◌||◌, if◌then◌else◌}
 use Rattle.ash_lex.specs.Tokens.{Meaning, name}
 use Rattle.ash_registrations.specs.Calls.{Call}
 use Rattle.ash_tree.specs.Tokens.{Tokens}
-use Rattle.ash_tree.specs.Tree.{Item}
+use Rattle.ash_tree.specs.Tree.{Named, Item}
 use Rattle.ash_typed.specs.declared.types.ObjectType.{ObjectType}
 use Rattle.ash_typing.specs.declared.fault.Rule.{Rule}
 use Rattle.ash_typing.specs.declared.fault.Rule.TheVariants as rules
@@ -12,11 +12,13 @@ use Rattle.ash_typing.specs.declared.fault.Fault.{Fault}
 use Rattle.ash_typing.specs.Checking.{Checking, ◌>>=◌, broken}
 use Rattle.ash_typing.specs.Environment.{Environment}
 use Rattle.ash_typing.specs.Expressions.{Typed}
-use Rattle.ash_typing.specs.Heads.{heads, object_named}
+use Rattle.ash_typing.specs.Heads.{heads, object_named, ty_named}
+use Rattle.ash_typing.specs.Declarations.{ty_in, at_type, at_type_name}
+use Rattle.ash_typing.specs.declared.types.Ty.TheVariants.{Object}
 use Rattle.ash_typing.specs.FaultPlaces.{is_return, begins_expression, breaks_at}
 use Rattle.ash_typing.specs.Reached.{Phrase, IsReached}
 use Rattle.ash_typing.specs.FaultMeaning as meaning
-use Rattle.ash_typing.specs.FaultMeaning.{IsWrong, Naming, named_by}
+use Rattle.ash_typing.specs.FaultMeaning.{IsWrong, Naming, named_by, TypeUse, written_by, is_misplaced}
 use Rattle.ash_typing.proofs.FaultTokens.{HasToken, HasStart}
 
 -- a script of a module, where these calls are registered
@@ -60,8 +62,8 @@ past_return m h = go (is_return m)
 pub mismatch : {script : Script} {A : Type 0} {Q : A → Type 0} {at : ℕ} → HasStart script.tokens at → Answers script Q (broken rules.TypeMismatch at)
 mismatch h = faulty (h.0, h.1, past_return h.0 h.2, meaning.mismatch)
 
-pub no_place : {script : Script} {A : Type 0} {Q : A → Type 0} {at : ℕ} → HasStart script.tokens at → Answers script Q (broken rules.NotAssignable at)
-no_place h = faulty (h.0, h.1, h.2, meaning.not_assignable)
+pub no_place : {script : Script} {A : Type 0} {Q : A → Type 0} {at : ℕ} → HasStart script.tokens at → ((m : Meaning) → Wrong script rules.NotAssignable at m) → Answers script Q (broken rules.NotAssignable at)
+no_place h w = faulty (h.0, h.1, h.2, w h.0)
 
 -- a name that a phrase declares, and that is taken
 pub name_taken : {script : Script} {A : Type 0} {Q : A → Type 0} {x : Phrase} (n : Naming) → Reached script x → named_by x ≡ Some n → HasToken script.tokens (name n.text) n.at → n.is_taken ≡ true → Answers script Q (broken rules.NameTaken n.at)
@@ -107,8 +109,20 @@ type_named env text = object_named env.registered env.heads text
 pub same_named : (script : Script) (env : Environment) (text : List ℕ) → IsOf script env → type_named env text ≡ object_named script.calls (heads script.calls script.items) text
 same_named script env text see = rw (see.0, see.1) refl
 
-pub unknown_type : (script : Script) (env : Environment) (at : ℕ) (text : List ℕ) → IsOf script env → type_named env text ≡ None → Wrong script rules.UnknownType at (name text)
-unknown_type script env at text see h = meaning.no_type (subst (λ o. o ≡ None) (same_named script env text see) h)
+-- no type has the name, as the phrase sees it
+pub unnamed : (script : Script) (env : Environment) (text : List ℕ) → IsOf script env → type_named env text ≡ None → object_named script.calls (heads script.calls script.items) text ≡ None
+unnamed script env text see h = subst (λ o. o ≡ None) (same_named script env text see) h
 
-pub object_type : (script : Script) (env : Environment) (at : ℕ) (text : List ℕ) (o : ObjectType) → IsOf script env → type_named env text ≡ Some o → Wrong script rules.Misplaced at (name text)
-object_type script env at text o see h = meaning.object_type (subst (λ found. found ≡ Some o) (same_named script env text see) h)
+same_types : (script : Script) (env : Environment) (of : Named) → IsOf script env → ty_in env of ≡ ty_named script.calls (heads script.calls script.items) of
+same_types script env of see = rw (see.0, see.1) refl
+
+-- what is wrong with a type that a phrase writes
+pub record Miswritten (script : Script) (env : Environment) (used : TypeUse) : Type 0 where
+  pub unknown : (text : List ℕ) → type_named env text ≡ None → Wrong script rules.UnknownType (at_type_name used.of) (name text)
+  pub misplaced : (o : ObjectType) (m : Meaning) → ty_in env used.of ≡ Object o → is_misplaced used o ≡ true → Wrong script rules.Misplaced (at_type used.of) m
+
+pub miswritten : (script : Script) (env : Environment) (x : Phrase) (used : TypeUse) → IsOf script env → Reached script x → written_by x ≡ Some used → Miswritten script env used
+miswritten script env x used see r e = record {
+  unknown = λ text n. meaning.no_type r e (unnamed script env text see n);
+  misplaced = λ o m t b. meaning.misplaced_type r e (subst (λ u. u ≡ Object o) (same_types script env used.of see) t) b;
+}

@@ -42,8 +42,8 @@ use Rattle.ash_typing.specs.FaultPlaces.{begins_call, begins_expression}
 use Rattle.ash_typing.proofs.FaultTokens.{HasToken, HasStart, ElementIn, ExprIn, ExprsIn, LinksIn, SuffixesIn, SuffixIn}
 use Rattle.ash_typing.specs.Reached as reached
 use Rattle.ash_typing.specs.FaultMeaning as meaning
-use Rattle.ash_typing.specs.FaultMeaning.{given}
-use Rattle.ash_typing.proofs.FaultAnswers.{Script, Reached, Wrong, Answers, fine, faulty, Fine, At, mismatch, no_place, bind, bind_by, either, choose_start, IsOf, type_named, unknown_type}
+use Rattle.ash_typing.specs.FaultMeaning.{given, takes_value, counts}
+use Rattle.ash_typing.proofs.FaultAnswers.{Script, Reached, Wrong, Answers, fine, faulty, Fine, At, mismatch, no_place, bind, bind_by, either, choose_start, type_named, unnamed}
 use Rattle.ash_typing.proofs.FaultReached.{sees}
 
 -- typed expressions, each at a token
@@ -110,24 +110,24 @@ operate_in script op a b h k = bind (met_in script op a b h k) (λ m left. fine 
 
 -- operators before an operand
 
-counted_in : (script : Script) (at : ℕ) (step : Step) (t : Typed) (p : Option Place) → HasStart script.tokens at → HasStart script.tokens t.at → At script (counted at step t p)
+counted_in : (script : Script) (at : ℕ) (step : Step) (t : Typed) (p : Option Place) → HasStart script.tokens at → HasStart script.tokens t.at → (p ≡ None → (m : Meaning) → Wrong script rules.NotAssignable t.at m) → At script (counted at step t p)
 unfolding counted
-counted_in script at step t None h k = no_place k
-counted_in script at step t (Some p) h k = bind (integer_in script t.at t.ty k) (λ kind u. fine h)
+counted_in script at step t None h k w = no_place k (w refl)
+counted_in script at step t (Some p) h k w = bind (integer_in script t.at t.ty k) (λ kind u. fine h)
 
 handle_at_in : (script : Script) (left : Bool) (at : ℕ) (t : Typed) → HasStart script.tokens at → HasStart script.tokens t.at → At script (handle_at left at t)
 handle_at_in script true at t h k = fine h
 handle_at_in script false at t h k = bind (handle_in script t.at t.ty k) (λ of u. fine h)
 
-unary_in : (script : Script) (left : Bool) (at : ℕ) (op : UnaryOp) (t : Typed) → HasStart script.tokens at → HasStart script.tokens t.at → At script (unary_at left at op t)
+unary_in : (script : Script) (left : Bool) (at : ℕ) (op : UnaryOp) (t : Typed) → HasStart script.tokens at → HasStart script.tokens t.at → (counts op ≡ true → assignable t.form t.tree ≡ None → (m : Meaning) → Wrong script rules.NotAssignable t.at m) → At script (unary_at left at op t)
 unfolding unary_at
-unary_in script left at unary.Plus t h k = bind (integer_in script t.at t.ty k) (λ kind u. fine h)
-unary_in script left at unary.Minus t h k = bind (integer_in script t.at t.ty k) (λ kind u. fine h)
-unary_in script left at unary.BitNot t h k = bind (integer_in script t.at t.ty k) (λ kind u. fine h)
-unary_in script left at unary.Not t h k = bind (bool_in script t.at t.ty k) (λ b u. fine h)
-unary_in script left at unary.Increment t h k = counted_in script at steps.Increment t (assignable t.form t.tree) h k
-unary_in script left at unary.Decrement t h k = counted_in script at steps.Decrement t (assignable t.form t.tree) h k
-unary_in script left at unary.Handle t h k = handle_at_in script left at t h k
+unary_in script left at unary.Plus t h k w = bind (integer_in script t.at t.ty k) (λ kind u. fine h)
+unary_in script left at unary.Minus t h k w = bind (integer_in script t.at t.ty k) (λ kind u. fine h)
+unary_in script left at unary.BitNot t h k w = bind (integer_in script t.at t.ty k) (λ kind u. fine h)
+unary_in script left at unary.Not t h k w = bind (bool_in script t.at t.ty k) (λ b u. fine h)
+unary_in script left at unary.Increment t h k w = counted_in script at steps.Increment t (assignable t.form t.tree) h k (w refl)
+unary_in script left at unary.Decrement t h k w = counted_in script at steps.Decrement t (assignable t.form t.tree) h k (w refl)
+unary_in script left at unary.Handle t h k w = handle_at_in script left at t h k
 
 converting_in : (script : Script) (at : ℕ) (of : Ty) (t : Typed) → HasStart script.tokens at → HasStart script.tokens t.at → At script (converting at of t)
 converting_in script at (ty.Integer j) t h k = bind (integer_in script t.at t.ty k) (λ kind u. fine h)
@@ -155,13 +155,13 @@ unfolding stored
 stored_in script classes at of p None v h k = bind (fitted_in script classes of v k) (λ e u. fine h)
 stored_in script classes at of p (Some c) v h k = updated_in script at of p c v h k
 
-assigned_to_in : (script : Script) (classes : List Class) (t : Typed) (op : AssignOp) (v : Typed) (p : Option Place) → HasStart script.tokens t.at → HasStart script.tokens v.at → At script (assigned_to classes t op v p)
-assigned_to_in script classes t op v None h k = no_place h
-assigned_to_in script classes t op v (Some p) h k = either (is_stored t.form t.ty) (λ b. stored_in script classes t.at t.ty p (operator_of op) v h k) (λ b. no_place h)
+assigned_to_in : (script : Script) (classes : List Class) (t : Typed) (op : AssignOp) (v : Typed) (p : Option Place) → HasStart script.tokens t.at → HasStart script.tokens v.at → assignable t.form t.tree ≡ p → (takes_value t ≡ false → (m : Meaning) → Wrong script rules.NotAssignable t.at m) → At script (assigned_to classes t op v p)
+assigned_to_in script classes t op v None h k q w = no_place h (w (rw q refl))
+assigned_to_in script classes t op v (Some p) h k q w = either (is_stored t.form t.ty) (λ b. stored_in script classes t.at t.ty p (operator_of op) v h k) (λ b. no_place h (w (rw (q, b) refl)))
 
-assigned_in : (script : Script) (classes : List Class) (t : Typed) (op : AssignOp) (v : Typed) → HasStart script.tokens t.at → HasStart script.tokens v.at → At script (assigned classes t op v)
+assigned_in : (script : Script) (classes : List Class) (t : Typed) (op : AssignOp) (v : Typed) → HasStart script.tokens t.at → HasStart script.tokens v.at → (takes_value t ≡ false → (m : Meaning) → Wrong script rules.NotAssignable t.at m) → At script (assigned classes t op v)
 unfolding assigned
-assigned_in script classes t op v h k = assigned_to_in script classes t op v (assignable t.form t.tree) h k
+assigned_in script classes t op v h k w = assigned_to_in script classes t op v (assignable t.form t.tree) h k refl w
 
 -- calls
 
@@ -276,23 +276,23 @@ pub element_unnamed : (env : Environment) (text : List ℕ) → option_and_then 
 unfolding object_named
 element_unnamed env text h = no_element (first_from (is_class text) 0 env.heads.classes) (first_from (is_interface_named text) 0 env.heads.interfaces) (find (host.takes_name text) env.registered) h
 
-element_by_in : (script : Script) (env : Environment) (at : ℕ) (text : List ℕ) (found : Option Element) → HasToken script.tokens (name text) at → IsOf script env → option_and_then element_by (type_named env text) ≡ found → Fine script (known_element at found)
-element_by_in script env at text None h see e = faulty (name text, h, refl, unknown_type script env at text see (element_unnamed env text e))
-element_by_in script env at text (Some x) h see e = fine tt
+element_by_in : (script : Script) (env : Environment) (at : ℕ) (text : List ℕ) (found : Option Element) → HasToken script.tokens (name text) at → option_and_then element_by (type_named env text) ≡ found → (type_named env text ≡ None → Wrong script rules.UnknownType at (name text)) → Fine script (known_element at found)
+element_by_in script env at text None h e w = faulty (name text, h, refl, w (element_unnamed env text e))
+element_by_in script env at text (Some x) h e w = fine tt
 
-known_element_in : (script : Script) (env : Environment) (of : written.Element) → ElementIn script.tokens of → IsOf script env → Fine script (known_element (at_element of) (element_named env.registered env.heads of))
+known_element_in : (script : Script) (env : Environment) (p : place.Place) (of : written.Element) (es : written.Exprs) → ElementIn script.tokens of → Reached script (reached.Expression env (written.NewArray p of es)) → Fine script (known_element (at_element of) (element_named env.registered env.heads of))
 unfolding element_named
-known_element_in script env (written.PrimElement p k) h see = fine tt
-known_element_in script env (written.HandleElement p text) h see = element_by_in script env p.at text (option_and_then element_by (type_named env text)) h see refl
+known_element_in script env p (written.PrimElement at k) es h r = fine tt
+known_element_in script env p (written.HandleElement at text) es h r = element_by_in script env at.at text (option_and_then element_by (type_named env text)) h refl (λ n. meaning.no_element_type r (unnamed script env text (sees r) n))
 
 array_in : (script : Script) (env : Environment) (p : place.Place) (of : written.Element) (es : written.Exprs) → HasToken script.tokens (reserved words.Array) p.at → ElementIn script.tokens of → Reached script (reached.Expression env (written.NewArray p of es)) → ListAt script (given es) (all_typed env es) → At script (array_typed env p.at of (all_typed env es))
-array_in script env p of es h e r k = bind (known_element_in script env of e (sees r)) (λ x u. bind k (λ ts all. called_with_in script env.heads.classes p.at (reserved words.Array) (array_built x (length ts)) ts (array_parameters (length ts)) h refl refl all.0 (λ b. meaning.array_count r (subst (λ n. nat_eq (length (array_parameters n)) n ≡ false) all.1 b))))
+array_in script env p of es h e r k = bind (known_element_in script env p of es e r) (λ x u. bind k (λ ts all. called_with_in script env.heads.classes p.at (reserved words.Array) (array_built x (length ts)) ts (array_parameters (length ts)) h refl refl all.0 (λ b. meaning.array_count r (subst (λ n. nat_eq (length (array_parameters n)) n ≡ false) all.1 b))))
 
-cast_type_in : (script : Script) (env : Environment) (at : ℕ) (text : List ℕ) (found : Option ObjectType) → HasToken script.tokens (name text) at → IsOf script env → type_named env text ≡ found → Fine script (cast_type at found)
-cast_type_in script env at text None h see e = faulty (name text, h, refl, unknown_type script env at text see e)
-cast_type_in script env at text (Some (objects.Class class)) h see e = fine tt
-cast_type_in script env at text (Some (objects.Interface interface)) h see e = fine tt
-cast_type_in script env at text (Some _) h see e = mismatch (name text, h, refl)
+cast_type_in : (script : Script) (env : Environment) (at : ℕ) (text : List ℕ) (found : Option ObjectType) → HasToken script.tokens (name text) at → (found ≡ None → Wrong script rules.UnknownType at (name text)) → Fine script (cast_type at found)
+cast_type_in script env at text None h w = faulty (name text, h, refl, w refl)
+cast_type_in script env at text (Some (objects.Class class)) h w = fine tt
+cast_type_in script env at text (Some (objects.Interface interface)) h w = fine tt
+cast_type_in script env at text (Some _) h w = mismatch (name text, h, refl)
 
 cast_in : (script : Script) (at : ℕ) (to : ObjectType) (t : Typed) → HasStart script.tokens at → HasStart script.tokens t.at → At script (cast_at at to t)
 unfolding cast_at
@@ -331,12 +331,12 @@ mutual
   typed_in script env left (written.Brackets p e) h r = bind (typed_in script env false e h.1 (reached.in_brackets r)) (λ t k. fine h.0)
   typed_in script env left (written.Convert p to e) h r = bind (typed_in script env false e h.1 (reached.converted r)) (λ t k. convert_in script p.at to t h.0 k)
   typed_in script env left (written.NewArray p of es) h r = array_in script env p of es h.0 h.1 r (all_in script env es h.2 (reached.array_arguments r))
-  typed_in script env left (written.Cast p to e) h r = bind (cast_type_in script env to.place.at to.name (type_named env to.name) h.1 (sees r) refl) (λ o u. bind (typed_in script env false e h.2 (reached.cast r)) (λ t k. cast_in script p.at o t h.0 k))
+  typed_in script env left (written.Cast p to e) h r = bind (cast_type_in script env to.place.at to.name (type_named env to.name) h.1 (λ n. meaning.no_cast_type r (unnamed script env to.name (sees r) n))) (λ o u. bind (typed_in script env false e h.2 (reached.cast r)) (λ t k. cast_in script p.at o t h.0 k))
   typed_in script env left (written.Postfix p e ss) h r = bind_by (typed_in script env false e h.1 (reached.before_suffixes r)) (λ t q k. suffixes_in script env t ss h.2 k (reached.suffixes r q))
-  typed_in script env left (written.Unary p op e) h r = bind (typed_in script env false e h.1 (reached.operand r)) (λ t k. unary_in script left p.at op t h.0 k)
+  typed_in script env left (written.Unary p op e) h r = bind_by (typed_in script env false e h.1 (reached.operand r)) (λ t q k. unary_in script left p.at op t h.0 k (λ c n m. meaning.no_place r c q n))
   typed_in script env left (written.Binary p e ls) h r = bind (typed_in script env false e h.1 (reached.first_operand r)) (λ t k. links_in script env t ls h.2 k (reached.links r))
   typed_in script env left (written.Conditional p c a b) h r = bind (typed_in script env false c h.1 (reached.condition r)) (λ t k. bind (typed_in script env false a h.2 (reached.chosen r)) (λ x l. bind (typed_in script env false b h.3 (reached.otherwise r)) (λ y m. choice_in script t x y k l m)))
-  typed_in script env left (written.Assign p e op v) h r = bind (typed_in script env (is_assign op) e h.1 (reached.target r)) (λ t k. bind (typed_in script env false v h.2 (reached.value r)) (λ u l. assigned_in script env.heads.classes t op u k l))
+  typed_in script env left (written.Assign p e op v) h r = bind_by (typed_in script env (is_assign op) e h.1 (reached.target r)) (λ t q k. bind (typed_in script env false v h.2 (reached.value r)) (λ u l. assigned_in script env.heads.classes t op u k l (λ b m. meaning.takes_none r q b)))
 
   pub all_in : (script : Script) (env : Environment) (es : written.Exprs) → ExprsIn script.tokens es → Reached script (reached.Arguments env es) → ListAt script (given es) (all_typed env es)
   all_in script env written.no_expr h r = fine (tt, refl)
@@ -354,5 +354,5 @@ mutual
   suffix_in script env t (written.Field p text) ss h k r = field_in script env t t.ty p text ss h k r refl
   suffix_in script env t (written.Method p text es) ss h k r = invocation_in script env t p text es ss h.0 k r (all_in script env es h.1 (reached.method_arguments r))
   suffix_in script env t (written.Index e) ss h k r = bind (typed_in script env false e h (reached.index r)) (λ i l. indexed_in script t t.ty i k l)
-  suffix_in script env t written.Increment ss h k r = counted_in script t.at steps.IncrementAfter t (assignable t.form t.tree) k k
-  suffix_in script env t written.Decrement ss h k r = counted_in script t.at steps.DecrementAfter t (assignable t.form t.tree) k k
+  suffix_in script env t written.Increment ss h k r = counted_in script t.at steps.IncrementAfter t (assignable t.form t.tree) k k (λ n m. meaning.no_place_before r refl n)
+  suffix_in script env t written.Decrement ss h k r = counted_in script t.at steps.DecrementAfter t (assignable t.form t.tree) k k (λ n m. meaning.no_place_before r refl n)

@@ -1,9 +1,9 @@
 -- The walk over the items of a module answers a fault at a token, where the rule is broken.
 use Rattle.std.proofs.Common.{◌≡◌, ℕ, ◌+◌, Bool, true, false, List, [], ◌∷◌, ◌++◌, Option, Some, None, Ok, length, nat_eq, inl, inr, refl, ap, subst}
-use Rattle.std.specs.Prelude.{◌||◌, is_some, nat_le}
+use Rattle.std.specs.Prelude.{◌||◌, is_some, option_map, nat_le}
 use Rattle.std.specs.List.{AllByRecursion, list_any}
 use Rattle.std.specs.Str.{bytes_eq}
-use Rattle.ash_lex.specs.Tokens.{name, reserved}
+use Rattle.ash_lex.specs.Tokens.{Meaning, name, reserved}
 use Rattle.ash_lex.specs.declared.words.ReservedWord.TheVariants as words
 use Rattle.ash_tree.specs.Tree as written
 use Rattle.ash_typed.specs.declared.types.ObjectType.{ObjectType}
@@ -21,9 +21,9 @@ use Rattle.ash_typing.proofs.FaultTokens.{HasToken, NamedIn, TypeNameIn, DeclIn,
 use Rattle.ash_typing.specs.Reached as reached
 use Rattle.ash_typing.specs.Reached.{Phrase}
 use Rattle.ash_typing.specs.FaultMeaning as meaning
-use Rattle.ash_typing.specs.FaultMeaning.{Naming, named_by, counted_by, is_declared}
+use Rattle.ash_typing.specs.FaultMeaning.{Naming, named_by, counted_by, is_declared, kept, passed, written_by}
 use Rattle.ash_typing.proofs.TakenNames.{neither}
-use Rattle.ash_typing.proofs.FaultAnswers.{Script, Reached, Wrong, Answers, fine, faulty, Fine, name_taken, bind, bind_by, either, IsOf, type_named, same_named, object_type}
+use Rattle.ash_typing.proofs.FaultAnswers.{Script, Reached, Wrong, Answers, fine, faulty, Fine, name_taken, bind, bind_by, either, IsOf, type_named, same_named, Miswritten, miswritten}
 use Rattle.ash_typing.proofs.FaultReached.{sees}
 use Rattle.ash_typing.proofs.FaultStatements.{IsNamedAt, IsWrittenAt, named_at, written_at, variables_ty_in, decl_in, stmts_in}
 
@@ -46,26 +46,26 @@ placed_in script names at text x h r e f = bind (untaken_in script names at text
 
 -- types
 
-passed_ty_in : (script : Script) (of : written.Named) (t : Ty) → IsNamedAt script t (at_type_name of) → IsWrittenAt script t (at_type of) → Fine script (passed_ty of t)
+passed_ty_in : (script : Script) (of : written.Named) (t : Ty) → IsNamedAt script t (at_type_name of) → IsWrittenAt script t (at_type of) → ((o : ObjectType) (m : Meaning) → t ≡ ty.Object o → Wrong script rules.Misplaced (at_type of) m) → Fine script (passed_ty of t)
 unfolding passed_ty
-passed_ty_in script of ty.Unknown n w = faulty (name n.0, n.1, refl, n.2)
-passed_ty_in script of (ty.Object (objects.Array e)) n (inl w) = faulty (reserved words.Array, w, refl, meaning.array_type)
-passed_ty_in script of (ty.Object (objects.Array e)) n (inr w) = faulty (name w.0, w.1, refl, w.2)
-passed_ty_in script of (ty.Object (objects.Class c)) n w = faulty (name w.0, w.1, refl, w.2)
-passed_ty_in script of (ty.Object (objects.Interface i)) n w = faulty (name w.0, w.1, refl, w.2)
-passed_ty_in script of (ty.Object (objects.Host kind)) n w = faulty (name w.0, w.1, refl, w.2)
-passed_ty_in script of ty.Void n w = fine tt
-passed_ty_in script of ty.Bool n w = fine tt
-passed_ty_in script of (ty.Integer k) n w = fine tt
-passed_ty_in script of (ty.Handle o) n w = fine tt
-passed_ty_in script of ty.Null n w = fine tt
+passed_ty_in script of ty.Unknown n w m = faulty (name n.0, n.1, refl, n.2)
+passed_ty_in script of (ty.Object (objects.Array e)) n (inl w) m = faulty (reserved words.Array, w, refl, m (objects.Array e) (reserved words.Array) refl)
+passed_ty_in script of (ty.Object (objects.Array e)) n (inr w) m = faulty (name w.0, w.1, refl, m (objects.Array e) (name w.0) refl)
+passed_ty_in script of (ty.Object (objects.Class c)) n w m = faulty (name w.0, w.1, refl, m (objects.Class c) (name w.0) refl)
+passed_ty_in script of (ty.Object (objects.Interface i)) n w m = faulty (name w.0, w.1, refl, m (objects.Interface i) (name w.0) refl)
+passed_ty_in script of (ty.Object (objects.Host kind)) n w m = faulty (name w.0, w.1, refl, m (objects.Host kind) (name w.0) refl)
+passed_ty_in script of ty.Void n w m = fine tt
+passed_ty_in script of ty.Bool n w m = fine tt
+passed_ty_in script of (ty.Integer k) n w m = fine tt
+passed_ty_in script of (ty.Handle o) n w m = fine tt
+passed_ty_in script of ty.Null n w m = fine tt
 
-passed_in : (script : Script) (env : Environment) (of : written.Named) → NamedIn script.tokens of → IsOf script env → Fine script (passed_ty of (ty_in env of))
-passed_in script env of h see = passed_ty_in script of (ty_in env of) (named_at script env of h see) (written_at script env of h see)
+passed_in : (script : Script) (env : Environment) (of : written.Named) → NamedIn script.tokens of → Miswritten script env (passed of) → Fine script (passed_ty of (ty_in env of))
+passed_in script env of h w = passed_ty_in script of (ty_in env of) (named_at script env of h w.unknown) (written_at script env of h) (λ o m e. w.misplaced o m e refl)
 
-result_in : (script : Script) (env : Environment) (of : Option written.Named) → ResultIn script.tokens of → IsOf script env → Fine script (result_typed env of)
-result_in script env None h see = fine tt
-result_in script env (Some of) h see = passed_in script env of h see
+result_in : (script : Script) (env : Environment) (x : Phrase) (of : Option written.Named) → ResultIn script.tokens of → IsOf script env → Reached script x → written_by x ≡ option_map passed of → Fine script (result_typed env of)
+result_in script env x None h see r e = fine tt
+result_in script env x (Some of) h see r e = passed_in script env of h (miswritten script env x (passed of) see r e)
 
 -- variables
 
@@ -74,15 +74,15 @@ decls_in script env at of row [] w h r = fine tt
 decls_in script env at of row (d ∷ ds) w h r = bind_by (placed_in script row.names d.place.at d.name (reached.Variables env at of row (d ∷ ds)) (h.0).0 r refl refl) (λ names e u. bind_by (decl_in script env at of d w h.0 (reached.variable r)) (λ value f v. decls_in script env at of (record { names = names; variables = with_variable row.variables value }) ds w h.1 (reached.other_variables r e f)))
 
 -- where the variables of a type that is known are reached
-vars_in : (script : Script) (env : Environment) (names : Names) (v : written.Vars) → VarsIn script.tokens v → IsOf script env → ((of : Ty) → known_ty v.of (ty_in env v.of) ≡ Ok of → Reached script (reached.Variables env (at_type v.of) of (record { names = names; variables = no_variables v.of }) v.decls)) → Fine script (vars_typed env names v)
+vars_in : (script : Script) (env : Environment) (names : Names) (v : written.Vars) → VarsIn script.tokens v → Miswritten script env (kept v.of) → ((of : Ty) → known_ty v.of (ty_in env v.of) ≡ Ok of → Reached script (reached.Variables env (at_type v.of) of (record { names = names; variables = no_variables v.of }) v.decls)) → Fine script (vars_typed env names v)
 unfolding vars_typed
-vars_in script env names v h see r = bind_by (variables_ty_in script env v.of h.0 see) (λ of e w. decls_in script env (at_type v.of) of (record { names = names; variables = no_variables v.of }) v.decls w h.1 (r of e))
+vars_in script env names v h w r = bind_by (variables_ty_in script env v.of h.0 w) (λ of e at. decls_in script env (at_type v.of) of (record { names = names; variables = no_variables v.of }) v.decls at h.1 (r of e))
 
 -- functions
 
 parameters_in : (script : Script) (env : Environment) (before : List Declared) (ps : List written.Parameter) → AllByRecursion (ParameterIn script.tokens) ps → Reached script (reached.Parameters env before ps) → Fine script (parameters_typed env before ps)
 parameters_in script env before [] h r = fine tt
-parameters_in script env before (p ∷ ps) h r = bind_by (passed_in script env p.of (h.0).0 (sees r)) (λ of e u. either (list_any (declares p.name) before) (λ b. name_taken (the_name p.place.at p.name (list_any (declares p.name) before)) r refl (h.0).1 b) (λ b. parameters_in script env (before ++ record { name = p.name; of = of } ∷ []) ps h.1 (reached.other_parameters r e)))
+parameters_in script env before (p ∷ ps) h r = bind_by (passed_in script env p.of (h.0).0 (miswritten script env (reached.Parameters env before (p ∷ ps)) (passed p.of) (sees r) r refl)) (λ of e u. either (list_any (declares p.name) before) (λ b. name_taken (the_name p.place.at p.name (list_any (declares p.name) before)) r refl (h.0).1 b) (λ b. parameters_in script env (before ++ record { name = p.name; of = of } ∷ []) ps h.1 (reached.other_parameters r e)))
 
 body_in : (script : Script) (env : Environment) (of : Ty) (body : List written.Stmt) → StmtsIn script.tokens (written.stmts body) → Reached script (reached.Statements (body_scope env of) (written.stmts body)) → Fine script (body_typed env of body)
 unfolding body_typed
@@ -100,7 +100,7 @@ routine_in script env of c h r = bind_by (parameters_in script env [] c.paramete
 
 signature_in : (script : Script) (env : Environment) (ss : Signatures) (m : written.InterfaceMethod) (ms : List written.InterfaceMethod) → InterfaceMethodIn script.tokens m → Reached script (reached.Methods env ss (m ∷ ms)) → Fine script (signature_typed env ss m)
 unfolding signature_typed
-signature_in script env ss m ms h r = bind (result_in script env m.result h.0 (sees r)) (λ of u. bind (placed_in script ss.names m.place.at m.name (reached.Methods env ss (m ∷ ms)) h.1 r refl refl) (λ names v. bind (parameters_in script env [] m.parameters h.2 (reached.method_parameters r)) (λ parameters w. fine tt)))
+signature_in script env ss m ms h r = bind (result_in script env (reached.Methods env ss (m ∷ ms)) m.result h.0 (sees r) r refl) (λ of u. bind (placed_in script ss.names m.place.at m.name (reached.Methods env ss (m ∷ ms)) h.1 r refl refl) (λ names v. bind (parameters_in script env [] m.parameters h.2 (reached.method_parameters r)) (λ parameters w. fine tt)))
 
 signatures_in : (script : Script) (env : Environment) (ss : Signatures) (ms : List written.InterfaceMethod) → AllByRecursion (InterfaceMethodIn script.tokens) ms → Reached script (reached.Methods env ss ms) → Fine script (signatures_typed env ss ms)
 signatures_in script env ss [] h r = fine tt
@@ -121,7 +121,7 @@ not_listed script env class listed n ns r b = meaning.no_interface r (subst (λ 
 
 listed_at_in : (script : Script) (env : Environment) (class : ℕ) (listed : Listed) (n : written.TypeName) (ns : List written.TypeName) (found : Option ObjectType) → HasToken script.tokens (name n.name) n.place.at → AtListed script env class listed n ns → type_named env n.name ≡ found → Fine script (listed_at n.place.at found)
 listed_at_in script env class listed n ns (Some (objects.Interface place)) h r e = fine tt
-listed_at_in script env class listed n ns (Some (objects.Class place)) h r e = faulty (name n.name, h, refl, object_type script env n.place.at n.name (objects.Class place) (sees r) e)
+listed_at_in script env class listed n ns (Some (objects.Class place)) h r e = faulty (name n.name, h, refl, meaning.listed_class r (subst (λ found. found ≡ Some (objects.Class place)) (same_named script env n.name (sees r)) e))
 listed_at_in script env class listed n ns (Some (objects.Host kind)) h r e = faulty (name n.name, h, refl, not_listed script env class listed n ns r (ap is_declared e))
 listed_at_in script env class listed n ns (Some (objects.Array of)) h r e = faulty (name n.name, h, refl, not_listed script env class listed n ns r (ap is_declared e))
 listed_at_in script env class listed n ns None h r e = faulty (name n.name, h, refl, not_listed script env class listed n ns r (ap is_declared e))
@@ -151,8 +151,8 @@ named_in script env ms c rest h r = either (is_some ms.class.constructor)
 
 member_in : (script : Script) (env : Environment) (ms : Members) (m : written.Member) (rest : List written.Member) → MemberIn script.tokens m → AtMember script env ms m rest → Fine script (member_typed env ms m)
 unfolding member_typed
-member_in script env ms (written.AField v) rest h r = bind (vars_in script env ms.names v h (sees r) (λ of e. reached.fields r e)) (λ row u. fine tt)
-member_in script env ms (written.AMethod f) rest h r = bind_by (result_in script env f.result h.0 (sees r)) (λ of e u. bind (placed_in script ms.names f.place.at f.name (reached.ClassMembers env ms (written.AMethod f ∷ rest)) (h.1).0 r refl refl) (λ names v. bind (routine_in script env of (routine_of f) h.1 (reached.method r e)) (λ t w. fine tt)))
+member_in script env ms (written.AField v) rest h r = bind (vars_in script env ms.names v h (miswritten script env (reached.ClassMembers env ms (written.AField v ∷ rest)) (kept v.of) (sees r) r refl) (λ of e. reached.fields r e)) (λ row u. fine tt)
+member_in script env ms (written.AMethod f) rest h r = bind_by (result_in script env (reached.ClassMembers env ms (written.AMethod f ∷ rest)) f.result h.0 (sees r) r refl) (λ of e u. bind (placed_in script ms.names f.place.at f.name (reached.ClassMembers env ms (written.AMethod f ∷ rest)) (h.1).0 r refl refl) (λ names v. bind (routine_in script env of (routine_of f) h.1 (reached.method r e)) (λ t w. fine tt)))
 member_in script env ms (written.AConstructor c) rest h r = bind_by (named_in script env ms c rest h r) (λ named e k. bind (routine_in script env ty.Void named k (reached.constructor r e)) (λ t u. fine tt))
 
 members_in : (script : Script) (env : Environment) (ms : Members) (rest : List written.Member) → AllByRecursion (MemberIn script.tokens) rest → Reached script (reached.ClassMembers env ms rest) → Fine script (members_typed env ms rest)
@@ -177,8 +177,8 @@ item_in script env w (written.AClass c) is h r =
 item_in script env w (written.AnInterface i) is h r =
     let x = reached.Items env w (written.AnInterface i ∷ is) in
     bind (untaken_in script w.names i.place.at i.name x h.0 r refl) (λ names u. bind (room_in script i.place.at i.name x w.typed h.0 r refl) (λ classes v. bind (interface_in script env classes i h (reached.methods r)) (λ t y. fine tt)))
-item_in script env w (written.AFunction f) is h r = bind_by (result_in script env f.result h.0 (sees r)) (λ of e u. bind (untaken_in script w.names f.place.at f.name (reached.Items env w (written.AFunction f ∷ is)) (h.1).0 r refl) (λ names v. bind (routine_in script env of (routine_of f) h.1 (reached.function r e)) (λ t x. fine tt)))
-item_in script env w (written.AGlobal v) is h r = bind (vars_in script env w.names v h (sees r) (λ of e. reached.globals r e)) (λ row u. fine tt)
+item_in script env w (written.AFunction f) is h r = bind_by (result_in script env (reached.Items env w (written.AFunction f ∷ is)) f.result h.0 (sees r) r refl) (λ of e u. bind (untaken_in script w.names f.place.at f.name (reached.Items env w (written.AFunction f ∷ is)) (h.1).0 r refl) (λ names v. bind (routine_in script env of (routine_of f) h.1 (reached.function r e)) (λ t x. fine tt)))
+item_in script env w (written.AGlobal v) is h r = bind (vars_in script env w.names v h (miswritten script env (reached.Items env w (written.AGlobal v ∷ is)) (kept v.of) (sees r) r refl) (λ of e. reached.globals r e)) (λ row u. fine tt)
 
 items_in : (script : Script) (env : Environment) (w : Walked) (is : List written.Item) → AllByRecursion (ItemIn script.tokens) is → Reached script (reached.Items env w is) → Fine script (items_typed env w is)
 items_in script env w [] h r = fine tt

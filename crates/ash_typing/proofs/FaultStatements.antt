@@ -17,7 +17,6 @@ use Rattle.ash_typed.specs.declared.types.Kind.{Kind}
 use Rattle.ash_typed.specs.declared.types.Element.{Element}
 use Rattle.ash_typed.specs.declared.types.ObjectType.{ObjectType}
 use Rattle.ash_typed.specs.declared.types.ObjectType.TheVariants as objects
-use Rattle.ash_typing.specs.declared.fault.Rule.{Rule}
 use Rattle.ash_typing.specs.declared.fault.Rule.TheVariants as rules
 use Rattle.ash_typing.specs.declared.types.Ty.{Ty}
 use Rattle.ash_typing.specs.declared.types.Ty.TheVariants as ty
@@ -34,26 +33,26 @@ use Rattle.ash_typing.specs.FaultPlaces.{begins_constant}
 use Rattle.ash_typing.proofs.FaultTokens.{HasToken, HasStart, ElementIn, NamedIn, MaybeIn, InitializerIn, DeclIn, VarsIn, IsHeadForm, LabelIn, StmtIn, StmtsIn, CasesIn}
 use Rattle.ash_typing.specs.Reached as reached
 use Rattle.ash_typing.specs.FaultMeaning as meaning
-use Rattle.ash_typing.specs.FaultMeaning.{given, given_first, is_constructible}
-use Rattle.ash_typing.proofs.FaultAnswers.{Script, Reached, Wrong, Answers, fine, faulty, Fine, At, name_taken, bind, bind_by, either, IsOf, type_named, unknown_type, object_type}
+use Rattle.ash_typing.specs.FaultMeaning.{given, given_first, is_constructible, kept}
+use Rattle.ash_typing.proofs.FaultAnswers.{Script, Reached, Wrong, Answers, fine, faulty, Fine, At, name_taken, bind, bind_by, either, type_named, Miswritten, miswritten}
 use Rattle.ash_typing.proofs.FaultReached.{sees}
 use Rattle.ash_typing.proofs.FaultExpressions.{AllAt, ListAt, Miscounts, element_unnamed, fitted_in, integer_in, bool_in, called_with_in, called_in, typed_in, all_in}
 
 -- types
 
--- a name of the script is here, which breaks a rule
-abbrev pub IsNameAt : Script → Rule → ℕ → Type 0
-IsNameAt script rule at = (text : List ℕ) × HasToken script.tokens (name text) at × Wrong script rule at (name text)
+-- a name of the script is here
+abbrev pub IsNameAt : Script → ℕ → Type 0
+IsNameAt script at = (text : List ℕ) × HasToken script.tokens (name text) at
 
 -- an unknown type has its name here
 abbrev pub IsNamedAt : Script → Ty → ℕ → Type 0
-IsNamedAt script ty.Unknown at = IsNameAt script rules.UnknownType at
+IsNamedAt script ty.Unknown at = (text : List ℕ) × HasToken script.tokens (name text) at × Wrong script rules.UnknownType at (name text)
 IsNamedAt script _ at = Unit {0}
 
 -- a type of objects is written here: at its name, or at the word `array`
 abbrev pub IsWrittenAt : Script → Ty → ℕ → Type 0
-IsWrittenAt script (ty.Object (objects.Array e)) at = HasToken script.tokens (reserved words.Array) at ⊎ IsNameAt script rules.Misplaced at
-IsWrittenAt script (ty.Object o) at = IsNameAt script rules.Misplaced at
+IsWrittenAt script (ty.Object (objects.Array e)) at = HasToken script.tokens (reserved words.Array) at ⊎ IsNameAt script at
+IsWrittenAt script (ty.Object o) at = IsNameAt script at
 IsWrittenAt script _ at = Unit {0}
 
 primitive_named : (script : Script) (k : Primitive) (at : ℕ) → IsNamedAt script (ty_of k) at
@@ -76,27 +75,31 @@ no_array None h = refl
 no_array (Some e) h = absurd (cc)
 
 -- the type of elements of an array is unknown
-unknown_element : (script : Script) (env : Environment) (at : ℕ) (text : List ℕ) → IsOf script env → option_map objects.Array (option_and_then element_by (type_named env text)) ≡ None → Wrong script rules.UnknownType at (name text)
-unknown_element script env at text see h = unknown_type script env at text see (element_unnamed env text (no_array (option_and_then element_by (type_named env text)) h))
+unknown_element : (env : Environment) (text : List ℕ) → option_map objects.Array (option_and_then element_by (type_named env text)) ≡ None → type_named env text ≡ None
+unknown_element env text h = element_unnamed env text (no_array (option_and_then element_by (type_named env text)) h)
 
-array_named_at : (script : Script) (env : Environment) (of : written.Element) → ElementIn script.tokens of → IsOf script env → IsNamedAt script (object_ty (array_named env.registered env.heads of)) (at_element of)
-unfolding element_named
-array_named_at script env (written.PrimElement p k) h see = tt
-array_named_at script env (written.HandleElement p text) h see = object_named_at script (array_named env.registered env.heads (written.HandleElement p text)) p.at text h (unknown_element script env p.at text see)
+-- what is wrong where no type has the name
+abbrev pub Unnamed : Script → Environment → ℕ → Type 0
+Unnamed script env at = (text : List ℕ) → type_named env text ≡ None → Wrong script rules.UnknownType at (name text)
 
-array_handle_named_at : (script : Script) (env : Environment) (of : written.Element) → ElementIn script.tokens of → IsOf script env → IsNamedAt script (handle_ty (array_named env.registered env.heads of)) (at_element of)
+array_named_at : (script : Script) (env : Environment) (of : written.Element) → ElementIn script.tokens of → Unnamed script env (at_element of) → IsNamedAt script (object_ty (array_named env.registered env.heads of)) (at_element of)
 unfolding element_named
-array_handle_named_at script env (written.PrimElement p k) h see = tt
-array_handle_named_at script env (written.HandleElement p text) h see = handle_named_at script (array_named env.registered env.heads (written.HandleElement p text)) p.at text h (unknown_element script env p.at text see)
+array_named_at script env (written.PrimElement p k) h w = tt
+array_named_at script env (written.HandleElement p text) h w = object_named_at script (array_named env.registered env.heads (written.HandleElement p text)) p.at text h (λ n. w text (unknown_element env text n))
+
+array_handle_named_at : (script : Script) (env : Environment) (of : written.Element) → ElementIn script.tokens of → Unnamed script env (at_element of) → IsNamedAt script (handle_ty (array_named env.registered env.heads of)) (at_element of)
+unfolding element_named
+array_handle_named_at script env (written.PrimElement p k) h w = tt
+array_handle_named_at script env (written.HandleElement p text) h w = handle_named_at script (array_named env.registered env.heads (written.HandleElement p text)) p.at text h (λ n. w text (unknown_element env text n))
 
 -- the name of a type that is written
-pub named_at : (script : Script) (env : Environment) (of : written.Named) → NamedIn script.tokens of → IsOf script env → IsNamedAt script (ty_in env of) (at_type_name of)
+pub named_at : (script : Script) (env : Environment) (of : written.Named) → NamedIn script.tokens of → Unnamed script env (at_type_name of) → IsNamedAt script (ty_in env of) (at_type_name of)
 unfolding ty_named
-named_at script env (written.Prim p k) h see = primitive_named script k p.at
-named_at script env (written.Object p text) h see = object_named_at script (type_named env text) p.at text h (unknown_type script env p.at text see)
-named_at script env (written.Handle p text) h see = handle_named_at script (type_named env text) p.at text h (unknown_type script env p.at text see)
-named_at script env (written.Array p of) h see = array_named_at script env of h.1 see
-named_at script env (written.ArrayHandle p of) h see = array_handle_named_at script env of h.1 see
+named_at script env (written.Prim p k) h w = primitive_named script k p.at
+named_at script env (written.Object p text) h w = object_named_at script (type_named env text) p.at text h (w text)
+named_at script env (written.Handle p text) h w = handle_named_at script (type_named env text) p.at text h (w text)
+named_at script env (written.Array p of) h w = array_named_at script env of h.1 w
+named_at script env (written.ArrayHandle p of) h w = array_handle_named_at script env of h.1 w
 
 primitive_written : (script : Script) (k : Primitive) (at : ℕ) → IsWrittenAt script (ty_of k) at
 primitive_written script primitives.Bool at = tt
@@ -105,12 +108,12 @@ primitive_written script primitives.Int64 at = tt
 primitive_written script primitives.Uint at = tt
 primitive_written script primitives.Uint64 at = tt
 
-object_written : (script : Script) (found : Option ObjectType) (at : ℕ) (text : List ℕ) → HasToken script.tokens (name text) at → ((o : ObjectType) → found ≡ Some o → Wrong script rules.Misplaced at (name text)) → IsWrittenAt script (object_ty found) at
-object_written script None at text h w = tt
-object_written script (Some (objects.Class class)) at text h w = (text, h, w (objects.Class class) refl)
-object_written script (Some (objects.Interface interface)) at text h w = (text, h, w (objects.Interface interface) refl)
-object_written script (Some (objects.Host kind)) at text h w = (text, h, w (objects.Host kind) refl)
-object_written script (Some (objects.Array e)) at text h w = inr (text, h, w (objects.Array e) refl)
+object_written : (script : Script) (found : Option ObjectType) (at : ℕ) → IsNameAt script at → IsWrittenAt script (object_ty found) at
+object_written script None at h = tt
+object_written script (Some (objects.Class class)) at h = h
+object_written script (Some (objects.Interface interface)) at h = h
+object_written script (Some (objects.Host kind)) at h = h
+object_written script (Some (objects.Array e)) at h = inr h
 
 handle_written : (script : Script) (found : Option ObjectType) (at : ℕ) → IsWrittenAt script (handle_ty found) at
 handle_written script None at = tt
@@ -121,31 +124,31 @@ array_written script None at h = tt
 array_written script (Some e) at h = inl h
 
 -- where a type is written
-pub written_at : (script : Script) (env : Environment) (of : written.Named) → NamedIn script.tokens of → IsOf script env → IsWrittenAt script (ty_in env of) (at_type of)
+pub written_at : (script : Script) (env : Environment) (of : written.Named) → NamedIn script.tokens of → IsWrittenAt script (ty_in env of) (at_type of)
 unfolding ty_named
-written_at script env (written.Prim p k) h see = primitive_written script k p.at
-written_at script env (written.Object p text) h see = object_written script (type_named env text) p.at text h (λ o e. object_type script env p.at text o see e)
-written_at script env (written.Handle p text) h see = handle_written script (type_named env text) p.at
-written_at script env (written.Array p of) h see = array_written script (element_named env.registered env.heads of) p.at h.0
-written_at script env (written.ArrayHandle p of) h see = handle_written script (array_named env.registered env.heads of) p.at
+written_at script env (written.Prim p k) h = primitive_written script k p.at
+written_at script env (written.Object p text) h = object_written script (type_named env text) p.at (text, h)
+written_at script env (written.Handle p text) h = handle_written script (type_named env text) p.at
+written_at script env (written.Array p of) h = array_written script (element_named env.registered env.heads of) p.at h.0
+written_at script env (written.ArrayHandle p of) h = handle_written script (array_named env.registered env.heads of) p.at
 
 -- a known type, written where it was
-known_ty_in : (script : Script) (of : written.Named) (t : Ty) → IsNamedAt script t (at_type_name of) → IsWrittenAt script t (at_type of) → Answers script (λ (t : Ty). IsWrittenAt script t (at_type of)) (known_ty of t)
+known_ty_in : (script : Script) (of : written.Named) (t : Ty) → IsNamedAt script t (at_type_name of) → IsWrittenAt script t (at_type of) → ((i : ℕ) (m : Meaning) → t ≡ ty.Object (objects.Interface i) → Wrong script rules.Misplaced (at_type of) m) → Answers script (λ (t : Ty). IsWrittenAt script t (at_type of)) (known_ty of t)
 unfolding known_ty
-known_ty_in script of ty.Unknown n w = faulty (name n.0, n.1, refl, n.2)
-known_ty_in script of (ty.Object (objects.Interface i)) n w = faulty (name w.0, w.1, refl, w.2)
-known_ty_in script of (ty.Object (objects.Class c)) n w = fine w
-known_ty_in script of (ty.Object (objects.Host kind)) n w = fine w
-known_ty_in script of (ty.Object (objects.Array e)) n w = fine w
-known_ty_in script of ty.Void n w = fine w
-known_ty_in script of ty.Bool n w = fine w
-known_ty_in script of (ty.Integer k) n w = fine w
-known_ty_in script of (ty.Handle o) n w = fine w
-known_ty_in script of ty.Null n w = fine w
+known_ty_in script of ty.Unknown n w m = faulty (name n.0, n.1, refl, n.2)
+known_ty_in script of (ty.Object (objects.Interface i)) n w m = faulty (name w.0, w.1, refl, m i (name w.0) refl)
+known_ty_in script of (ty.Object (objects.Class c)) n w m = fine w
+known_ty_in script of (ty.Object (objects.Host kind)) n w m = fine w
+known_ty_in script of (ty.Object (objects.Array e)) n w m = fine w
+known_ty_in script of ty.Void n w m = fine w
+known_ty_in script of ty.Bool n w m = fine w
+known_ty_in script of (ty.Integer k) n w m = fine w
+known_ty_in script of (ty.Handle o) n w m = fine w
+known_ty_in script of ty.Null n w m = fine w
 
 -- the type of variables
-pub variables_ty_in : (script : Script) (env : Environment) (of : written.Named) → NamedIn script.tokens of → IsOf script env → Answers script (λ (t : Ty). IsWrittenAt script t (at_type of)) (known_ty of (ty_in env of))
-variables_ty_in script env of h see = known_ty_in script of (ty_in env of) (named_at script env of h see) (written_at script env of h see)
+pub variables_ty_in : (script : Script) (env : Environment) (of : written.Named) → NamedIn script.tokens of → Miswritten script env (kept of) → Answers script (λ (t : Ty). IsWrittenAt script t (at_type of)) (known_ty of (ty_in env of))
+variables_ty_in script env of h w = known_ty_in script of (ty_in env of) (named_at script env of h w.unknown) (written_at script env of h) (λ i m e. w.misplaced (objects.Interface i) m e refl)
 
 -- variables
 
@@ -163,13 +166,13 @@ misbuilds script env of_at at o i count r c = record {
 miscounts : (script : Script) (at : ℕ) (m : Meaning) (callee : Callee) (count : ℕ) → Misbuilds script at (Some callee) count → Miscounts script at m callee.parameters count
 miscounts script at m callee count w = record { none = λ e. w.none m (ap is_some e); other = λ parameters q b. w.other m callee parameters refl q b }
 
-constructed_in : (script : Script) (classes : List Class) (at : ℕ) (ts : List Typed) (found : Option Callee) → IsNameAt script rules.Misplaced at → AllAt script.tokens ts → Misbuilds script at found (length ts) → Fine script (constructed classes at ts found)
+constructed_in : (script : Script) (classes : List Class) (at : ℕ) (ts : List Typed) (found : Option Callee) → IsNameAt script at → AllAt script.tokens ts → Misbuilds script at found (length ts) → Fine script (constructed classes at ts found)
 unfolding constructed
 constructed_in script classes at ts None h k w = faulty (name h.0, h.1, refl, w.none (name h.0) refl)
 constructed_in script classes at ts (Some callee) h k w = bind (called_in script classes at h.0 callee ts callee.parameters h.1 k (miscounts script at (name h.0) callee (length ts) w)) (λ t u. fine tt)
 
 -- an array, which is constructed at its word or at a name
-array_in : (script : Script) (classes : List Class) (at : ℕ) (ts : List Typed) (e : Element) (count : ℕ) → HasToken script.tokens (reserved words.Array) at ⊎ IsNameAt script rules.Misplaced at → AllAt script.tokens ts → Misbuilds script at (Some (array_built e count)) (length ts) → Fine script (constructed classes at ts (Some (array_built e count)))
+array_in : (script : Script) (classes : List Class) (at : ℕ) (ts : List Typed) (e : Element) (count : ℕ) → HasToken script.tokens (reserved words.Array) at ⊎ IsNameAt script at → AllAt script.tokens ts → Misbuilds script at (Some (array_built e count)) (length ts) → Fine script (constructed classes at ts (Some (array_built e count)))
 unfolding constructed
 array_in script classes at ts e count (inl h) k w = bind (called_with_in script classes at (reserved words.Array) (array_built e count) ts (array_parameters count) h refl refl k (w.other (reserved words.Array) (array_built e count) (array_parameters count) refl refl)) (λ t u. fine tt)
 array_in script classes at ts e count (inr h) k w = constructed_in script classes at ts (Some (array_built e count)) h k w
@@ -189,10 +192,10 @@ begun_in script env of_at at _ h r = fine tt
 stored_first_in : (script : Script) (classes : List Class) (of : Ty) (t : Typed) → HasStart script.tokens t.at → Fine script (stored_first classes of t)
 stored_first_in script classes of t h = bind (fitted_in script classes of t h) (λ e u. fine tt)
 
-begun_with_in : (script : Script) (classes : List Class) (at : ℕ) (text : List ℕ) (of : Ty) (t : Typed) → HasToken script.tokens (name text) at → HasStart script.tokens t.at → Fine script (begun_with classes at of t)
+begun_with_in : (script : Script) (classes : List Class) (at : ℕ) (text : List ℕ) (of : Ty) (t : Typed) → HasToken script.tokens (name text) at → HasStart script.tokens t.at → ((o : ObjectType) → of ≡ ty.Object o → Wrong script rules.NotAssignable at (name text)) → Fine script (begun_with classes at of t)
 unfolding begun_with
-begun_with_in script classes at text (ty.Object o) t h k = faulty (name text, h, refl, meaning.not_assignable)
-begun_with_in script classes at text of t h k = stored_first_in script classes of t k
+begun_with_in script classes at text (ty.Object o) t h k w = faulty (name text, h, refl, w o refl)
+begun_with_in script classes at text of t h k w = stored_first_in script classes of t k
 
 begun_by_one_in : (script : Script) (classes : List Class) (at : ℕ) (text : List ℕ) (of : Ty) (ts : List Typed) → HasToken script.tokens (name text) at → AllAt script.tokens ts → Fine script (begun_by_one classes at of ts)
 unfolding begun_by_one
@@ -209,7 +212,7 @@ begun_by_in script env of_at at text of es ts w h k c r = begun_by_one_in script
 initialized_in : (script : Script) (env : Environment) (of_at at : ℕ) (text : List ℕ) (of : Ty) (i : written.Initializer) → IsWrittenAt script of of_at → HasToken script.tokens (name text) at → InitializerIn script.tokens i → Reached script (reached.Initializer env of_at at of i) → Fine script (initialized env of_at at of i)
 unfolding initialized
 initialized_in script env of_at at text of written.Default w h k r = begun_in script env of_at at of w r
-initialized_in script env of_at at text of (written.Value e) w h k r = bind (typed_in script env false e k (reached.initial_value r)) (λ t l. begun_with_in script env.heads.classes at text of t h l)
+initialized_in script env of_at at text of (written.Value e) w h k r = bind (typed_in script env false e k (reached.initial_value r)) (λ t l. begun_with_in script env.heads.classes at text of t h l (λ o q. meaning.object_assigned (subst (λ u. Reached script (reached.Initializer env of_at at u (written.Value e))) q r)))
 initialized_in script env of_at at text of (written.Arguments es) w h k r = bind (all_in script env (written.exprs es) k (reached.initial_arguments r)) (λ ts l. begun_by_in script env of_at at text of es ts w h l.0 l.1 r)
 
 pub decl_in : (script : Script) (env : Environment) (at : ℕ) (of : Ty) (d : written.Decl) → IsWrittenAt script of at → DeclIn script.tokens d → Reached script (reached.Initializer env at d.place.at of d.initializer) → Fine script (decl_typed env at of d)
@@ -226,7 +229,7 @@ decls_in script scope at of (d ∷ ds) w h r = bind_by (fresh_in script scope at
 
 vars_in : (script : Script) (scope : Scope) (p : place.Place) (v : written.Vars) → VarsIn script.tokens v → Reached script (reached.Statement scope (written.Declare p v)) → Fine script (vars_typed scope v)
 unfolding vars_typed
-vars_in script scope p v h r = bind_by (variables_ty_in script scope.env v.of h.0 (sees r)) (λ of e w. decls_in script scope (at_type v.of) of v.decls w h.1 (reached.locals r e))
+vars_in script scope p v h r = bind_by (variables_ty_in script scope.env v.of h.0 (miswritten script scope.env (reached.Statement scope (written.Declare p v)) (kept v.of) (sees r) r refl)) (λ of e w. decls_in script scope (at_type v.of) of v.decls w h.1 (reached.locals r e))
 
 -- statements, once their parts are walked
 

@@ -1,7 +1,7 @@
--- What is wrong where the fault of a module is told, for each rule that one sentence says. A phrase that breaks the rule
--- stands there, with what it sees. `TypeMismatch` and `NotAssignable` are told at a token of their kind, and no more is
--- said of them here: what they compare are the types of two phrases.
-use Rattle.std.specs.Prelude.{◌≡◌, ℕ, ◌+◌, Bool, true, false, ◌||◌, List, [], ◌∷◌, Option, Some, None, length, nat_eq, nat_le}
+-- What is wrong where the fault of a module is told, for each rule that one sentence says: a phrase that breaks the rule
+-- stands there, with what it sees. Of a `TypeMismatch` no more is said than at which tokens it may be: which two types do
+-- not fit differs from phrase to phrase.
+use Rattle.std.specs.Prelude.{◌≡◌, ℕ, ◌+◌, Bool, true, false, ◌&&◌, ◌||◌, List, [], ◌∷◌, Option, Some, None, Ok, option_map, length, nat_eq, nat_le}
 use Rattle.std.specs.List.{Any, list_any}
 use Rattle.std.specs.Option.{is_some}
 use Rattle.std.specs.Str.{bytes_eq}
@@ -11,6 +11,9 @@ use Rattle.ash_registrations.specs.Calls.{Call}
 use Rattle.ash_tree.specs.Tree as written
 use Rattle.ash_tree.specs.Tokens.{Tokens}
 use Rattle.ash_tree.specs.declared.tree.places.Place.{Place}
+use Rattle.ash_tree.specs.declared.tree.operators.UnaryOp.{UnaryOp}
+use Rattle.ash_tree.specs.declared.tree.operators.UnaryOp.TheVariants as unary
+use Rattle.ash_tree.specs.declared.tree.operators.AssignOp.{AssignOp}
 use Rattle.ash_tree.specs.declared.tree.statements.Label.{Label}
 use Rattle.ash_tree.specs.declared.tree.statements.Label.TheVariants as labels
 use Rattle.ash_typed.specs.declared.types.Kind.{Kind}
@@ -21,11 +24,11 @@ use Rattle.ash_typing.specs.declared.fault.Rule.TheVariants as rules
 use Rattle.ash_typing.specs.declared.fault.Fault.{Fault}
 use Rattle.ash_typing.specs.declared.types.Ty.{Ty}
 use Rattle.ash_typing.specs.declared.types.Ty.TheVariants as ty
-use Rattle.ash_typing.specs.Types.{object_of}
+use Rattle.ash_typing.specs.Types.{is_interface, object_of}
 use Rattle.ash_typing.specs.Environment.{Environment, Declared, Callee, Invoked, declares, variable_in, callee_in, member_in, method_in}
-use Rattle.ash_typing.specs.Heads.{heads, object_named}
-use Rattle.ash_typing.specs.Expressions.{Typed, is_void, array_parameters}
-use Rattle.ash_typing.specs.Declarations.{construction}
+use Rattle.ash_typing.specs.Heads.{heads, object_named, ty_named}
+use Rattle.ash_typing.specs.Expressions.{Typed, assignable, is_void, is_stored, is_assign, array_parameters, typed}
+use Rattle.ash_typing.specs.Declarations.{at_type, at_type_name, construction}
 use Rattle.ash_typing.specs.Switches.{is_within, is_same_constant}
 use Rattle.ash_typing.specs.Statements as statements
 use Rattle.ash_typing.specs.Statements.{Scope, is_last}
@@ -94,7 +97,56 @@ counted_by (ClassMembers env ms (written.AMethod f ∷ rest)) = naming f.place f
 counted_by (Methods env ss (m ∷ ms)) = naming m.place m.name (nat_eq ss.names.room 0)
 counted_by _ = None
 
--- What is wrong at an offset, where a token means this: in this module, where these calls are registered.
+-- types that are written
+
+-- A type that a phrase writes, and whether it is that of what is passed.
+pub record TypeUse : Type 0 where
+  pub of : written.Named
+  pub is_passed : Bool
+
+-- the type of variables
+abbrev pub kept : written.Named → TypeUse
+kept of = record { of = of; is_passed = false }
+
+-- the type of a parameter or of a result
+abbrev pub passed : written.Named → TypeUse
+passed of = record { of = of; is_passed = true }
+
+-- the type that the first of these is declared by
+abbrev pub written_by : Phrase → Option TypeUse
+written_by (Statement scope (written.Declare p v)) = Some (kept v.of)
+written_by (Items env w (written.AGlobal v ∷ is)) = Some (kept v.of)
+written_by (ClassMembers env ms (written.AField v ∷ rest)) = Some (kept v.of)
+written_by (Parameters env before (x ∷ xs)) = Some (passed x.of)
+written_by (Items env w (written.AFunction f ∷ is)) = option_map passed f.result
+written_by (ClassMembers env ms (written.AMethod f ∷ rest)) = option_map passed f.result
+written_by (Methods env ss (m ∷ ms)) = option_map passed m.result
+written_by _ = None
+
+-- whether an object of this type may not stand so: objects are passed by handles, and no variable stands for an object
+-- of an interface
+abbrev pub is_misplaced : TypeUse → ObjectType → Bool
+is_misplaced used o = used.is_passed || is_interface o
+
+-- what is written to
+
+-- whether something may be assigned to what is typed so: to a place, of a type that takes a value
+abbrev pub takes_value : Typed → Bool
+takes_value t = is_some (assignable t.form t.tree) && is_stored t.form t.ty
+
+-- `++` and `--`, before and behind a place
+
+abbrev pub counts : UnaryOp → Bool
+counts unary.Increment = true
+counts unary.Decrement = true
+counts _ = false
+
+abbrev pub counts_behind : written.Suffix → Bool
+counts_behind written.Increment = true
+counts_behind written.Decrement = true
+counts_behind _ = false
+
+-- What is wrong at an offset, where a token means this: in the module of this script, where these calls are registered.
 pub data IsWrong (calls : List Call) (script : List written.Item) : Rule → ℕ → Meaning → Type 0 where
   -- no local, field or global has this name
   no_variable : {env : Environment} {p : Place} {text : List ℕ}
@@ -118,10 +170,20 @@ pub data IsWrong (calls : List Call) (script : List written.Item) : Rule → ℕ
       → method_in env o text ≡ None
       → IsWrong calls script rules.UnknownName p.at (name text)
   -- no class, interface or registered type has this name
-  no_type : {at : ℕ} {text : List ℕ}
+  no_type : {x : Phrase} {used : TypeUse} {text : List ℕ}
+      → IsReached calls script x
+      → written_by x ≡ Some used
       → object_named calls (heads calls script) text ≡ None
-      → IsWrong calls script rules.UnknownType at (name text)
-  -- a class lists what is no interface of the module
+      → IsWrong calls script rules.UnknownType (at_type_name used.of) (name text)
+  no_cast_type : {env : Environment} {p : Place} {to : written.TypeName} {e : written.Expr}
+      → IsReached calls script (Expression env (written.Cast p to e))
+      → object_named calls (heads calls script) to.name ≡ None
+      → IsWrong calls script rules.UnknownType to.place.at (name to.name)
+  no_element_type : {env : Environment} {p at : Place} {text : List ℕ} {es : written.Exprs}
+      → IsReached calls script (Expression env (written.NewArray p (written.HandleElement at text) es))
+      → object_named calls (heads calls script) text ≡ None
+      → IsWrong calls script rules.UnknownType at.at (name text)
+  -- a class lists what is neither an interface nor a class
   no_interface : {env : Environment} {class : ℕ} {listed : Listed} {n : written.TypeName} {ns : List written.TypeName}
       → IsReached calls script (Interfaces env class listed (n ∷ ns))
       → is_declared (object_named calls (heads calls script) n.name) ≡ false
@@ -205,19 +267,45 @@ pub data IsWrong (calls : List Call) (script : List written.Item) : Rule → ℕ
       → IsReached calls script (Cases scope kind before (written.next_case (written.labelled p labels.Default ss) cs))
       → is_last cs ≡ false
       → IsWrong calls script rules.Misplaced p.at (reserved words.Default)
-  -- the name of an object type where there may be none of it: objects are passed by handles, no variable stands for an
-  -- object of an interface, and no class lists a class; and an array, which is passed by its handle
-  object_type : {at : ℕ} {text : List ℕ} {o : ObjectType}
-      → object_named calls (heads calls script) text ≡ Some o
-      → IsWrong calls script rules.Misplaced at (name text)
-  array_type : {at : ℕ} → IsWrong calls script rules.Misplaced at (reserved words.Array)
+  misplaced_type : {x : Phrase} {used : TypeUse} {o : ObjectType} {m : Meaning}
+      → IsReached calls script x
+      → written_by x ≡ Some used
+      → ty_named calls (heads calls script) used.of ≡ ty.Object o
+      → is_misplaced used o ≡ true
+      → IsWrong calls script rules.Misplaced (at_type used.of) m
+  -- a class lists a class
+  listed_class : {env : Environment} {class place : ℕ} {listed : Listed} {n : written.TypeName} {ns : List written.TypeName}
+      → IsReached calls script (Interfaces env class listed (n ∷ ns))
+      → object_named calls (heads calls script) n.name ≡ Some (objects.Class place)
+      → IsWrong calls script rules.Misplaced n.place.at (name n.name)
   -- a constructor has the name of its class
   other_constructor : {env : Environment} {ms : Members} {c : written.Constructor} {rest : List written.Member}
       → IsReached calls script (ClassMembers env ms (written.AConstructor c ∷ rest))
       → bytes_eq c.name ms.class.name ≡ false
       → IsWrong calls script rules.Misplaced c.place.at (name c.name)
   mismatch : {at : ℕ} {m : Meaning} → IsWrong calls script rules.TypeMismatch at m
-  not_assignable : {at : ℕ} {m : Meaning} → IsWrong calls script rules.NotAssignable at m
+  -- what stands left of `=` or of `op=` takes no value
+  takes_none : {env : Environment} {p : Place} {op : AssignOp} {e v : written.Expr} {t : Typed} {m : Meaning}
+      → IsReached calls script (Expression env (written.Assign p e op v))
+      → typed env (is_assign op) e ≡ Ok t
+      → takes_value t ≡ false
+      → IsWrong calls script rules.NotAssignable t.at m
+  -- what is counted up or down is no place
+  no_place : {env : Environment} {p : Place} {op : UnaryOp} {e : written.Expr} {t : Typed} {m : Meaning}
+      → IsReached calls script (Expression env (written.Unary p op e))
+      → counts op ≡ true
+      → typed env false e ≡ Ok t
+      → assignable t.form t.tree ≡ None
+      → IsWrong calls script rules.NotAssignable t.at m
+  no_place_before : {env : Environment} {t : Typed} {s : written.Suffix} {ss : written.Suffixes} {m : Meaning}
+      → IsReached calls script (Suffixes env t (written.suffix s ss))
+      → counts_behind s ≡ true
+      → assignable t.form t.tree ≡ None
+      → IsWrong calls script rules.NotAssignable t.at m
+  -- a variable of objects begins with a value: objects are constructed
+  object_assigned : {env : Environment} {of_at at : ℕ} {o : ObjectType} {e : written.Expr} {m : Meaning}
+      → IsReached calls script (Initializer env of_at at (ty.Object o) (written.Value e))
+      → IsWrong calls script rules.NotAssignable at m
 
 -- A token of the list has its first byte at the offset of the fault, means what one of its rule may, and there the rule is
 -- broken.
