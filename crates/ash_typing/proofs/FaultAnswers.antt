@@ -1,5 +1,5 @@
 -- What is answered of a script, where each fault is at one of its tokens, and is what it says there.
-use Rattle.std.proofs.Common.{◌≡◌, ℕ, Bool, true, false, List, Option, Some, None, Ok, Err, refl, subst}
+use Rattle.std.proofs.Common.{◌≡◌, ℕ, Bool, true, false, List, Option, Some, None, Ok, Err, refl, sym, subst}
 use Rattle.std.specs.Prelude.{◌||◌, if◌then◌else◌}
 use Rattle.ash_lex.specs.Tokens.{Meaning, name}
 use Rattle.ash_registrations.specs.Calls.{Call}
@@ -16,7 +16,7 @@ use Rattle.ash_typing.specs.Heads.{heads, object_named, ty_named}
 use Rattle.ash_typing.specs.Declarations.{ty_in, at_type, at_type_name}
 use Rattle.ash_typing.specs.declared.types.Ty.TheVariants.{Object}
 use Rattle.ash_typing.specs.FaultPlaces.{is_return, begins_expression, breaks_at}
-use Rattle.ash_typing.specs.Reached.{Phrase, IsReached}
+use Rattle.ash_typing.specs.Phrases.{Phrase, Stands}
 use Rattle.ash_typing.specs.FaultMeaning as meaning
 use Rattle.ash_typing.specs.FaultMeaning.{IsWrong, Naming, named_by, TypeUse, written_by, is_misplaced}
 use Rattle.ash_typing.proofs.FaultTokens.{HasToken, HasStart}
@@ -27,8 +27,8 @@ pub record Script : Type 0 where
   pub calls : List Call
   pub items : List Item
 
-abbrev pub Reached : Script → Phrase → Type 0
-Reached script x = IsReached script.calls script.items x
+abbrev pub StandsIn : Script → Phrase → Type 0
+StandsIn script x = Stands script.calls script.items x
 
 abbrev pub Wrong : Script → Rule → ℕ → Meaning → Type 0
 Wrong script rule at m = IsWrong script.calls script.items rule at m
@@ -66,7 +66,7 @@ pub no_place : {script : Script} {A : Type 0} {Q : A → Type 0} {at : ℕ} → 
 no_place h w = faulty (h.0, h.1, h.2, w h.0)
 
 -- a name that a phrase declares, and that is taken
-pub name_taken : {script : Script} {A : Type 0} {Q : A → Type 0} {x : Phrase} (n : Naming) → Reached script x → named_by x ≡ Some n → HasToken script.tokens (name n.text) n.at → n.is_taken ≡ true → Answers script Q (broken rules.NameTaken n.at)
+pub name_taken : {script : Script} {A : Type 0} {Q : A → Type 0} {x : Phrase} (n : Naming) → StandsIn script x → named_by x ≡ Some n → HasToken script.tokens (name n.text) n.at → n.is_refused ≡ true → Answers script Q (broken rules.NameTaken n.at)
 name_taken n r e h b = faulty (name n.text, h, refl, meaning.taken r e b)
 
 pub bind : {script : Script} {A B : Type 0} {Q : A → Type 0} {S : B → Type 0} {r : Checking A} {f : A → Checking B} → Answers script Q r → ((x : A) → Q x → Answers script S (f x)) → Answers script S (r >>= f)
@@ -77,6 +77,11 @@ bind (faulty h) go = faulty h
 pub bind_by : {script : Script} {A B : Type 0} {Q : A → Type 0} {S : B → Type 0} {r : Checking A} {f : A → Checking B} → Answers script Q r → ((x : A) → r ≡ Ok x → Q x → Answers script S (f x)) → Answers script S (r >>= f)
 bind_by (fine {x = x} q) go = go x refl q
 bind_by (faulty h) go = faulty h
+
+-- where one thing alone is bound
+pub bind_to : {script : Script} {A B : Type 0} {S : B → Type 0} {y : A} {r : Checking A} (f : A → Checking B) → Answers script (λ (x : A). x ≡ y) r → Answers script S (f y) → Answers script S (r >>= f)
+bind_to {script} {S = S} f (fine {x = x} q) go = subst (λ z. Answers script S (f z)) (sym q) go
+bind_to f (faulty h) go = faulty h
 
 pub either : {script : Script} {A : Type 0} {Q : A → Type 0} (b : Bool) {x y : Checking A} → (b ≡ true → Answers script Q x) → (b ≡ false → Answers script Q y) → Answers script Q (if b then x else y)
 either true p q = p refl
@@ -121,7 +126,7 @@ pub record Miswritten (script : Script) (env : Environment) (used : TypeUse) : T
   pub unknown : (text : List ℕ) → type_named env text ≡ None → Wrong script rules.UnknownType (at_type_name used.of) (name text)
   pub misplaced : (o : ObjectType) (m : Meaning) → ty_in env used.of ≡ Object o → is_misplaced used o ≡ true → Wrong script rules.Misplaced (at_type used.of) m
 
-pub miswritten : (script : Script) (env : Environment) (x : Phrase) (used : TypeUse) → IsOf script env → Reached script x → written_by x ≡ Some used → Miswritten script env used
+pub miswritten : (script : Script) (env : Environment) (x : Phrase) (used : TypeUse) → IsOf script env → StandsIn script x → written_by x ≡ Some used → Miswritten script env used
 miswritten script env x used see r e = record {
   unknown = λ text n. meaning.no_type r e (unnamed script env text see n);
   misplaced = λ o m t b. meaning.misplaced_type r e (subst (λ u. u ≡ Object o) (same_types script env used.of see) t) b;

@@ -40,11 +40,11 @@ use Rattle.ash_typing.specs.Environment.{Environment, first_from, is_class, is_i
 use Rattle.ash_typing.specs.Expressions.{assignable, Typed, Met, made, fitted, integer_of, bool_of, handle_of, adapted_to, adapted, met_as, met, operate, counted, handle_at, unary_at, converting, convert_at, is_void, chosen, choice, operator_of, is_stored, updated, stored, assigned_to, assigned, is_assign, all_fitted, arguments_at, called, callee_at, known_at, this_at, member_at, field_of, invoked_at, method_of, invoked, call_typed, invocation_typed, index_in, indexed_at, indexed_object, indexed, at_element, known_element, array_parameters, array_built, array_typed, cast_type, cast_at, typed, all_typed, links_typed, suffixes_typed, suffix_typed}
 use Rattle.ash_typing.specs.FaultPlaces.{begins_call, begins_expression}
 use Rattle.ash_typing.proofs.FaultTokens.{HasToken, HasStart, ElementIn, ExprIn, ExprsIn, LinksIn, SuffixesIn, SuffixIn}
-use Rattle.ash_typing.specs.Reached as reached
+use Rattle.ash_typing.specs.Phrases as phrases
 use Rattle.ash_typing.specs.FaultMeaning as meaning
 use Rattle.ash_typing.specs.FaultMeaning.{given, takes_value, counts}
-use Rattle.ash_typing.proofs.FaultAnswers.{Script, Reached, Wrong, Answers, fine, faulty, Fine, At, mismatch, no_place, bind, bind_by, either, choose_start, type_named, unnamed}
-use Rattle.ash_typing.proofs.FaultReached.{sees}
+use Rattle.ash_typing.proofs.FaultAnswers.{Script, StandsIn, Wrong, Answers, fine, faulty, Fine, At, mismatch, no_place, bind, bind_by, either, choose_start, type_named, unnamed}
+use Rattle.ash_typing.proofs.FaultPhrases.{sees}
 
 -- typed expressions, each at a token
 abbrev pub AllAt : Tokens → List Typed → Type 0
@@ -190,26 +190,26 @@ unfolding called
 called_in script classes at text callee ts None h k w = faulty (name text, h, refl, w.none refl)
 called_in script classes at text callee ts (Some ps) h k w = called_with_in script classes at (name text) callee ts ps h refl refl k (w.other ps refl)
 
-callee_at_in : (script : Script) (env : Environment) (p : place.Place) (text : List ℕ) (es : written.Exprs) (found : Option Callee) → HasToken script.tokens (name text) p.at → Reached script (reached.Expression env (written.Call p text es)) → callee_in env text ≡ found → Answers script (λ (callee : Callee). callee_in env text ≡ Some callee) (callee_at p.at found)
+callee_at_in : (script : Script) (env : Environment) (p : place.Place) (text : List ℕ) (es : written.Exprs) (found : Option Callee) → HasToken script.tokens (name text) p.at → StandsIn script (phrases.Expression env (written.Call p text es)) → callee_in env text ≡ found → Answers script (λ (callee : Callee). callee_in env text ≡ Some callee) (callee_at p.at found)
 callee_at_in script env p text es None h r e = faulty (name text, h, refl, meaning.no_callee r e)
 callee_at_in script env p text es (Some callee) h r e = fine e
 
-call_miscounts : (script : Script) (env : Environment) (p : place.Place) (text : List ℕ) (es : written.Exprs) (callee : Callee) (count : ℕ) → Reached script (reached.Expression env (written.Call p text es)) → callee_in env text ≡ Some callee → count ≡ given es → Miscounts script p.at (name text) callee.parameters count
+call_miscounts : (script : Script) (env : Environment) (p : place.Place) (text : List ℕ) (es : written.Exprs) (callee : Callee) (count : ℕ) → StandsIn script (phrases.Expression env (written.Call p text es)) → callee_in env text ≡ Some callee → count ≡ given es → Miscounts script p.at (name text) callee.parameters count
 call_miscounts script env p text es callee count r e c = record {
   none = λ n. meaning.call_factory r e n;
   other = λ ps q b. meaning.call_count r e q (subst (λ k. nat_eq (length ps) k ≡ false) c b);
 }
 
-call_in : (script : Script) (env : Environment) (p : place.Place) (text : List ℕ) (es : written.Exprs) → HasToken script.tokens (name text) p.at → Reached script (reached.Expression env (written.Call p text es)) → ListAt script (given es) (all_typed env es) → At script (call_typed env p.at text (all_typed env es))
+call_in : (script : Script) (env : Environment) (p : place.Place) (text : List ℕ) (es : written.Exprs) → HasToken script.tokens (name text) p.at → StandsIn script (phrases.Expression env (written.Call p text es)) → ListAt script (given es) (all_typed env es) → At script (call_typed env p.at text (all_typed env es))
 call_in script env p text es h r k = bind (callee_at_in script env p text es (callee_in env text) h r refl) (λ callee e. bind k (λ ts all. called_in script env.heads.classes p.at text callee ts callee.parameters h all.0 (call_miscounts script env p text es callee (length ts) r e all.1)))
 
 -- names
 
-known_in : (script : Script) (env : Environment) (p : place.Place) (text : List ℕ) (found : Option Known) → HasToken script.tokens (name text) p.at → Reached script (reached.Expression env (written.Name p text)) → variable_in env text ≡ found → At script (known_at p.at found)
+known_in : (script : Script) (env : Environment) (p : place.Place) (text : List ℕ) (found : Option Known) → HasToken script.tokens (name text) p.at → StandsIn script (phrases.Expression env (written.Name p text)) → variable_in env text ≡ found → At script (known_at p.at found)
 known_in script env p text None h r e = faulty (name text, h, refl, meaning.no_variable r e)
 known_in script env p text (Some known) h r e = fine (name text, h, refl)
 
-this_in : (script : Script) (env : Environment) (p : place.Place) (class : Option ℕ) → HasToken script.tokens (reserved words.This) p.at → Reached script (reached.Expression env (written.This p)) → env.this ≡ class → At script (this_at p.at class)
+this_in : (script : Script) (env : Environment) (p : place.Place) (class : Option ℕ) → HasToken script.tokens (reserved words.This) p.at → StandsIn script (phrases.Expression env (written.This p)) → env.this ≡ class → At script (this_at p.at class)
 this_in script env p None h r e = faulty (reserved words.This, h, refl, meaning.no_object r e)
 this_in script env p (Some class) h r e = fine (reserved words.This, h, refl)
 
@@ -217,10 +217,10 @@ this_in script env p (Some class) h r e = fine (reserved words.This, h, refl)
 
 -- a field and a method behind what is typed so
 abbrev pub AtField : Script → Environment → Typed → place.Place → List ℕ → written.Suffixes → Type 0
-AtField script env t p text ss = Reached script (reached.Suffixes env t (written.suffix (written.Field p text) ss))
+AtField script env t p text ss = StandsIn script (phrases.Suffixes env t (written.suffix (written.Field p text) ss))
 
 abbrev pub AtMethod : Script → Environment → Typed → place.Place → List ℕ → written.Exprs → written.Suffixes → Type 0
-AtMethod script env t p text es ss = Reached script (reached.Suffixes env t (written.suffix (written.Method p text es) ss))
+AtMethod script env t p text es ss = StandsIn script (phrases.Suffixes env t (written.suffix (written.Method p text es) ss))
 
 member_at_in : (script : Script) (env : Environment) (t : Typed) (p : place.Place) (text : List ℕ) (ss : written.Suffixes) (o : ObjectType) (found : Option (Member × Ty)) → HasToken script.tokens (name text) p.at → HasStart script.tokens t.at → AtField script env t p text ss → object_of t.ty ≡ Some o → member_in env o text ≡ found → At script (member_at t p.at found)
 member_at_in script env t p text ss o None h k r q e = faulty (name text, h, refl, meaning.no_member r q e)
@@ -280,12 +280,12 @@ element_by_in : (script : Script) (env : Environment) (at : ℕ) (text : List �
 element_by_in script env at text None h e w = faulty (name text, h, refl, w (element_unnamed env text e))
 element_by_in script env at text (Some x) h e w = fine tt
 
-known_element_in : (script : Script) (env : Environment) (p : place.Place) (of : written.Element) (es : written.Exprs) → ElementIn script.tokens of → Reached script (reached.Expression env (written.NewArray p of es)) → Fine script (known_element (at_element of) (element_named env.registered env.heads of))
+known_element_in : (script : Script) (env : Environment) (p : place.Place) (of : written.Element) (es : written.Exprs) → ElementIn script.tokens of → StandsIn script (phrases.Expression env (written.NewArray p of es)) → Fine script (known_element (at_element of) (element_named env.registered env.heads of))
 unfolding element_named
 known_element_in script env p (written.PrimElement at k) es h r = fine tt
 known_element_in script env p (written.HandleElement at text) es h r = element_by_in script env at.at text (option_and_then element_by (type_named env text)) h refl (λ n. meaning.no_element_type r (unnamed script env text (sees r) n))
 
-array_in : (script : Script) (env : Environment) (p : place.Place) (of : written.Element) (es : written.Exprs) → HasToken script.tokens (reserved words.Array) p.at → ElementIn script.tokens of → Reached script (reached.Expression env (written.NewArray p of es)) → ListAt script (given es) (all_typed env es) → At script (array_typed env p.at of (all_typed env es))
+array_in : (script : Script) (env : Environment) (p : place.Place) (of : written.Element) (es : written.Exprs) → HasToken script.tokens (reserved words.Array) p.at → ElementIn script.tokens of → StandsIn script (phrases.Expression env (written.NewArray p of es)) → ListAt script (given es) (all_typed env es) → At script (array_typed env p.at of (all_typed env es))
 array_in script env p of es h e r k = bind (known_element_in script env p of es e r) (λ x u. bind k (λ ts all. called_with_in script env.heads.classes p.at (reserved words.Array) (array_built x (length ts)) ts (array_parameters (length ts)) h refl refl all.0 (λ b. meaning.array_count r (subst (λ n. nat_eq (length (array_parameters n)) n ≡ false) all.1 b))))
 
 cast_type_in : (script : Script) (env : Environment) (at : ℕ) (text : List ℕ) (found : Option ObjectType) → HasToken script.tokens (name text) at → (found ≡ None → Wrong script rules.UnknownType at (name text)) → Fine script (cast_type at found)
@@ -321,38 +321,38 @@ one_more : (a b : ℕ) → a ≡ b → suc a ≡ b + 1
 one_more a b h = omega (arith, h)
 
 mutual
-  pub typed_in : (script : Script) (env : Environment) (left : Bool) (e : written.Expr) → ExprIn script.tokens e → Reached script (reached.Expression env e) → At script (typed env left e)
+  pub typed_in : (script : Script) (env : Environment) (left : Bool) (e : written.Expr) → ExprIn script.tokens e → StandsIn script (phrases.Expression env e) → At script (typed env left e)
   typed_in script env left (written.Number p n) h r = fine (number n, h, refl)
   typed_in script env left (written.Truth p b) h r = fine h
   typed_in script env left (written.Null p) h r = fine h
   typed_in script env left (written.This p) h r = this_in script env p env.this h r refl
   typed_in script env left (written.Name p text) h r = known_in script env p text (variable_in env text) h r refl
-  typed_in script env left (written.Call p text es) h r = call_in script env p text es h.0 r (all_in script env es h.1 (reached.call_arguments r))
-  typed_in script env left (written.Brackets p e) h r = bind (typed_in script env false e h.1 (reached.in_brackets r)) (λ t k. fine h.0)
-  typed_in script env left (written.Convert p to e) h r = bind (typed_in script env false e h.1 (reached.converted r)) (λ t k. convert_in script p.at to t h.0 k)
-  typed_in script env left (written.NewArray p of es) h r = array_in script env p of es h.0 h.1 r (all_in script env es h.2 (reached.array_arguments r))
-  typed_in script env left (written.Cast p to e) h r = bind (cast_type_in script env to.place.at to.name (type_named env to.name) h.1 (λ n. meaning.no_cast_type r (unnamed script env to.name (sees r) n))) (λ o u. bind (typed_in script env false e h.2 (reached.cast r)) (λ t k. cast_in script p.at o t h.0 k))
-  typed_in script env left (written.Postfix p e ss) h r = bind_by (typed_in script env false e h.1 (reached.before_suffixes r)) (λ t q k. suffixes_in script env t ss h.2 k (reached.suffixes r q))
-  typed_in script env left (written.Unary p op e) h r = bind_by (typed_in script env false e h.1 (reached.operand r)) (λ t q k. unary_in script left p.at op t h.0 k (λ c n m. meaning.no_place r c q n))
-  typed_in script env left (written.Binary p e ls) h r = bind (typed_in script env false e h.1 (reached.first_operand r)) (λ t k. links_in script env t ls h.2 k (reached.links r))
-  typed_in script env left (written.Conditional p c a b) h r = bind (typed_in script env false c h.1 (reached.condition r)) (λ t k. bind (typed_in script env false a h.2 (reached.chosen r)) (λ x l. bind (typed_in script env false b h.3 (reached.otherwise r)) (λ y m. choice_in script t x y k l m)))
-  typed_in script env left (written.Assign p e op v) h r = bind_by (typed_in script env (is_assign op) e h.1 (reached.target r)) (λ t q k. bind (typed_in script env false v h.2 (reached.value r)) (λ u l. assigned_in script env.heads.classes t op u k l (λ b m. meaning.takes_none r q b)))
+  typed_in script env left (written.Call p text es) h r = call_in script env p text es h.0 r (all_in script env es h.1 (phrases.call_arguments r))
+  typed_in script env left (written.Brackets p e) h r = bind (typed_in script env false e h.1 (phrases.in_brackets r)) (λ t k. fine h.0)
+  typed_in script env left (written.Convert p to e) h r = bind (typed_in script env false e h.1 (phrases.converted r)) (λ t k. convert_in script p.at to t h.0 k)
+  typed_in script env left (written.NewArray p of es) h r = array_in script env p of es h.0 h.1 r (all_in script env es h.2 (phrases.array_arguments r))
+  typed_in script env left (written.Cast p to e) h r = bind (cast_type_in script env to.place.at to.name (type_named env to.name) h.1 (λ n. meaning.no_cast_type r (unnamed script env to.name (sees r) n))) (λ o u. bind (typed_in script env false e h.2 (phrases.cast r)) (λ t k. cast_in script p.at o t h.0 k))
+  typed_in script env left (written.Postfix p e ss) h r = bind_by (typed_in script env false e h.1 (phrases.before_suffixes r)) (λ t q k. suffixes_in script env t ss h.2 k (phrases.suffixes r q))
+  typed_in script env left (written.Unary p op e) h r = bind_by (typed_in script env false e h.1 (phrases.operand r)) (λ t q k. unary_in script left p.at op t h.0 k (λ c n m. meaning.no_place r c q n))
+  typed_in script env left (written.Binary p e ls) h r = bind (typed_in script env false e h.1 (phrases.first_operand r)) (λ t k. links_in script env t ls h.2 k (phrases.links r))
+  typed_in script env left (written.Conditional p c a b) h r = bind (typed_in script env false c h.1 (phrases.condition r)) (λ t k. bind (typed_in script env false a h.2 (phrases.chosen r)) (λ x l. bind (typed_in script env false b h.3 (phrases.otherwise r)) (λ y m. choice_in script t x y k l m)))
+  typed_in script env left (written.Assign p e op v) h r = bind_by (typed_in script env (is_assign op) e h.1 (phrases.target r)) (λ t q k. bind (typed_in script env false v h.2 (phrases.value r)) (λ u l. assigned_in script env.heads.classes t op u k l (λ b m. meaning.takes_none r q b)))
 
-  pub all_in : (script : Script) (env : Environment) (es : written.Exprs) → ExprsIn script.tokens es → Reached script (reached.Arguments env es) → ListAt script (given es) (all_typed env es)
+  pub all_in : (script : Script) (env : Environment) (es : written.Exprs) → ExprsIn script.tokens es → StandsIn script (phrases.Arguments env es) → ListAt script (given es) (all_typed env es)
   all_in script env written.no_expr h r = fine (tt, refl)
-  all_in script env (written.expr e es) h r = bind (typed_in script env false e h.0 (reached.argument r)) (λ t k. bind (all_in script env es h.1 (reached.other_arguments r)) (λ ts l. fine ((k, l.0), one_more (length ts) (given es) l.1)))
+  all_in script env (written.expr e es) h r = bind (typed_in script env false e h.0 (phrases.argument r)) (λ t k. bind (all_in script env es h.1 (phrases.other_arguments r)) (λ ts l. fine ((k, l.0), one_more (length ts) (given es) l.1)))
 
-  links_in : (script : Script) (env : Environment) (t : Typed) (ls : written.Links) → LinksIn script.tokens ls → HasStart script.tokens t.at → Reached script (reached.Links env ls) → At script (links_typed env t ls)
+  links_in : (script : Script) (env : Environment) (t : Typed) (ls : written.Links) → LinksIn script.tokens ls → HasStart script.tokens t.at → StandsIn script (phrases.Links env ls) → At script (links_typed env t ls)
   links_in script env t written.no_link h k r = fine k
-  links_in script env t (written.link op e ls) h k r = bind (typed_in script env false e h.0 (reached.linked r)) (λ u l. bind (operate_in script op t u k l) (λ both m. links_in script env both ls h.1 m (reached.other_links r)))
+  links_in script env t (written.link op e ls) h k r = bind (typed_in script env false e h.0 (phrases.linked r)) (λ u l. bind (operate_in script op t u k l) (λ both m. links_in script env both ls h.1 m (phrases.other_links r)))
 
-  suffixes_in : (script : Script) (env : Environment) (t : Typed) (ss : written.Suffixes) → SuffixesIn script.tokens ss → HasStart script.tokens t.at → Reached script (reached.Suffixes env t ss) → At script (suffixes_typed env t ss)
+  suffixes_in : (script : Script) (env : Environment) (t : Typed) (ss : written.Suffixes) → SuffixesIn script.tokens ss → HasStart script.tokens t.at → StandsIn script (phrases.Suffixes env t ss) → At script (suffixes_typed env t ss)
   suffixes_in script env t written.no_suffix h k r = fine k
-  suffixes_in script env t (written.suffix s ss) h k r = bind_by (suffix_in script env t s ss h.0 k r) (λ next q l. suffixes_in script env next ss h.1 l (reached.other_suffixes r q))
+  suffixes_in script env t (written.suffix s ss) h k r = bind_by (suffix_in script env t s ss h.0 k r) (λ next q l. suffixes_in script env next ss h.1 l (phrases.other_suffixes r q))
 
-  suffix_in : (script : Script) (env : Environment) (t : Typed) (s : written.Suffix) (ss : written.Suffixes) → SuffixIn script.tokens s → HasStart script.tokens t.at → Reached script (reached.Suffixes env t (written.suffix s ss)) → At script (suffix_typed env t s)
+  suffix_in : (script : Script) (env : Environment) (t : Typed) (s : written.Suffix) (ss : written.Suffixes) → SuffixIn script.tokens s → HasStart script.tokens t.at → StandsIn script (phrases.Suffixes env t (written.suffix s ss)) → At script (suffix_typed env t s)
   suffix_in script env t (written.Field p text) ss h k r = field_in script env t t.ty p text ss h k r refl
-  suffix_in script env t (written.Method p text es) ss h k r = invocation_in script env t p text es ss h.0 k r (all_in script env es h.1 (reached.method_arguments r))
-  suffix_in script env t (written.Index e) ss h k r = bind (typed_in script env false e h (reached.index r)) (λ i l. indexed_in script t t.ty i k l)
+  suffix_in script env t (written.Method p text es) ss h k r = invocation_in script env t p text es ss h.0 k r (all_in script env es h.1 (phrases.method_arguments r))
+  suffix_in script env t (written.Index e) ss h k r = bind (typed_in script env false e h (phrases.index r)) (λ i l. indexed_in script t t.ty i k l)
   suffix_in script env t written.Increment ss h k r = counted_in script t.at steps.IncrementAfter t (assignable t.form t.tree) k k (λ n m. meaning.no_place_before r refl n)
   suffix_in script env t written.Decrement ss h k r = counted_in script t.at steps.DecrementAfter t (assignable t.form t.tree) k k (λ n m. meaning.no_place_before r refl n)

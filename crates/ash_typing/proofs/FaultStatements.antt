@@ -1,5 +1,5 @@
 -- The walk over variables and statements answers a fault at a token, where the rule is broken.
-use Rattle.std.proofs.Common.{◌≡◌, ℕ, List, [], ◌∷◌, ◌++◌, Bool, true, false, Option, Some, None, ◌⊎◌, inl, inr, refl, ap, subst, length, nat_eq}
+use Rattle.std.proofs.Common.{◌≡◌, ℕ, List, [], ◌∷◌, ◌++◌, true, false, Option, Some, None, ◌⊎◌, inl, inr, refl, ap, subst, length, nat_eq}
 use Rattle.std.specs.Prelude.{◌||◌, option_map}
 use Rattle.std.specs.List.{AllByRecursion, list_any}
 use Rattle.std.specs.Option.{is_some, option_and_then}
@@ -23,19 +23,19 @@ use Rattle.ash_typing.specs.declared.types.Ty.TheVariants as ty
 use Rattle.ash_typed.specs.StatementTree.{Stmt, Head}
 use Rattle.ash_typing.specs.Checking.{Checking}
 use Rattle.ash_typing.specs.Types.{ty_of}
-use Rattle.ash_typing.specs.Environment.{Environment, Class, Callee}
+use Rattle.ash_typing.specs.Environment.{Environment, Declared, Class, Callee}
 use Rattle.ash_typing.specs.Expressions.{Typed, typed, all_typed, is_void, at_element, array_parameters, array_built}
-use Rattle.ash_typing.specs.Heads.{element_by, element_named, array_named, object_ty, handle_ty, ty_named}
+use Rattle.ash_typing.specs.Heads.{declared, element_by, element_named, array_named, object_ty, handle_ty, ty_named}
 use Rattle.ash_typing.specs.Declarations.{ty_in, at_type, at_type_name, known_ty, construction, constructed, begun, stored_first, begun_with, begun_by_one, begun_by, initialized, decl_typed}
 use Rattle.ash_typing.specs.Switches.{kind_in, is_within, is_same_constant, constant_typed, label_typed}
 use Rattle.ash_typing.specs.Statements.{Scope, block_of, loop_of, switch_of, with_variables, behind, is_taken, fresh, decls_typed, vars_typed, head_typed, condition_is, if_typed, if_else_typed, while_typed, do_while_typed, maybe_typed, maybe_condition_is, for_typed, break_typed, continue_typed, gives_nothing, returned, return_typed, is_last, stmt_typed, stmts_typed, cases_typed}
 use Rattle.ash_typing.specs.FaultPlaces.{begins_constant}
 use Rattle.ash_typing.proofs.FaultTokens.{HasToken, HasStart, ElementIn, NamedIn, MaybeIn, InitializerIn, DeclIn, VarsIn, IsHeadForm, LabelIn, StmtIn, StmtsIn, CasesIn}
-use Rattle.ash_typing.specs.Reached as reached
+use Rattle.ash_typing.specs.Phrases as phrases
 use Rattle.ash_typing.specs.FaultMeaning as meaning
 use Rattle.ash_typing.specs.FaultMeaning.{given, given_first, is_constructible, kept}
-use Rattle.ash_typing.proofs.FaultAnswers.{Script, Reached, Wrong, Answers, fine, faulty, Fine, At, name_taken, bind, bind_by, either, type_named, Miswritten, miswritten}
-use Rattle.ash_typing.proofs.FaultReached.{sees}
+use Rattle.ash_typing.proofs.FaultAnswers.{Script, StandsIn, Wrong, Answers, fine, faulty, Fine, At, name_taken, bind, bind_by, bind_to, either, type_named, Miswritten, miswritten}
+use Rattle.ash_typing.proofs.FaultPhrases.{sees}
 use Rattle.ash_typing.proofs.FaultExpressions.{AllAt, ListAt, Miscounts, element_unnamed, fitted_in, integer_in, bool_in, called_with_in, called_in, typed_in, all_in}
 
 -- types
@@ -157,7 +157,7 @@ pub record Misbuilds (script : Script) (at : ℕ) (found : Option Callee) (count
   pub none : (m : Meaning) → is_constructible found ≡ false → Wrong script rules.NoFactory at m
   pub other : (m : Meaning) (callee : Callee) (parameters : List Ty) → found ≡ Some callee → callee.parameters ≡ Some parameters → nat_eq (length parameters) count ≡ false → Wrong script rules.WrongArgumentCount at m
 
-misbuilds : (script : Script) (env : Environment) (of_at at : ℕ) (o : ObjectType) (i : written.Initializer) (count : ℕ) → Reached script (reached.Initializer env of_at at (ty.Object o) i) → count ≡ given_first i → Misbuilds script of_at (construction env o count) count
+misbuilds : (script : Script) (env : Environment) (of_at at : ℕ) (o : ObjectType) (i : written.Initializer) (count : ℕ) → StandsIn script (phrases.Initializer env of_at at (ty.Object o) i) → count ≡ given_first i → Misbuilds script of_at (construction env o count) count
 misbuilds script env of_at at o i count r c = record {
   none = λ m b. meaning.variable_factory r (subst (λ n. is_constructible (construction env o n) ≡ false) c b);
   other = λ m callee parameters e q b. meaning.variable_count r (subst (λ n. construction env o n ≡ Some callee) c e) q (subst (λ n. nat_eq (length parameters) n ≡ false) c b);
@@ -184,7 +184,7 @@ object_in script env at (objects.Class c) ts w k b = constructed_in script env.h
 object_in script env at (objects.Interface i) ts w k b = constructed_in script env.heads.classes at ts (construction env (objects.Interface i) (length ts)) w k b
 object_in script env at (objects.Host kind) ts w k b = constructed_in script env.heads.classes at ts (construction env (objects.Host kind) (length ts)) w k b
 
-begun_in : (script : Script) (env : Environment) (of_at at : ℕ) (of : Ty) → IsWrittenAt script of of_at → Reached script (reached.Initializer env of_at at of written.Default) → Fine script (begun env of_at of)
+begun_in : (script : Script) (env : Environment) (of_at at : ℕ) (of : Ty) → IsWrittenAt script of of_at → StandsIn script (phrases.Initializer env of_at at of written.Default) → Fine script (begun env of_at of)
 unfolding begun
 begun_in script env of_at at (ty.Object o) h r = object_in script env of_at o [] h tt (misbuilds script env of_at at o written.Default 0 r refl)
 begun_in script env of_at at _ h r = fine tt
@@ -203,41 +203,41 @@ begun_by_one_in script classes at text of [] h k = faulty (name text, h, refl, m
 begun_by_one_in script classes at text of (t ∷ []) h k = stored_first_in script classes of t k.0
 begun_by_one_in script classes at text of (t ∷ u ∷ ts) h k = faulty (name text, h, refl, meaning.mismatch)
 
-begun_by_in : (script : Script) (env : Environment) (of_at at : ℕ) (text : List ℕ) (of : Ty) (es : List written.Expr) (ts : List Typed) → IsWrittenAt script of of_at → HasToken script.tokens (name text) at → AllAt script.tokens ts → length ts ≡ given (written.exprs es) → Reached script (reached.Initializer env of_at at of (written.Arguments es)) → Fine script (begun_by env of_at at of ts)
+begun_by_in : (script : Script) (env : Environment) (of_at at : ℕ) (text : List ℕ) (of : Ty) (es : List written.Expr) (ts : List Typed) → IsWrittenAt script of of_at → HasToken script.tokens (name text) at → AllAt script.tokens ts → length ts ≡ given (written.exprs es) → StandsIn script (phrases.Initializer env of_at at of (written.Arguments es)) → Fine script (begun_by env of_at at of ts)
 unfolding begun_by
 begun_by_in script env of_at at text (ty.Object o) es ts w h k c r = object_in script env of_at o ts w k (misbuilds script env of_at at o (written.Arguments es) (length ts) r c)
 begun_by_in script env of_at at text (ty.Handle o) es ts w h k c r = faulty (name text, h, refl, meaning.mismatch)
 begun_by_in script env of_at at text of es ts w h k c r = begun_by_one_in script env.heads.classes at text of ts h k
 
-initialized_in : (script : Script) (env : Environment) (of_at at : ℕ) (text : List ℕ) (of : Ty) (i : written.Initializer) → IsWrittenAt script of of_at → HasToken script.tokens (name text) at → InitializerIn script.tokens i → Reached script (reached.Initializer env of_at at of i) → Fine script (initialized env of_at at of i)
+initialized_in : (script : Script) (env : Environment) (of_at at : ℕ) (text : List ℕ) (of : Ty) (i : written.Initializer) → IsWrittenAt script of of_at → HasToken script.tokens (name text) at → InitializerIn script.tokens i → StandsIn script (phrases.Initializer env of_at at of i) → Fine script (initialized env of_at at of i)
 unfolding initialized
 initialized_in script env of_at at text of written.Default w h k r = begun_in script env of_at at of w r
-initialized_in script env of_at at text of (written.Value e) w h k r = bind (typed_in script env false e k (reached.initial_value r)) (λ t l. begun_with_in script env.heads.classes at text of t h l (λ o q. meaning.object_assigned (subst (λ u. Reached script (reached.Initializer env of_at at u (written.Value e))) q r)))
-initialized_in script env of_at at text of (written.Arguments es) w h k r = bind (all_in script env (written.exprs es) k (reached.initial_arguments r)) (λ ts l. begun_by_in script env of_at at text of es ts w h l.0 l.1 r)
+initialized_in script env of_at at text of (written.Value e) w h k r = bind (typed_in script env false e k (phrases.initial_value r)) (λ t l. begun_with_in script env.heads.classes at text of t h l (λ o q. meaning.object_assigned (subst (λ u. StandsIn script (phrases.Initializer env of_at at u (written.Value e))) q r)))
+initialized_in script env of_at at text of (written.Arguments es) w h k r = bind (all_in script env (written.exprs es) k (phrases.initial_arguments r)) (λ ts l. begun_by_in script env of_at at text of es ts w h l.0 l.1 r)
 
-pub decl_in : (script : Script) (env : Environment) (at : ℕ) (of : Ty) (d : written.Decl) → IsWrittenAt script of at → DeclIn script.tokens d → Reached script (reached.Initializer env at d.place.at of d.initializer) → Fine script (decl_typed env at of d)
+pub decl_in : (script : Script) (env : Environment) (at : ℕ) (of : Ty) (d : written.Decl) → IsWrittenAt script of at → DeclIn script.tokens d → StandsIn script (phrases.Initializer env at d.place.at of d.initializer) → Fine script (decl_typed env at of d)
 unfolding decl_typed
 decl_in script env at of d w h r = bind (initialized_in script env at d.place.at d.name of d.initializer w h.0 h.1 r) (λ value u. fine tt)
 
-fresh_in : (script : Script) (scope : Scope) (at : ℕ) (of : Ty) (d : written.Decl) (ds : List written.Decl) → DeclIn script.tokens d → Reached script (reached.Locals scope at of (d ∷ ds)) → Fine script (fresh scope of d)
+fresh_in : (script : Script) (scope : Scope) (at : ℕ) (of : Ty) (d : written.Decl) (ds : List written.Decl) → DeclIn script.tokens d → StandsIn script (phrases.Locals scope at of (d ∷ ds)) → Answers script (λ (v : Declared). v ≡ declared of d) (fresh scope of d)
 unfolding fresh
-fresh_in script scope at of d ds h r = either (is_taken scope d.name) (λ b. name_taken (record { at = d.place.at; text = d.name; is_taken = is_taken scope d.name }) r refl h.0 b) (λ b. fine tt)
+fresh_in script scope at of d ds h r = either (is_taken scope d.name) (λ b. name_taken (record { at = d.place.at; text = d.name; is_refused = is_taken scope d.name }) r refl h.0 b) (λ b. fine refl)
 
-decls_in : (script : Script) (scope : Scope) (at : ℕ) (of : Ty) (ds : List written.Decl) → IsWrittenAt script of at → AllByRecursion (DeclIn script.tokens) ds → Reached script (reached.Locals scope at of ds) → Fine script (decls_typed scope at of ds)
+decls_in : (script : Script) (scope : Scope) (at : ℕ) (of : Ty) (ds : List written.Decl) → IsWrittenAt script of at → AllByRecursion (DeclIn script.tokens) ds → StandsIn script (phrases.Locals scope at of ds) → Fine script (decls_typed scope at of ds)
 decls_in script scope at of [] w h r = fine tt
-decls_in script scope at of (d ∷ ds) w h r = bind_by (fresh_in script scope at of d ds h.0 r) (λ v e u. bind (decl_in script scope.env at of d w h.0 (reached.local r)) (λ value u. bind (decls_in script (with_variables scope (v ∷ [])) at of ds w h.1 (reached.other_locals r e)) (λ values u. fine tt)))
+decls_in script scope at of (d ∷ ds) w h r = bind_to _ (fresh_in script scope at of d ds h.0 r) (bind (decl_in script scope.env at of d w h.0 (phrases.local r)) (λ value u. bind (decls_in script (with_variables scope (declared of d ∷ [])) at of ds w h.1 (phrases.other_locals r)) (λ values u. fine tt)))
 
-vars_in : (script : Script) (scope : Scope) (p : place.Place) (v : written.Vars) → VarsIn script.tokens v → Reached script (reached.Statement scope (written.Declare p v)) → Fine script (vars_typed scope v)
+vars_in : (script : Script) (scope : Scope) (p : place.Place) (v : written.Vars) → VarsIn script.tokens v → StandsIn script (phrases.Statement scope (written.Declare p v)) → Fine script (vars_typed scope v)
 unfolding vars_typed
-vars_in script scope p v h r = bind_by (variables_ty_in script scope.env v.of h.0 (miswritten script scope.env (reached.Statement scope (written.Declare p v)) (kept v.of) (sees r) r refl)) (λ of e w. decls_in script scope (at_type v.of) of v.decls w h.1 (reached.locals r e))
+vars_in script scope p v h r = bind_by (variables_ty_in script scope.env v.of h.0 (miswritten script scope.env (phrases.Statement scope (written.Declare p v)) (kept v.of) (sees r) r refl)) (λ of e w. decls_in script scope (at_type v.of) of v.decls w h.1 (phrases.locals r e))
 
 -- statements, once their parts are walked
 
-head_in : (script : Script) (scope : Scope) (s : written.Stmt) → IsHeadForm s → StmtIn script.tokens s → Reached script (reached.Statement scope s) → Fine script (head_typed scope s)
+head_in : (script : Script) (scope : Scope) (s : written.Stmt) → IsHeadForm s → StmtIn script.tokens s → StandsIn script (phrases.Statement scope s) → Fine script (head_typed scope s)
 unfolding head_typed
 head_in script scope (written.Empty p) f h r = fine tt
 head_in script scope (written.Declare p v) f h r = bind (vars_in script scope p v h.1 r) (λ values u. fine tt)
-head_in script scope (written.Evaluate p e) f h r = bind (typed_in script scope.env false e h.1 (reached.evaluated r)) (λ t u. fine tt)
+head_in script scope (written.Evaluate p e) f h r = bind (typed_in script scope.env false e h.1 (phrases.evaluated r)) (λ t u. fine tt)
 head_in script scope _ f h r = absurd f
 
 condition_in : (script : Script) (t : Typed) → HasStart script.tokens t.at → Fine script (condition_is t)
@@ -264,7 +264,7 @@ abbrev pub MaybeAt : Tokens → Option Typed → Type 0
 MaybeAt script None = Unit {0}
 MaybeAt script (Some t) = HasStart script t.at
 
-maybe_in : (script : Script) (env : Environment) (e : Option written.Expr) → MaybeIn script.tokens e → ((c : written.Expr) → e ≡ Some c → Reached script (reached.Expression env c)) → Answers script (MaybeAt script.tokens) (maybe_typed env e)
+maybe_in : (script : Script) (env : Environment) (e : Option written.Expr) → MaybeIn script.tokens e → ((c : written.Expr) → e ≡ Some c → StandsIn script (phrases.Expression env c)) → Answers script (MaybeAt script.tokens) (maybe_typed env e)
 maybe_in script env None h r = fine tt
 maybe_in script env (Some e) h r = bind (typed_in script env false e h (r e refl)) (λ t k. fine k)
 
@@ -276,11 +276,11 @@ for_in : (script : Script) (line count : ℕ) (head : Checking Head) (condition 
 unfolding for_typed
 for_in script line count head condition steps body f h k l = bind f (λ x u. bind h (λ c at. bind k (λ ts all. bind l (λ s v. bind (maybe_condition_in script c at) (λ yes w. fine tt)))))
 
-break_in : (script : Script) (scope : Scope) (p : place.Place) → HasToken script.tokens (reserved words.Break) p.at → Reached script (reached.Statement scope (written.Break p)) → Fine script (break_typed (scope.in_loop || scope.in_switch) p)
+break_in : (script : Script) (scope : Scope) (p : place.Place) → HasToken script.tokens (reserved words.Break) p.at → StandsIn script (phrases.Statement scope (written.Break p)) → Fine script (break_typed (scope.in_loop || scope.in_switch) p)
 unfolding break_typed
 break_in script scope p h r = either (scope.in_loop || scope.in_switch) (λ b. fine tt) (λ b. faulty (reserved words.Break, h, refl, meaning.no_loop_to_leave r b))
 
-continue_in : (script : Script) (scope : Scope) (p : place.Place) → HasToken script.tokens (reserved words.Continue) p.at → Reached script (reached.Statement scope (written.Continue p)) → Fine script (continue_typed scope.in_loop p)
+continue_in : (script : Script) (scope : Scope) (p : place.Place) → HasToken script.tokens (reserved words.Continue) p.at → StandsIn script (phrases.Statement scope (written.Continue p)) → Fine script (continue_typed scope.in_loop p)
 unfolding continue_typed
 continue_in script scope p h r = either scope.in_loop (λ b. fine tt) (λ b. faulty (reserved words.Continue, h, refl, meaning.no_loop r b))
 
@@ -288,14 +288,14 @@ returned_in : (script : Script) (classes : List Class) (of : Ty) (at : ℕ) (t :
 unfolding returned
 returned_in script classes of at t h k = either (is_void of) (λ b. faulty (reserved words.Return, h, refl, meaning.mismatch)) (λ b. fitted_in script classes of t k)
 
-return_in : (script : Script) (scope : Scope) (p : place.Place) (e : Option written.Expr) → HasToken script.tokens (reserved words.Return) p.at → MaybeIn script.tokens e → Reached script (reached.Statement scope (written.Return p e)) → Fine script (return_typed scope p e)
+return_in : (script : Script) (scope : Scope) (p : place.Place) (e : Option written.Expr) → HasToken script.tokens (reserved words.Return) p.at → MaybeIn script.tokens e → StandsIn script (phrases.Statement scope (written.Return p e)) → Fine script (return_typed scope p e)
 unfolding return_typed
 return_in script scope p None h k r = either (gives_nothing scope.gives) (λ b. fine tt) (λ b. faulty (reserved words.Return, h, refl, meaning.mismatch))
-return_in script scope p (Some e) h k r = bind (typed_in script scope.env false e k (reached.returned r)) (λ t l. bind (returned_in script scope.env.heads.classes scope.gives p.at t h l) (λ value u. fine tt))
+return_in script scope p (Some e) h k r = bind (typed_in script scope.env false e k (phrases.returned r)) (λ t l. bind (returned_in script scope.env.heads.classes scope.gives p.at t h l) (λ value u. fine tt))
 
 -- labels, each with the statements behind it and the other labels
 abbrev pub AtLabel : Script → Scope → Option Kind → List Label → place.Place → Label → written.Stmts → written.Cases → Type 0
-AtLabel script scope kind before p l ss cs = Reached script (reached.Cases scope kind before (written.next_case (written.labelled p l ss) cs))
+AtLabel script scope kind before p l ss cs = StandsIn script (phrases.Cases scope kind before (written.next_case (written.labelled p l ss) cs))
 
 constant_in : (script : Script) (scope : Scope) (kind : Option Kind) (before : List Label) (p : place.Place) (l : Label) (ss : written.Stmts) (cs : written.Cases) (m : Meaning) → HasToken script.tokens m p.at → begins_constant m ≡ true → AtLabel script scope kind before p l ss cs → Fine script (constant_typed kind before p.at l)
 unfolding constant_typed
@@ -308,33 +308,33 @@ label_in script scope kind before p (labels.CaseMinus n) ss cs h r = constant_in
 label_in script scope kind before p labels.Default ss cs h r = either (is_last cs) (λ b. fine tt) (λ b. faulty (reserved words.Default, h, refl, meaning.early_default r b))
 
 -- the condition of a `for`, where it has one
-for_condition : (script : Script) (scope : Scope) (p : place.Place) (f s : written.Stmt) (c : Option written.Expr) (es : List written.Expr) → Reached script (reached.Statement scope (written.For p f c es s)) → (e : written.Expr) → c ≡ Some e → Reached script (reached.Expression (behind (block_of scope) f).env e)
-for_condition script scope p f s c es r e q = reached.for_condition (subst (λ x. Reached script (reached.Statement scope (written.For p f x es s))) q r)
+for_condition : (script : Script) (scope : Scope) (p : place.Place) (f s : written.Stmt) (c : Option written.Expr) (es : List written.Expr) → StandsIn script (phrases.Statement scope (written.For p f c es s)) → (e : written.Expr) → c ≡ Some e → StandsIn script (phrases.Expression (behind (block_of scope) f).env e)
+for_condition script scope p f s c es r e q = phrases.for_condition (subst (λ x. StandsIn script (phrases.Statement scope (written.For p f x es s))) q r)
 
 -- the walk
 
 mutual
-  stmt_in : (script : Script) (scope : Scope) (s : written.Stmt) → StmtIn script.tokens s → Reached script (reached.Statement scope s) → Fine script (stmt_typed scope s)
+  stmt_in : (script : Script) (scope : Scope) (s : written.Stmt) → StmtIn script.tokens s → StandsIn script (phrases.Statement scope s) → Fine script (stmt_typed scope s)
   stmt_in script scope (written.Empty p) h r = fine tt
   stmt_in script scope (written.Declare p v) h r = bind (vars_in script scope p v h.1 r) (λ values u. fine tt)
-  stmt_in script scope (written.Evaluate p e) h r = bind (typed_in script scope.env false e h.1 (reached.evaluated r)) (λ t u. fine tt)
-  stmt_in script scope (written.Block p ss) h r = bind (stmts_in script (block_of scope) ss h.1 (reached.block r)) (λ body u. fine tt)
-  stmt_in script scope (written.If p c s) h r = if_in script p.line (typed scope.env false c) (stmt_typed scope s) (typed_in script scope.env false c h.1 (reached.if_condition r)) (stmt_in script scope s h.2 (reached.if_body r))
-  stmt_in script scope (written.IfElse p c s t) h r = if_else_in script p.line (typed scope.env false c) (stmt_typed scope s) (stmt_typed scope t) (typed_in script scope.env false c h.1 (reached.else_condition r)) (stmt_in script scope s h.2 (reached.then_body r)) (stmt_in script scope t h.3 (reached.else_body r))
-  stmt_in script scope (written.While p c s) h r = while_in script p.line (typed scope.env false c) (stmt_typed (loop_of scope) s) (typed_in script scope.env false c h.1 (reached.while_condition r)) (stmt_in script (loop_of scope) s h.2 (reached.while_body r))
-  stmt_in script scope (written.DoWhile p s c) h r = do_while_in script p.line (stmt_typed (loop_of scope) s) (typed scope.env false c) (stmt_in script (loop_of scope) s h.1 (reached.do_body r)) (typed_in script scope.env false c h.2 (reached.do_condition r))
+  stmt_in script scope (written.Evaluate p e) h r = bind (typed_in script scope.env false e h.1 (phrases.evaluated r)) (λ t u. fine tt)
+  stmt_in script scope (written.Block p ss) h r = bind (stmts_in script (block_of scope) ss h.1 (phrases.block r)) (λ body u. fine tt)
+  stmt_in script scope (written.If p c s) h r = if_in script p.line (typed scope.env false c) (stmt_typed scope s) (typed_in script scope.env false c h.1 (phrases.if_condition r)) (stmt_in script scope s h.2 (phrases.if_body r))
+  stmt_in script scope (written.IfElse p c s t) h r = if_else_in script p.line (typed scope.env false c) (stmt_typed scope s) (stmt_typed scope t) (typed_in script scope.env false c h.1 (phrases.else_condition r)) (stmt_in script scope s h.2 (phrases.then_body r)) (stmt_in script scope t h.3 (phrases.else_body r))
+  stmt_in script scope (written.While p c s) h r = while_in script p.line (typed scope.env false c) (stmt_typed (loop_of scope) s) (typed_in script scope.env false c h.1 (phrases.while_condition r)) (stmt_in script (loop_of scope) s h.2 (phrases.while_body r))
+  stmt_in script scope (written.DoWhile p s c) h r = do_while_in script p.line (stmt_typed (loop_of scope) s) (typed scope.env false c) (stmt_in script (loop_of scope) s h.1 (phrases.do_body r)) (typed_in script scope.env false c h.2 (phrases.do_condition r))
   stmt_in script scope (written.For p f c es s) h r =
       let inside = behind (block_of scope) f in
-      for_in script p.line (given (written.exprs es)) (head_typed (block_of scope) f) (maybe_typed inside.env c) (all_typed inside.env (written.exprs es)) (stmt_typed (loop_of inside) s) (head_in script (block_of scope) f h.1 h.2 (reached.for_head r)) (maybe_in script inside.env c h.3 (for_condition script scope p f s c es r)) (all_in script inside.env (written.exprs es) h.4 (reached.for_steps r)) (stmt_in script (loop_of inside) s h.5 (reached.for_body r))
-  stmt_in script scope (written.Switch p e cs) h r = bind_by (typed_in script scope.env false e h.1 (reached.switch_value r)) (λ v q k. bind (cases_in script (switch_of scope) (kind_in v.ty) [] cs h.2 (reached.cases r q)) (λ rows u. bind (integer_in script v.at v.ty k) (λ kind w. fine tt)))
+      for_in script p.line (given (written.exprs es)) (head_typed (block_of scope) f) (maybe_typed inside.env c) (all_typed inside.env (written.exprs es)) (stmt_typed (loop_of inside) s) (head_in script (block_of scope) f h.1 h.2 (phrases.for_head r)) (maybe_in script inside.env c h.3 (for_condition script scope p f s c es r)) (all_in script inside.env (written.exprs es) h.4 (phrases.for_steps r)) (stmt_in script (loop_of inside) s h.5 (phrases.for_body r))
+  stmt_in script scope (written.Switch p e cs) h r = bind_by (typed_in script scope.env false e h.1 (phrases.switch_value r)) (λ v q k. bind (cases_in script (switch_of scope) (kind_in v.ty) [] cs h.2 (phrases.cases r q)) (λ rows u. bind (integer_in script v.at v.ty k) (λ kind w. fine tt)))
   stmt_in script scope (written.Break p) h r = break_in script scope p h r
   stmt_in script scope (written.Continue p) h r = continue_in script scope p h r
   stmt_in script scope (written.Return p e) h r = return_in script scope p e h.0 h.1 r
 
-  pub stmts_in : (script : Script) (scope : Scope) (ss : written.Stmts) → StmtsIn script.tokens ss → Reached script (reached.Statements scope ss) → Fine script (stmts_typed scope ss)
+  pub stmts_in : (script : Script) (scope : Scope) (ss : written.Stmts) → StmtsIn script.tokens ss → StandsIn script (phrases.Statements scope ss) → Fine script (stmts_typed scope ss)
   stmts_in script scope written.no_stmt h r = fine tt
-  stmts_in script scope (written.stmt s ss) h r = bind (stmt_in script scope s h.0 (reached.statement r)) (λ t u. bind (stmts_in script (behind scope s) ss h.1 (reached.other_statements r)) (λ ts v. fine tt))
+  stmts_in script scope (written.stmt s ss) h r = bind (stmt_in script scope s h.0 (phrases.statement r)) (λ t u. bind (stmts_in script (behind scope s) ss h.1 (phrases.other_statements r)) (λ ts v. fine tt))
 
-  cases_in : (script : Script) (scope : Scope) (kind : Option Kind) (before : List Label) (cs : written.Cases) → CasesIn script.tokens cs → Reached script (reached.Cases scope kind before cs) → Fine script (cases_typed scope kind before cs)
+  cases_in : (script : Script) (scope : Scope) (kind : Option Kind) (before : List Label) (cs : written.Cases) → CasesIn script.tokens cs → StandsIn script (phrases.Cases scope kind before cs) → Fine script (cases_typed scope kind before cs)
   cases_in script scope kind before written.no_case h r = fine tt
-  cases_in script scope kind before (written.next_case (written.labelled p l ss) cs) h r = bind (label_in script scope kind before p l ss cs (h.0).0 r) (λ label u. bind (stmts_in script scope ss (h.0).1 (reached.labelled r)) (λ body v. bind (cases_in script scope kind (before ++ l ∷ []) cs h.1 (reached.other_cases r)) (λ rest w. fine tt)))
+  cases_in script scope kind before (written.next_case (written.labelled p l ss) cs) h r = bind (label_in script scope kind before p l ss cs (h.0).0 r) (λ label u. bind (stmts_in script scope ss (h.0).1 (phrases.labelled r)) (λ body v. bind (cases_in script scope kind (before ++ l ∷ []) cs h.1 (phrases.other_cases r)) (λ rest w. fine tt)))

@@ -65,7 +65,7 @@ pub record CanTake (n : Names) (names : List (List ℕ)) (k : ℕ) : Type 0 wher
 abbrev pub names_with : Names → List (List ℕ) → ℕ → Names
 names_with n taken room = record { registered = n.registered; taken = taken; room = room }
 
-same_names : (n : Names) (t u : List (List ℕ)) (j k : ℕ) → t ≡ u → j ≡ k → names_with n t j ≡ names_with n u k
+pub same_names : (n : Names) (t u : List (List ℕ)) (j k : ℕ) → t ≡ u → j ≡ k → names_with n t j ≡ names_with n u k
 same_names n t u j k h e = rw (h, e) refl
 
 pub grown-none : (n : Names) → grown n [] 0 ≡ n

@@ -25,7 +25,7 @@ use Rattle.ash_typing.specs.declared.fault.Fault.{Fault}
 use Rattle.ash_typing.specs.declared.types.Ty.{Ty}
 use Rattle.ash_typing.specs.declared.types.Ty.TheVariants as ty
 use Rattle.ash_typing.specs.Types.{is_interface, object_of}
-use Rattle.ash_typing.specs.Environment.{Environment, Declared, Callee, Invoked, declares, variable_in, callee_in, member_in, method_in}
+use Rattle.ash_typing.specs.Environment.{Environment, Callee, Invoked, declares, variable_in, callee_in, member_in, method_in}
 use Rattle.ash_typing.specs.Heads.{heads, object_named, ty_named}
 use Rattle.ash_typing.specs.Expressions.{Typed, assignable, is_void, is_stored, is_assign, array_parameters, typed}
 use Rattle.ash_typing.specs.Declarations.{at_type, at_type_name, construction}
@@ -33,9 +33,10 @@ use Rattle.ash_typing.specs.Switches.{is_within, is_same_constant}
 use Rattle.ash_typing.specs.Statements as statements
 use Rattle.ash_typing.specs.Statements.{Scope, is_last}
 use Rattle.ash_typing.specs.Bodies.{returns_in}
-use Rattle.ash_typing.specs.Items.{Names, is_taken, Row, Routine, Signatures, Listed, Members, Walked}
+use Rattle.ash_typing.specs.Items.{is_taken, Routine}
+use Rattle.ash_typing.specs.TypedModules.{classes_of, interfaces_of}
 use Rattle.ash_typing.specs.FaultPlaces.{breaks_at}
-use Rattle.ash_typing.specs.Reached.{Phrase, Expression, Suffixes, Initializer, Locals, Statement, Cases, Parameters, ARoutine, Variables, Methods, Interfaces, ClassMembers, Items, IsReached}
+use Rattle.ash_typing.specs.Phrases.{names_behind, names_of_members, names_of_methods, names_listed, Phrase, Expression, Suffixes, Initializer, Locals, Statement, Cases, Parameters, ARoutine, Variables, Methods, Interfaces, ClassMembers, Items, Stands}
 
 -- how many arguments are given
 
@@ -62,39 +63,46 @@ is_declared _ = false
 
 -- names that are declared
 
--- A name that a phrase declares at an offset, and whether another one of its space has it already.
+-- A name that a phrase declares at an offset, and whether it may not be declared there.
 pub record Naming : Type 0 where
   pub at : ℕ
   pub text : List ℕ
-  pub is_taken : Bool
+  pub is_refused : Bool
 
 abbrev pub naming : Place → List ℕ → Bool → Option Naming
-naming p text b = Some (record { at = p.at; text = text; is_taken = b })
+naming p text b = Some (record { at = p.at; text = text; is_refused = b })
 
--- What the first of these declares: behind the names that are registered and those of the items before, of the members
--- before, of the methods before, of the interfaces listed before, of the parameters before or of the locals of the block.
--- A class has one constructor.
+-- whether a constructor stands among the members before
+abbrev pub has_constructor : List written.Member → Bool
+has_constructor [] = false
+has_constructor (written.AConstructor c ∷ ms) = true
+has_constructor (written.AMethod f ∷ ms) = has_constructor ms
+has_constructor (written.AField v ∷ ms) = has_constructor ms
+
+-- What the first of these declares, and whether the name is taken: by something registered or an item before, a member
+-- before, a method of the interface before, an interface that the class lists before, a parameter before, or a local of
+-- the block. A class has one constructor.
 abbrev pub named_by : Phrase → Option Naming
-named_by (Items env w (written.AClass c ∷ is)) = naming c.place c.name (is_taken w.names c.name)
-named_by (Items env w (written.AnInterface i ∷ is)) = naming i.place i.name (is_taken w.names i.name)
-named_by (Items env w (written.AFunction f ∷ is)) = naming f.place f.name (is_taken w.names f.name)
-named_by (Variables env at of row (d ∷ ds)) = naming d.place d.name (is_taken row.names d.name)
-named_by (ClassMembers env ms (written.AMethod f ∷ rest)) = naming f.place f.name (is_taken ms.names f.name)
-named_by (ClassMembers env ms (written.AConstructor c ∷ rest)) = naming c.place c.name (is_some ms.class.constructor)
-named_by (Methods env ss (m ∷ ms)) = naming m.place m.name (is_taken ss.names m.name)
-named_by (Interfaces env class listed (n ∷ ns)) = naming n.place n.name (is_taken listed.names n.name)
+named_by (Items env before (written.AClass c ∷ is)) = naming c.place c.name (is_taken (names_behind env.registered before) c.name)
+named_by (Items env before (written.AnInterface i ∷ is)) = naming i.place i.name (is_taken (names_behind env.registered before) i.name)
+named_by (Items env before (written.AFunction f ∷ is)) = naming f.place f.name (is_taken (names_behind env.registered before) f.name)
+named_by (Variables env at of names (d ∷ ds)) = naming d.place d.name (is_taken names d.name)
+named_by (ClassMembers env class before (written.AMethod f ∷ ms)) = naming f.place f.name (is_taken (names_of_members before) f.name)
+named_by (ClassMembers env class before (written.AConstructor c ∷ ms)) = naming c.place c.name (has_constructor before)
+named_by (Methods env before (m ∷ ms)) = naming m.place m.name (is_taken (names_of_methods before) m.name)
+named_by (Interfaces env place before (n ∷ ns)) = naming n.place n.name (is_taken (names_listed before) n.name)
 named_by (Parameters env before (x ∷ xs)) = naming x.place x.name (list_any (declares x.name) before)
 named_by (Locals scope at of (d ∷ ds)) = naming d.place d.name (statements.is_taken scope d.name)
 named_by _ = None
 
--- What there may be only so many of, and whether there are that many: 256 classes and interfaces and 256 variables in a
+-- What the first of these declares, where there may be only so many, and whether there are that many: 256 classes and interfaces and 256 variables in a
 -- module, 32 members of a class or methods of an interface.
 abbrev pub counted_by : Phrase → Option Naming
-counted_by (Items env w (written.AClass c ∷ is)) = naming c.place c.name (nat_le 256 (length w.typed.classes + length w.typed.interfaces))
-counted_by (Items env w (written.AnInterface i ∷ is)) = naming i.place i.name (nat_le 256 (length w.typed.classes + length w.typed.interfaces))
-counted_by (Variables env at of row (d ∷ ds)) = naming d.place d.name (nat_eq row.names.room 0)
-counted_by (ClassMembers env ms (written.AMethod f ∷ rest)) = naming f.place f.name (nat_eq ms.names.room 0)
-counted_by (Methods env ss (m ∷ ms)) = naming m.place m.name (nat_eq ss.names.room 0)
+counted_by (Items env before (written.AClass c ∷ is)) = naming c.place c.name (nat_le 256 (length (classes_of before) + length (interfaces_of before)))
+counted_by (Items env before (written.AnInterface i ∷ is)) = naming i.place i.name (nat_le 256 (length (classes_of before) + length (interfaces_of before)))
+counted_by (Variables env at of names (d ∷ ds)) = naming d.place d.name (nat_eq names.room 0)
+counted_by (ClassMembers env class before (written.AMethod f ∷ ms)) = naming f.place f.name (nat_eq (names_of_members before).room 0)
+counted_by (Methods env before (m ∷ ms)) = naming m.place m.name (nat_eq (names_of_methods before).room 0)
 counted_by _ = None
 
 -- types that are written
@@ -115,12 +123,12 @@ passed of = record { of = of; is_passed = true }
 -- the type that the first of these is declared by
 abbrev pub written_by : Phrase → Option TypeUse
 written_by (Statement scope (written.Declare p v)) = Some (kept v.of)
-written_by (Items env w (written.AGlobal v ∷ is)) = Some (kept v.of)
-written_by (ClassMembers env ms (written.AField v ∷ rest)) = Some (kept v.of)
+written_by (Items env before (written.AGlobal v ∷ is)) = Some (kept v.of)
+written_by (ClassMembers env class before (written.AField v ∷ ms)) = Some (kept v.of)
 written_by (Parameters env before (x ∷ xs)) = Some (passed x.of)
-written_by (Items env w (written.AFunction f ∷ is)) = option_map passed f.result
-written_by (ClassMembers env ms (written.AMethod f ∷ rest)) = option_map passed f.result
-written_by (Methods env ss (m ∷ ms)) = option_map passed m.result
+written_by (Items env before (written.AFunction f ∷ is)) = option_map passed f.result
+written_by (ClassMembers env class before (written.AMethod f ∷ ms)) = option_map passed f.result
+written_by (Methods env before (m ∷ ms)) = option_map passed m.result
 written_by _ = None
 
 -- whether an object of this type may not stand so: objects are passed by handles, and no variable stands for an object
@@ -150,161 +158,161 @@ counts_behind _ = false
 pub data IsWrong (calls : List Call) (script : List written.Item) : Rule → ℕ → Meaning → Type 0 where
   -- no local, field or global has this name
   no_variable : {env : Environment} {p : Place} {text : List ℕ}
-      → IsReached calls script (Expression env (written.Name p text))
+      → Stands calls script (Expression env (written.Name p text))
       → variable_in env text ≡ None
       → IsWrong calls script rules.UnknownName p.at (name text)
   -- no method, function, class or registered type or function has this name
   no_callee : {env : Environment} {p : Place} {text : List ℕ} {es : written.Exprs}
-      → IsReached calls script (Expression env (written.Call p text es))
+      → Stands calls script (Expression env (written.Call p text es))
       → callee_in env text ≡ None
       → IsWrong calls script rules.UnknownName p.at (name text)
   -- objects of the type before the point have no field or property, and no method, of this name
   no_member : {env : Environment} {t : Typed} {p : Place} {text : List ℕ} {ss : written.Suffixes} {o : ObjectType}
-      → IsReached calls script (Suffixes env t (written.suffix (written.Field p text) ss))
+      → Stands calls script (Suffixes env t (written.suffix (written.Field p text) ss))
       → object_of t.ty ≡ Some o
       → member_in env o text ≡ None
       → IsWrong calls script rules.UnknownName p.at (name text)
   no_method : {env : Environment} {t : Typed} {p : Place} {text : List ℕ} {es : written.Exprs} {ss : written.Suffixes} {o : ObjectType}
-      → IsReached calls script (Suffixes env t (written.suffix (written.Method p text es) ss))
+      → Stands calls script (Suffixes env t (written.suffix (written.Method p text es) ss))
       → object_of t.ty ≡ Some o
       → method_in env o text ≡ None
       → IsWrong calls script rules.UnknownName p.at (name text)
   -- no class, interface or registered type has this name
   no_type : {x : Phrase} {used : TypeUse} {text : List ℕ}
-      → IsReached calls script x
+      → Stands calls script x
       → written_by x ≡ Some used
       → object_named calls (heads calls script) text ≡ None
       → IsWrong calls script rules.UnknownType (at_type_name used.of) (name text)
   no_cast_type : {env : Environment} {p : Place} {to : written.TypeName} {e : written.Expr}
-      → IsReached calls script (Expression env (written.Cast p to e))
+      → Stands calls script (Expression env (written.Cast p to e))
       → object_named calls (heads calls script) to.name ≡ None
       → IsWrong calls script rules.UnknownType to.place.at (name to.name)
   no_element_type : {env : Environment} {p at : Place} {text : List ℕ} {es : written.Exprs}
-      → IsReached calls script (Expression env (written.NewArray p (written.HandleElement at text) es))
+      → Stands calls script (Expression env (written.NewArray p (written.HandleElement at text) es))
       → object_named calls (heads calls script) text ≡ None
       → IsWrong calls script rules.UnknownType at.at (name text)
   -- a class lists what is neither an interface nor a class
-  no_interface : {env : Environment} {class : ℕ} {listed : Listed} {n : written.TypeName} {ns : List written.TypeName}
-      → IsReached calls script (Interfaces env class listed (n ∷ ns))
+  no_interface : {env : Environment} {place : ℕ} {before : List written.TypeName} {n : written.TypeName} {ns : List written.TypeName}
+      → Stands calls script (Interfaces env place before (n ∷ ns))
       → is_declared (object_named calls (heads calls script) n.name) ≡ false
       → IsWrong calls script rules.UnknownType n.place.at (name n.name)
   -- a name that is declared has been declared before
   taken : {x : Phrase} {n : Naming}
-      → IsReached calls script x
+      → Stands calls script x
       → named_by x ≡ Some n
-      → n.is_taken ≡ true
+      → n.is_refused ≡ true
       → IsWrong calls script rules.NameTaken n.at (name n.text)
   too_many : {x : Phrase} {n : Naming}
-      → IsReached calls script x
+      → Stands calls script x
       → counted_by x ≡ Some n
-      → n.is_taken ≡ true
+      → n.is_refused ≡ true
       → IsWrong calls script rules.TooMany n.at (name n.text)
   -- what gives a value may end without one
   no_return : {env : Environment} {of : Ty} {r : Routine}
-      → IsReached calls script (ARoutine env of r)
+      → Stands calls script (ARoutine env of r)
       → is_void of ≡ false
       → returns_in r.body ≡ false
       → IsWrong calls script rules.NoReturn r.place.at (name r.name)
   -- what is called takes another number of arguments than it is given
   call_count : {env : Environment} {p : Place} {text : List ℕ} {es : written.Exprs} {callee : Callee} {parameters : List Ty}
-      → IsReached calls script (Expression env (written.Call p text es))
+      → Stands calls script (Expression env (written.Call p text es))
       → callee_in env text ≡ Some callee
       → callee.parameters ≡ Some parameters
       → nat_eq (length parameters) (given es) ≡ false
       → IsWrong calls script rules.WrongArgumentCount p.at (name text)
   method_count : {env : Environment} {t : Typed} {p : Place} {text : List ℕ} {es : written.Exprs} {ss : written.Suffixes} {o : ObjectType} {m : Invoked}
-      → IsReached calls script (Suffixes env t (written.suffix (written.Method p text es) ss))
+      → Stands calls script (Suffixes env t (written.suffix (written.Method p text es) ss))
       → object_of t.ty ≡ Some o
       → method_in env o text ≡ Some m
       → nat_eq (length m.parameters) (given es) ≡ false
       → IsWrong calls script rules.WrongArgumentCount p.at (name text)
   array_count : {env : Environment} {p : Place} {of : written.Element} {es : written.Exprs}
-      → IsReached calls script (Expression env (written.NewArray p of es))
+      → Stands calls script (Expression env (written.NewArray p of es))
       → nat_eq (length (array_parameters (given es))) (given es) ≡ false
       → IsWrong calls script rules.WrongArgumentCount p.at (reserved words.Array)
   variable_count : {env : Environment} {of_at at : ℕ} {o : ObjectType} {i : written.Initializer} {callee : Callee} {parameters : List Ty} {m : Meaning}
-      → IsReached calls script (Initializer env of_at at (ty.Object o) i)
+      → Stands calls script (Initializer env of_at at (ty.Object o) i)
       → construction env o (given_first i) ≡ Some callee
       → callee.parameters ≡ Some parameters
       → nat_eq (length parameters) (given_first i) ≡ false
       → IsWrong calls script rules.WrongArgumentCount of_at m
   -- a registered type is constructed, and has no factory
   call_factory : {env : Environment} {p : Place} {text : List ℕ} {es : written.Exprs} {callee : Callee}
-      → IsReached calls script (Expression env (written.Call p text es))
+      → Stands calls script (Expression env (written.Call p text es))
       → callee_in env text ≡ Some callee
       → callee.parameters ≡ None
       → IsWrong calls script rules.NoFactory p.at (name text)
   variable_factory : {env : Environment} {of_at at : ℕ} {o : ObjectType} {i : written.Initializer} {m : Meaning}
-      → IsReached calls script (Initializer env of_at at (ty.Object o) i)
+      → Stands calls script (Initializer env of_at at (ty.Object o) i)
       → is_constructible (construction env o (given_first i)) ≡ false
       → IsWrong calls script rules.NoFactory of_at m
   -- the type of the value of a `switch` does not hold the constant of a label
   out_of_range : {scope : Scope} {kind : Option Kind} {before : List Label} {p : Place} {l : Label} {ss : written.Stmts} {cs : written.Cases} {m : Meaning}
-      → IsReached calls script (Cases scope kind before (written.next_case (written.labelled p l ss) cs))
+      → Stands calls script (Cases scope kind before (written.next_case (written.labelled p l ss) cs))
       → is_within kind l ≡ false
       → IsWrong calls script rules.ConstantOutOfRange p.at m
   -- a label before has the same constant
   duplicate : {scope : Scope} {kind : Option Kind} {before : List Label} {p : Place} {l : Label} {ss : written.Stmts} {cs : written.Cases} {m : Meaning}
-      → IsReached calls script (Cases scope kind before (written.next_case (written.labelled p l ss) cs))
+      → Stands calls script (Cases scope kind before (written.next_case (written.labelled p l ss) cs))
       → list_any (is_same_constant l) before ≡ true
       → IsWrong calls script rules.DuplicateCase p.at m
   -- `this` where no object runs
   no_object : {env : Environment} {p : Place}
-      → IsReached calls script (Expression env (written.This p))
+      → Stands calls script (Expression env (written.This p))
       → env.this ≡ None
       → IsWrong calls script rules.Misplaced p.at (reserved words.This)
   -- `break` where there is nothing that it leaves, and `continue`
   no_loop_to_leave : {scope : Scope} {p : Place}
-      → IsReached calls script (Statement scope (written.Break p))
+      → Stands calls script (Statement scope (written.Break p))
       → (scope.in_loop || scope.in_switch) ≡ false
       → IsWrong calls script rules.Misplaced p.at (reserved words.Break)
   no_loop : {scope : Scope} {p : Place}
-      → IsReached calls script (Statement scope (written.Continue p))
+      → Stands calls script (Statement scope (written.Continue p))
       → scope.in_loop ≡ false
       → IsWrong calls script rules.Misplaced p.at (reserved words.Continue)
   -- `default` before another label
   early_default : {scope : Scope} {kind : Option Kind} {before : List Label} {p : Place} {ss : written.Stmts} {cs : written.Cases}
-      → IsReached calls script (Cases scope kind before (written.next_case (written.labelled p labels.Default ss) cs))
+      → Stands calls script (Cases scope kind before (written.next_case (written.labelled p labels.Default ss) cs))
       → is_last cs ≡ false
       → IsWrong calls script rules.Misplaced p.at (reserved words.Default)
   misplaced_type : {x : Phrase} {used : TypeUse} {o : ObjectType} {m : Meaning}
-      → IsReached calls script x
+      → Stands calls script x
       → written_by x ≡ Some used
       → ty_named calls (heads calls script) used.of ≡ ty.Object o
       → is_misplaced used o ≡ true
       → IsWrong calls script rules.Misplaced (at_type used.of) m
   -- a class lists a class
-  listed_class : {env : Environment} {class place : ℕ} {listed : Listed} {n : written.TypeName} {ns : List written.TypeName}
-      → IsReached calls script (Interfaces env class listed (n ∷ ns))
-      → object_named calls (heads calls script) n.name ≡ Some (objects.Class place)
+  listed_class : {env : Environment} {place class : ℕ} {before : List written.TypeName} {n : written.TypeName} {ns : List written.TypeName}
+      → Stands calls script (Interfaces env place before (n ∷ ns))
+      → object_named calls (heads calls script) n.name ≡ Some (objects.Class class)
       → IsWrong calls script rules.Misplaced n.place.at (name n.name)
   -- a constructor has the name of its class
-  other_constructor : {env : Environment} {ms : Members} {c : written.Constructor} {rest : List written.Member}
-      → IsReached calls script (ClassMembers env ms (written.AConstructor c ∷ rest))
-      → bytes_eq c.name ms.class.name ≡ false
+  other_constructor : {env : Environment} {class : List ℕ} {before : List written.Member} {c : written.Constructor} {ms : List written.Member}
+      → Stands calls script (ClassMembers env class before (written.AConstructor c ∷ ms))
+      → bytes_eq c.name class ≡ false
       → IsWrong calls script rules.Misplaced c.place.at (name c.name)
   mismatch : {at : ℕ} {m : Meaning} → IsWrong calls script rules.TypeMismatch at m
   -- what stands left of `=` or of `op=` takes no value
   takes_none : {env : Environment} {p : Place} {op : AssignOp} {e v : written.Expr} {t : Typed} {m : Meaning}
-      → IsReached calls script (Expression env (written.Assign p e op v))
+      → Stands calls script (Expression env (written.Assign p e op v))
       → typed env (is_assign op) e ≡ Ok t
       → takes_value t ≡ false
       → IsWrong calls script rules.NotAssignable t.at m
   -- what is counted up or down is no place
   no_place : {env : Environment} {p : Place} {op : UnaryOp} {e : written.Expr} {t : Typed} {m : Meaning}
-      → IsReached calls script (Expression env (written.Unary p op e))
+      → Stands calls script (Expression env (written.Unary p op e))
       → counts op ≡ true
       → typed env false e ≡ Ok t
       → assignable t.form t.tree ≡ None
       → IsWrong calls script rules.NotAssignable t.at m
   no_place_before : {env : Environment} {t : Typed} {s : written.Suffix} {ss : written.Suffixes} {m : Meaning}
-      → IsReached calls script (Suffixes env t (written.suffix s ss))
+      → Stands calls script (Suffixes env t (written.suffix s ss))
       → counts_behind s ≡ true
       → assignable t.form t.tree ≡ None
       → IsWrong calls script rules.NotAssignable t.at m
   -- a variable of objects begins with a value: objects are constructed
   object_assigned : {env : Environment} {of_at at : ℕ} {o : ObjectType} {e : written.Expr} {m : Meaning}
-      → IsReached calls script (Initializer env of_at at (ty.Object o) (written.Value e))
+      → Stands calls script (Initializer env of_at at (ty.Object o) (written.Value e))
       → IsWrong calls script rules.NotAssignable at m
 
 -- A token of the list has its first byte at the offset of the fault, means what one of its rule may, and there the rule is

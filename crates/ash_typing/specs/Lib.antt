@@ -14,7 +14,7 @@ pub mod Bodies
 pub mod Items
 pub mod TypedModules
 pub mod FaultPlaces
-pub mod Reached
+pub mod Phrases
 pub mod FaultMeaning
 pub mod Offered
 pub mod Soundness

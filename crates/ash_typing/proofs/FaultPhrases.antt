@@ -5,7 +5,7 @@ use Rattle.ash_tree.specs.Tree as written
 use Rattle.ash_typing.specs.Environment.{Environment}
 use Rattle.ash_typing.specs.Heads.{heads}
 use Rattle.ash_typing.specs.Statements.{Scope, block_of, behind}
-use Rattle.ash_typing.specs.Reached.{Phrase, environment_of, IsReached, call_arguments, in_brackets, converted, array_arguments, cast, before_suffixes, suffixes, operand, first_operand, links, condition, chosen, otherwise, target, value, argument, other_arguments, linked, other_links, method_arguments, index, other_suffixes, initial_value, initial_arguments, local, other_locals, locals, evaluated, block, if_condition, if_body, else_condition, then_body, else_body, while_condition, while_body, do_condition, do_body, for_head, for_condition, for_steps, for_body, switch_value, cases, returned, statement, other_statements, labelled, other_cases, parameters, other_parameters, body, variable, other_variables, method_parameters, other_methods, other_interfaces, fields, method, constructor, other_members, items, other_items, interfaces, members, methods, function, globals}
+use Rattle.ash_typing.specs.Phrases.{Phrase, environment_of, Stands, call_arguments, in_brackets, converted, array_arguments, cast, before_suffixes, suffixes, operand, first_operand, links, condition, chosen, otherwise, target, value, argument, other_arguments, linked, other_links, method_arguments, index, other_suffixes, initial_value, initial_arguments, local, other_locals, locals, evaluated, block, if_condition, if_body, else_condition, then_body, else_body, while_condition, while_body, do_condition, do_body, for_head, for_condition, for_steps, for_body, switch_value, cases, returned, statement, other_statements, labelled, other_cases, parameters, other_parameters, body, variable, other_variables, method_parameters, other_methods, other_interfaces, fields, method, constructor, other_members, items, other_items, interfaces, members, methods, function, globals}
 
 abbrev pub Sees : List Call → List written.Item → Environment → Type 0
 Sees calls is env = (env.heads ≡ heads calls is) × (env.registered ≡ calls)
@@ -15,7 +15,7 @@ behind_sees : (calls : List Call) (is : List written.Item) (scope : Scope) (s : 
 behind_sees calls is scope (written.Declare p v) h = h
 behind_sees calls is scope _ h = h
 
-pub sees : {calls : List Call} {is : List written.Item} {x : Phrase} → IsReached calls is x → Sees calls is (environment_of x)
+pub sees : {calls : List Call} {is : List written.Item} {x : Phrase} → Stands calls is x → Sees calls is (environment_of x)
 sees (call_arguments r) = sees r
 sees (in_brackets r) = sees r
 sees (converted r) = sees r
@@ -41,7 +41,7 @@ sees (other_suffixes r e) = sees r
 sees (initial_value r) = sees r
 sees (initial_arguments r) = sees r
 sees (local r) = sees r
-sees (other_locals r e) = sees r
+sees (other_locals r) = sees r
 sees (locals r e) = sees r
 sees (evaluated r) = sees r
 sees (block r) = sees r
@@ -69,18 +69,18 @@ sees (parameters r) = sees r
 sees (other_parameters r e) = sees r
 sees (body r e) = sees r
 sees (variable r) = sees r
-sees (other_variables r e f) = sees r
+sees (other_variables r) = sees r
 sees (method_parameters r) = sees r
-sees (other_methods r e) = sees r
-sees (other_interfaces r e) = sees r
+sees (other_methods r) = sees r
+sees (other_interfaces r) = sees r
 sees (fields r e) = sees r
 sees (method r e) = sees r
-sees (constructor r e) = sees r
-sees (other_members r e) = sees r
+sees (constructor r) = sees r
+sees (other_members r) = sees r
 sees items = (refl, refl)
-sees (other_items r e) = sees r
-sees (interfaces r e) = sees r
-sees (members r e f) = sees r
+sees (other_items r) = sees r
+sees (interfaces r) = sees r
+sees (members r) = sees r
 sees (methods r) = sees r
 sees (function r e) = sees r
 sees (globals r e) = sees r
