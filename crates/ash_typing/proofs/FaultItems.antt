@@ -193,10 +193,10 @@ member_in script env class before ms (written.AMethod f) rest h k r =
       constructor = k.constructor ∙ same_constructor before (written.AMethod f) refl;
     }))))
 member_in script env class before ms (written.AConstructor c) rest h k r = bind_to _ (named_in script env class before ms c rest h k r) (bind (routine_in script env ty.Void (constructing c) h (phrases.constructor r)) (λ t u. fine (record {
-      names = k.names ∙ behind_constructor before c;
-      name = k.name;
-      constructor = one_constructor before c;
-    })))
+  names = k.names ∙ behind_constructor before c;
+  name = k.name;
+  constructor = one_constructor before c;
+})))
 
 members_in : (script : Script) (env : Environment) (class : List ℕ) (before : List written.Member) (ms : Members) (rest : List written.Member) → AllByRecursion (MemberIn script.tokens) rest → HasMembers class before ms → StandsIn script (phrases.ClassMembers env class before rest) → Fine script (members_typed env ms rest)
 members_in script env class before ms [] h k r = fine tt
