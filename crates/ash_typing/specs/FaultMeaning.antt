@@ -1,6 +1,7 @@
 -- What is wrong where the fault of a module is told, for each rule that one sentence says: a phrase that breaks the rule
 -- stands there, with what it sees. Of a `TypeMismatch` no more is said than at which tokens it may be: which two types do
--- not fit differs from phrase to phrase.
+-- not fit differs from phrase to phrase. Nor is it said that nothing before is wrong: which fault is the first is in the
+-- definitions of the walk.
 use Rattle.std.specs.Prelude.{◌≡◌, ℕ, ◌+◌, Bool, true, false, ◌&&◌, ◌||◌, List, [], ◌∷◌, Option, Some, None, Ok, option_map, length, nat_eq, nat_le}
 use Rattle.std.specs.List.{Any, list_any}
 use Rattle.std.specs.Option.{is_some}
@@ -95,8 +96,8 @@ named_by (Parameters env before (x ∷ xs)) = naming x.place x.name (list_any (d
 named_by (Locals scope at of (d ∷ ds)) = naming d.place d.name (statements.is_taken scope d.name)
 named_by _ = None
 
--- What the first of these declares, where there may be only so many, and whether there are that many: 256 classes and interfaces and 256 variables in a
--- module, 32 members of a class or methods of an interface.
+-- What the first of these declares, where there may be only so many, and whether there are that many before it: 256
+-- classes and interfaces and 256 variables in a module, 32 members of a class or methods of an interface.
 abbrev pub counted_by : Phrase → Option Naming
 counted_by (Items env before (written.AClass c ∷ is)) = naming c.place c.name (nat_le 256 (length (classes_of before) + length (interfaces_of before)))
 counted_by (Items env before (written.AnInterface i ∷ is)) = naming i.place i.name (nat_le 256 (length (classes_of before) + length (interfaces_of before)))
@@ -166,7 +167,7 @@ pub data IsWrong (calls : List Call) (script : List written.Item) : Rule → ℕ
       → Stands calls script (Expression env (written.Call p text es))
       → callee_in env text ≡ None
       → IsWrong calls script rules.UnknownName p.at (name text)
-  -- objects of the type before the point have no field or property, and no method, of this name
+  -- objects of the type of what stands before the point have no field and no property of this name, or no method
   no_member : {env : Environment} {t : Typed} {p : Place} {text : List ℕ} {ss : written.Suffixes} {o : ObjectType}
       → Stands calls script (Suffixes env t (written.suffix (written.Field p text) ss))
       → object_of t.ty ≡ Some o
@@ -196,12 +197,13 @@ pub data IsWrong (calls : List Call) (script : List written.Item) : Rule → ℕ
       → Stands calls script (Interfaces env place before (n ∷ ns))
       → is_declared (object_named calls (heads calls script) n.name) ≡ false
       → IsWrong calls script rules.UnknownType n.place.at (name n.name)
-  -- a name that is declared has been declared before
+  -- another one of its space has the name that is declared
   taken : {x : Phrase} {n : Naming}
       → Stands calls script x
       → named_by x ≡ Some n
       → n.is_refused ≡ true
       → IsWrong calls script rules.NameTaken n.at (name n.text)
+  -- there are as many before as there may be
   too_many : {x : Phrase} {n : Naming}
       → Stands calls script x
       → counted_by x ≡ Some n
@@ -261,7 +263,7 @@ pub data IsWrong (calls : List Call) (script : List written.Item) : Rule → ℕ
       → Stands calls script (Expression env (written.This p))
       → env.this ≡ None
       → IsWrong calls script rules.Misplaced p.at (reserved words.This)
-  -- `break` where there is nothing that it leaves, and `continue`
+  -- `break` and `continue` where there is nothing that they leave
   no_loop_to_leave : {scope : Scope} {p : Place}
       → Stands calls script (Statement scope (written.Break p))
       → (scope.in_loop || scope.in_switch) ≡ false
@@ -275,6 +277,7 @@ pub data IsWrong (calls : List Call) (script : List written.Item) : Rule → ℕ
       → Stands calls script (Cases scope kind before (written.next_case (written.labelled p labels.Default ss) cs))
       → is_last cs ≡ false
       → IsWrong calls script rules.Misplaced p.at (reserved words.Default)
+  -- a type of objects is written where none of them may stand
   misplaced_type : {x : Phrase} {used : TypeUse} {o : ObjectType} {m : Meaning}
       → Stands calls script x
       → written_by x ≡ Some used
@@ -286,11 +289,12 @@ pub data IsWrong (calls : List Call) (script : List written.Item) : Rule → ℕ
       → Stands calls script (Interfaces env place before (n ∷ ns))
       → object_named calls (heads calls script) n.name ≡ Some (objects.Class class)
       → IsWrong calls script rules.Misplaced n.place.at (name n.name)
-  -- a constructor has the name of its class
+  -- a constructor has another name than its class
   other_constructor : {env : Environment} {class : List ℕ} {before : List written.Member} {c : written.Constructor} {ms : List written.Member}
       → Stands calls script (ClassMembers env class before (written.AConstructor c ∷ ms))
       → bytes_eq c.name class ≡ false
       → IsWrong calls script rules.Misplaced c.place.at (name c.name)
+  -- (nothing is said)
   mismatch : {at : ℕ} {m : Meaning} → IsWrong calls script rules.TypeMismatch at m
   -- what stands left of `=` or of `op=` takes no value
   takes_none : {env : Environment} {p : Place} {op : AssignOp} {e v : written.Expr} {t : Typed} {m : Meaning}
