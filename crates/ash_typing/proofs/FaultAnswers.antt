@@ -1,31 +1,54 @@
--- What is answered of a script, where each fault is at one of its tokens.
-use Rattle.std.proofs.Common.{◌≡◌, ℕ, Bool, true, false, Ok, Err, refl, subst}
+-- What is answered of a script, where each fault is at one of its tokens, and is what it says there.
+use Rattle.std.proofs.Common.{◌≡◌, ℕ, Bool, true, false, List, Option, Some, None, Ok, Err, refl, sym, subst}
 use Rattle.std.specs.Prelude.{◌||◌, if◌then◌else◌}
-use Rattle.ash_lex.specs.Tokens.{Meaning}
+use Rattle.ash_lex.specs.Tokens.{Meaning, name}
+use Rattle.ash_registrations.specs.Calls.{Call}
 use Rattle.ash_tree.specs.Tokens.{Tokens}
+use Rattle.ash_tree.specs.Tree.{Named, Item}
+use Rattle.ash_typed.specs.declared.types.ObjectType.{ObjectType}
+use Rattle.ash_typing.specs.declared.fault.Rule.{Rule}
 use Rattle.ash_typing.specs.declared.fault.Rule.TheVariants as rules
 use Rattle.ash_typing.specs.declared.fault.Fault.{Fault}
 use Rattle.ash_typing.specs.Checking.{Checking, ◌>>=◌, broken}
+use Rattle.ash_typing.specs.Environment.{Environment}
 use Rattle.ash_typing.specs.Expressions.{Typed}
+use Rattle.ash_typing.specs.Heads.{heads, object_named, ty_named, ty_in}
+use Rattle.ash_typing.specs.Declarations.{at_type, at_type_name}
+use Rattle.ash_typing.specs.declared.types.Ty.TheVariants.{Object}
 use Rattle.ash_typing.specs.FaultPlaces.{is_return, begins_expression, breaks_at}
+use Rattle.ash_typing.specs.Phrases.{Phrase, Stands}
+use Rattle.ash_typing.specs.FaultMeaning as meaning
+use Rattle.ash_typing.specs.FaultMeaning.{IsWrong, Naming, named_by, TypeUse, written_by, is_misplaced}
 use Rattle.ash_typing.proofs.FaultTokens.{HasToken, HasStart}
 
--- a token is at the offset of a fault, and means what one of its rule may
-abbrev pub IsIn : Tokens → Fault → Type 0
-IsIn script f = (m : Meaning) × HasToken script m f.at × (breaks_at f.rule m ≡ true)
+-- a script of a module, where these calls are registered
+pub record Script : Type 0 where
+  pub tokens : Tokens
+  pub calls : List Call
+  pub items : List Item
+
+abbrev pub StandsIn : Script → Phrase → Type 0
+StandsIn script x = Stands script.calls script.items x
+
+abbrev pub Wrong : Script → Rule → ℕ → Meaning → Type 0
+Wrong script rule at m = IsWrong script.calls script.items rule at m
+
+-- a token is at the offset of a fault, means what one of its rule may, and there the rule is broken
+abbrev pub IsIn : Script → Fault → Type 0
+IsIn script f = (m : Meaning) × HasToken script.tokens m f.at × (breaks_at f.rule m ≡ true) × Wrong script f.rule f.at m
 
 -- an answer of this kind, or a fault that is at a token
-pub data Answers (script : Tokens) {A : Type 0} (Q : A → Type 0) : Checking A → Type 0 where
+pub data Answers (script : Script) {A : Type 0} (Q : A → Type 0) : Checking A → Type 0 where
   fine : {x : A} → Q x → Answers script Q (Ok x)
   faulty : {f : Fault} → IsIn script f → Answers script Q (Err f)
 
 -- whatever is answered
-abbrev pub Fine : Tokens → {A : Type 0} → Checking A → Type 0
+abbrev pub Fine : Script → {A : Type 0} → Checking A → Type 0
 Fine script {A} r = Answers script (λ (x : A). Unit {0}) r
 
 -- a typed expression at a token
-abbrev pub At : Tokens → Checking Typed → Type 0
-At script r = Answers script (λ (t : Typed). HasStart script t.at) r
+abbrev pub At : Script → Checking Typed → Type 0
+At script r = Answers script (λ (t : Typed). HasStart script.tokens t.at) r
 
 -- a fault of a type, or of what is written to, at the first token of an expression
 
@@ -36,19 +59,33 @@ past_return m h = go (is_return m)
     go true = refl
     go false = h
 
-pub mismatch : {script : Tokens} {A : Type 0} {Q : A → Type 0} {at : ℕ} → HasStart script at → Answers script Q (broken rules.TypeMismatch at)
-mismatch h = faulty (h.0, h.1, past_return h.0 h.2)
+pub mismatch : {script : Script} {A : Type 0} {Q : A → Type 0} {at : ℕ} → HasStart script.tokens at → Answers script Q (broken rules.TypeMismatch at)
+mismatch h = faulty (h.0, h.1, past_return h.0 h.2, meaning.mismatch)
 
-pub no_place : {script : Tokens} {A : Type 0} {Q : A → Type 0} {at : ℕ} → HasStart script at → Answers script Q (broken rules.NotAssignable at)
-no_place h = faulty h
+pub no_place : {script : Script} {A : Type 0} {Q : A → Type 0} {at : ℕ} → HasStart script.tokens at → ((m : Meaning) → Wrong script rules.NotAssignable at m) → Answers script Q (broken rules.NotAssignable at)
+no_place h w = faulty (h.0, h.1, h.2, w h.0)
 
-pub bind : {script : Tokens} {A B : Type 0} {Q : A → Type 0} {S : B → Type 0} {r : Checking A} {f : A → Checking B} → Answers script Q r → ((x : A) → Q x → Answers script S (f x)) → Answers script S (r >>= f)
+-- a name that a phrase declares, and that is taken
+pub name_taken : {script : Script} {A : Type 0} {Q : A → Type 0} {x : Phrase} (n : Naming) → StandsIn script x → named_by x ≡ Some n → HasToken script.tokens (name n.text) n.at → n.is_refused ≡ true → Answers script Q (broken rules.NameTaken n.at)
+name_taken n r e h b = faulty (name n.text, h, refl, meaning.taken r e b)
+
+pub bind : {script : Script} {A B : Type 0} {Q : A → Type 0} {S : B → Type 0} {r : Checking A} {f : A → Checking B} → Answers script Q r → ((x : A) → Q x → Answers script S (f x)) → Answers script S (r >>= f)
 bind (fine {x = x} q) go = go x q
 bind (faulty h) go = faulty h
 
-pub either : {script : Tokens} {A : Type 0} {Q : A → Type 0} (b : Bool) {x y : Checking A} → Answers script Q x → Answers script Q y → Answers script Q (if b then x else y)
-either true p q = p
-either false p q = q
+-- where what is bound is asked for
+pub bind_by : {script : Script} {A B : Type 0} {Q : A → Type 0} {S : B → Type 0} {r : Checking A} {f : A → Checking B} → Answers script Q r → ((x : A) → r ≡ Ok x → Q x → Answers script S (f x)) → Answers script S (r >>= f)
+bind_by (fine {x = x} q) go = go x refl q
+bind_by (faulty h) go = faulty h
+
+-- where one thing alone is bound
+pub bind_to : {script : Script} {A B : Type 0} {S : B → Type 0} {y : A} {r : Checking A} (f : A → Checking B) → Answers script (λ (x : A). x ≡ y) r → Answers script S (f y) → Answers script S (r >>= f)
+bind_to {script} {S = S} f (fine {x = x} q) go = subst (λ z. Answers script S (f z)) (sym q) go
+bind_to f (faulty h) go = faulty h
+
+pub either : {script : Script} {A : Type 0} {Q : A → Type 0} (b : Bool) {x y : Checking A} → (b ≡ true → Answers script Q x) → (b ≡ false → Answers script Q y) → Answers script Q (if b then x else y)
+either true p q = p refl
+either false p q = q refl
 
 pub choose_start : (script : Tokens) (b : Bool) (x y : ℕ) → HasStart script x → HasStart script y → HasStart script (if b then x else y)
 choose_start script true x y p q = p
@@ -61,6 +98,36 @@ no_answer : {A : Type 0} (x : A) (f : Fault) → ◌≡◌ {A = Checking A} (Ok 
 no_answer x f h = cc
 
 -- a fault that is answered is at a token
-pub is_in : {script : Tokens} {A : Type 0} {Q : A → Type 0} {r : Checking A} → Answers script Q r → (f : Fault) → r ≡ Err f → IsIn script f
+pub is_in : {script : Script} {A : Type 0} {Q : A → Type 0} {r : Checking A} → Answers script Q r → (f : Fault) → r ≡ Err f → IsIn script f
 is_in (fine {x = x} q) f h = absurd (no_answer x f h)
 is_in {script} (faulty {f = g} k) f h = subst (IsIn script) (same_fault g f h) k
+
+-- the names in types, which mean everywhere the same
+
+-- what a phrase of the module sees of it
+abbrev pub IsOf : Script → Environment → Type 0
+IsOf script env = (env.heads ≡ heads script.calls script.items) × (env.registered ≡ script.calls)
+
+abbrev pub type_named : Environment → List ℕ → Option ObjectType
+type_named env text = object_named env.registered env.heads text
+
+pub same_named : (script : Script) (env : Environment) (text : List ℕ) → IsOf script env → type_named env text ≡ object_named script.calls (heads script.calls script.items) text
+same_named script env text see = rw (see.0, see.1) refl
+
+-- no type has the name, as the phrase sees it
+pub unnamed : (script : Script) (env : Environment) (text : List ℕ) → IsOf script env → type_named env text ≡ None → object_named script.calls (heads script.calls script.items) text ≡ None
+unnamed script env text see h = subst (λ o. o ≡ None) (same_named script env text see) h
+
+same_types : (script : Script) (env : Environment) (of : Named) → IsOf script env → ty_in env of ≡ ty_named script.calls (heads script.calls script.items) of
+same_types script env of see = rw (see.0, see.1) refl
+
+-- what is wrong with a type that a phrase writes
+pub record Miswritten (script : Script) (env : Environment) (used : TypeUse) : Type 0 where
+  pub unknown : (text : List ℕ) → type_named env text ≡ None → Wrong script rules.UnknownType (at_type_name used.of) (name text)
+  pub misplaced : (o : ObjectType) (m : Meaning) → ty_in env used.of ≡ Object o → is_misplaced used o ≡ true → Wrong script rules.Misplaced (at_type used.of) m
+
+pub miswritten : (script : Script) (env : Environment) (x : Phrase) (used : TypeUse) → IsOf script env → StandsIn script x → written_by x ≡ Some used → Miswritten script env used
+miswritten script env x used see r e = record {
+  unknown = λ text n. meaning.no_type r e (unnamed script env text see n);
+  misplaced = λ o m t b. meaning.misplaced_type r e (subst (λ u. u ≡ Object o) (same_types script env used.of see) t) b;
+}

@@ -1,4 +1,4 @@
--- The fault of a derived module is at a token.
+-- The fault of a derived module is at a token, where the rule is broken.
 use Rattle.std.proofs.Common.{◌≡◌, ℕ, suc, List, [], ◌∷◌, true, Err, refl, sym, subst, arith}
 use Rattle.std.specs.List.{Any}
 use Rattle.ash_lex.specs.Tokens.{Meaning}
@@ -10,8 +10,9 @@ use Rattle.ash_tree.specs.Tree.{Item}
 use Rattle.ash_typing.specs.declared.fault.Fault.{Fault}
 use Rattle.ash_typing.specs.Items.{module_typed}
 use Rattle.ash_typing.specs.FaultPlaces.{breaks_at, IsTokenOf, IsFaultOf}
+use Rattle.ash_typing.specs.FaultMeaning.{IsWrong, IsBrokenAt}
 use Rattle.ash_typing.proofs.FaultTokens.{HasToken, AreIn}
-use Rattle.ash_typing.proofs.FaultAnswers.{IsIn, is_in}
+use Rattle.ash_typing.proofs.FaultAnswers.{Script, IsIn, is_in}
 use Rattle.ash_typing.proofs.DerivedItems.{items_in}
 use Rattle.ash_typing.proofs.FaultItems.{module_in}
 
@@ -44,10 +45,14 @@ all_in (t ∷ ts) = (record { token = any_here (λ (x : Meaning × Place). (x.0 
 
 -- the fault
 
+pub fault_broken : (calls : List Call) (free : ℕ) (tokens : Tokens) (is : List Item) (fault : Fault) → Derives free tokens is → module_typed calls is ≡ Err fault → IsBrokenAt calls is tokens fault
+fault_broken calls free tokens is fault d h =
+    let script : Script = record { tokens = tokens; calls = calls; items = is } in
+    let found : IsIn script fault = is_in (module_in script (items_in tokens d (all_in tokens))) fault h in
+    any_map (λ (t : Meaning × Place). (t.0 ≡ found.0) × (t.1.at ≡ fault.at)) (λ (t : Meaning × Place). (t.1.at ≡ fault.at) × (breaks_at fault.rule t.0 ≡ true) × IsWrong calls is fault.rule fault.at t.0) tokens (λ t k. (k.1, subst (λ m. breaks_at fault.rule m ≡ true) (sym k.0) found.2, subst (λ m. IsWrong calls is fault.rule fault.at m) (sym k.0) found.3)) (found.1).token
+
 pub fault_at : (calls : List Call) (free : ℕ) (tokens : Tokens) (is : List Item) (fault : Fault) → Derives free tokens is → module_typed calls is ≡ Err fault → IsFaultOf tokens fault
-fault_at calls free tokens is fault d h =
-    let found : IsIn tokens fault = is_in (module_in tokens calls is (items_in tokens d (all_in tokens))) fault h in
-    any_map (λ (t : Meaning × Place). (t.0 ≡ found.0) × (t.1.at ≡ fault.at)) (λ (t : Meaning × Place). (t.1.at ≡ fault.at) × (breaks_at fault.rule t.0 ≡ true)) tokens (λ t k. (k.1, subst (λ m. breaks_at fault.rule m ≡ true) (sym k.0) found.2)) (found.1).token
+fault_at calls free tokens is fault d h = any_map (λ (t : Meaning × Place). (t.1.at ≡ fault.at) × (breaks_at fault.rule t.0 ≡ true) × IsWrong calls is fault.rule fault.at t.0) (λ (t : Meaning × Place). (t.1.at ≡ fault.at) × (breaks_at fault.rule t.0 ≡ true)) tokens (λ t k. (k.0, k.1)) (fault_broken calls free tokens is fault d h)
 
 pub fault_token : (calls : List Call) (free : ℕ) (tokens : Tokens) (is : List Item) (fault : Fault) → Derives free tokens is → module_typed calls is ≡ Err fault → IsTokenOf tokens fault.at
 fault_token calls free tokens is fault d h = any_map (λ (t : Meaning × Place). (t.1.at ≡ fault.at) × (breaks_at fault.rule t.0 ≡ true)) (λ (t : Meaning × Place). t.1.at ≡ fault.at) tokens (λ t k. k.0) (fault_at calls free tokens is fault d h)

@@ -31,7 +31,9 @@ pub mod FaultTokens
 pub mod DerivedPlaces
 pub mod DerivedItems
 pub mod FaultAnswers
+pub mod FaultPhrases
 pub mod FaultExpressions
 pub mod FaultStatements
+pub mod FaultNames
 pub mod FaultItems
 pub mod FaultLaws

@@ -65,7 +65,7 @@ pub record CanTake (n : Names) (names : List (List ℕ)) (k : ℕ) : Type 0 wher
 abbrev pub names_with : Names → List (List ℕ) → ℕ → Names
 names_with n taken room = record { registered = n.registered; taken = taken; room = room }
 
-same_names : (n : Names) (t u : List (List ℕ)) (j k : ℕ) → t ≡ u → j ≡ k → names_with n t j ≡ names_with n u k
+pub same_names : (n : Names) (t u : List (List ℕ)) (j k : ℕ) → t ≡ u → j ≡ k → names_with n t j ≡ names_with n u k
 same_names n t u j k h e = rw (h, e) refl
 
 pub grown-none : (n : Names) → grown n [] 0 ≡ n
@@ -99,7 +99,7 @@ is_none : {A : Type 0} (o : Option A) → is_some o ≡ false → o ≡ None
 is_none None h = refl
 is_none (Some x) h = absurd (cc)
 
-neither : {P : Type 0} (a b : Bool) → (a || b) ≡ false → (a ≡ false → b ≡ false → P) → P
+pub neither : {P : Type 0} (a b : Bool) → (a || b) ≡ false → (a ≡ false → b ≡ false → P) → P
 neither true b h k = absurd (cc)
 neither false b h k = k refl h
 

@@ -17,6 +17,8 @@ pub mod TypedStatements
 pub mod Items
 pub mod TypedModules
 pub mod FaultPlaces
+pub mod Phrases
+pub mod FaultMeaning
 pub mod Offered
 pub mod Soundness
 pub mod Nesting

@@ -4,8 +4,9 @@
 //! `TypedStatements`, of modules in `TypedModules`. The walk that finds the first fault stands in `Expressions`,
 //! `Declarations`, `Statements` and `Items`. What both need stands in neither: in `Types`, `Terms`, `Environment`,
 //! `Fitting`, `Heads`, `Scopes`, `Returning`, `Labels` and `Implementations`. `typing` and `modules` say that the two are
-//! one, and that each fault of a module is at one of its tokens: at which, `FaultPlaces` says. `soundness` says that what
-//! the rules type is sound, as `ash_typed` says it of the typed tree alone.
+//! one, and that each fault of a module is at one of its tokens, where its rule is broken: at which, `FaultPlaces` says,
+//! and what is wrong there, `FaultMeaning`. `soundness` says that what the rules type is sound, as `ash_typed` says it of
+//! the typed tree alone.
 //! The crate stands on `ash_lex` and `ash_tree`, whose tokens and trees are typed, on `ash_registrations`, and on
 //! `ash_typed`, whose trees are the typed ones. It types nothing itself: `ash_expressions` and `ash_check` do, by these
 //! definitions.
@@ -22,7 +23,9 @@ mod typing;
 
 pub use fault::{Fault, Rule};
 pub use forms::{Callable, Form, Operator, Sort};
-pub use modules::{faults_are_at_tokens, typing_of_modules, typing_of_statements};
+pub use modules::{
+    faults_are_at_tokens, faults_are_what_they_say, typing_of_modules, typing_of_statements,
+};
 pub use soundness::typed_is_sound;
 pub use types::Ty;
 pub use typing::{

@@ -7,6 +7,7 @@ ghost use Rattle.ash_tree.specs.Grammar.{Derives};
 ghost use Rattle.ash_tree.specs.Tokens.{Tokens};
 ghost use Rattle.ash_tree.specs.Tree as written;
 ghost use Rattle.ash_typing.specs.declared.fault.Fault.{Fault};
+ghost use Rattle.ash_typing.specs.FaultMeaning.{IsBrokenAt};
 ghost use Rattle.ash_typing.specs.FaultPlaces.{IsTokenOf, IsFaultOf};
 ghost use Rattle.ash_typing.specs.Items.{module_typed};
 ghost use Rattle.ash_typed.specs.Modules as modules;
@@ -50,4 +51,11 @@ pub fn faults_are_at_tokens()
         Derives free tokens is → module_typed calls is ≡ Err fault → IsTokenOf tokens fault.at }
     ensures at_its_token { (calls : List Call) (free : ℕ) (tokens : Tokens) (is : List written.Item) (fault : Fault) →
         Derives free tokens is → module_typed calls is ≡ Err fault → IsFaultOf tokens fault }
+{}
+
+/// That where the fault of a module is told, its rule is broken: a phrase stands there of which what the rule says is
+/// true, with what that phrase sees. It does nothing when it runs.
+pub fn faults_are_what_they_say()
+    ensures broken_there { (calls : List Call) (free : ℕ) (tokens : Tokens) (is : List written.Item) (fault : Fault) →
+        Derives free tokens is → module_typed calls is ≡ Err fault → IsBrokenAt calls is tokens fault }
 {}

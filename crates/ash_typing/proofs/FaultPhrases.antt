@@ -1,0 +1,90 @@
+-- Each phrase of a module sees what all its items declare, and all that is registered.
+use Rattle.std.proofs.Common.{◌≡◌, List, refl}
+use Rattle.ash_registrations.specs.Calls.{Call}
+use Rattle.ash_tree.specs.Tree as written
+use Rattle.ash_typing.specs.Environment.{Environment, target, method}
+use Rattle.ash_typing.specs.Heads.{heads}
+use Rattle.ash_typing.specs.Scopes.{Scope, block_of, behind}
+use Rattle.ash_typing.specs.Phrases.{Phrase, environment_of, Stands, call_arguments, converted, array_arguments, cast, before_suffixes, first_operand, condition, otherwise, value, argument, other_arguments, linked, other_links, method_arguments, index, other_suffixes, initial_value, initial_arguments, local, other_locals, locals, evaluated, block, if_condition, if_body, else_condition, then_body, else_body, while_condition, while_body, do_condition, do_body, for_head, for_condition, for_steps, for_body, switch_value, statement, other_statements, labelled, other_cases, parameters, other_parameters, other_variables, method_parameters, other_methods, other_interfaces, fields, other_members, items, other_items, interfaces, methods, function, globals}
+use Rattle.ash_typing.specs.Expressions.{in_brackets, chosen}
+use Rattle.ash_tree.specs.Tree.{suffixes, operand, links, cases, members}
+use Rattle.ash_typing.specs.Statements.{returned}
+use Rattle.ash_typing.specs.TypedModules.{body, variable, constructor}
+
+abbrev pub Sees : List Call → List written.Item → Environment → Type 0
+Sees calls is env = (env.heads ≡ heads calls is) × (env.registered ≡ calls)
+
+-- a statement changes only the locals that are seen behind it
+behind_sees : (calls : List Call) (is : List written.Item) (scope : Scope) (s : written.Stmt) → Sees calls is scope.env → Sees calls is (behind scope s).env
+behind_sees calls is scope (written.Declare p v) h = h
+behind_sees calls is scope _ h = h
+
+pub sees : {calls : List Call} {is : List written.Item} {x : Phrase} → Stands calls is x → Sees calls is (environment_of x)
+sees (call_arguments r) = sees r
+sees (in_brackets r) = sees r
+sees (converted r) = sees r
+sees (array_arguments r) = sees r
+sees (cast r) = sees r
+sees (before_suffixes r) = sees r
+sees (suffixes r e) = sees r
+sees (operand r) = sees r
+sees (first_operand r) = sees r
+sees (links r) = sees r
+sees (condition r) = sees r
+sees (chosen r) = sees r
+sees (otherwise r) = sees r
+sees (target r) = sees r
+sees (value r) = sees r
+sees (argument r) = sees r
+sees (other_arguments r) = sees r
+sees (linked r) = sees r
+sees (other_links r) = sees r
+sees (method_arguments r) = sees r
+sees (index r) = sees r
+sees (other_suffixes r e) = sees r
+sees (initial_value r) = sees r
+sees (initial_arguments r) = sees r
+sees (local r) = sees r
+sees (other_locals r) = sees r
+sees (locals r e) = sees r
+sees (evaluated r) = sees r
+sees (block r) = sees r
+sees (if_condition r) = sees r
+sees (if_body r) = sees r
+sees (else_condition r) = sees r
+sees (then_body r) = sees r
+sees (else_body r) = sees r
+sees (while_condition r) = sees r
+sees (while_body r) = sees r
+sees (do_condition r) = sees r
+sees (do_body r) = sees r
+sees (for_head r) = sees r
+sees {calls} {is} (for_condition {scope = scope} {f = f} r) = behind_sees calls is (block_of scope) f (sees r)
+sees {calls} {is} (for_steps {scope = scope} {f = f} r) = behind_sees calls is (block_of scope) f (sees r)
+sees {calls} {is} (for_body {scope = scope} {f = f} r) = behind_sees calls is (block_of scope) f (sees r)
+sees (switch_value r) = sees r
+sees (cases r e) = sees r
+sees (returned r) = sees r
+sees (statement r) = sees r
+sees {calls} {is} (other_statements {scope = scope} {s = s} r) = behind_sees calls is scope s (sees r)
+sees (labelled r) = sees r
+sees (other_cases r) = sees r
+sees (parameters r) = sees r
+sees (other_parameters r e) = sees r
+sees (body r e) = sees r
+sees (variable r) = sees r
+sees (other_variables r) = sees r
+sees (method_parameters r) = sees r
+sees (other_methods r) = sees r
+sees (other_interfaces r) = sees r
+sees (fields r e) = sees r
+sees (method r e) = sees r
+sees (constructor r) = sees r
+sees (other_members r) = sees r
+sees items = (refl, refl)
+sees (other_items r) = sees r
+sees (interfaces r) = sees r
+sees (members r) = sees r
+sees (methods r) = sees r
+sees (function r e) = sees r
+sees (globals r e) = sees r
