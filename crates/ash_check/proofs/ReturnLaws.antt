@@ -1,13 +1,13 @@
 -- Labels and branches of written statements, and what is behind the last label.
 use Rattle.std.proofs.lemmas.Option.{none-some, same_Some}
-use Rattle.std.proofs.Common.{ℕ, zero, suc, ◌+◌, ◌-◌, length, Some, slice_get, arith, ◌≡◌, List, [], ◌∷◌, map, sym, ap, ◌∙◌, Box, Vec, Global, rules}
+use Rattle.std.proofs.Common.{ℕ, zero, suc, ◌+◌, ◌-◌, ◌<◌, length, Some, slice_get, get_or, drop, drop-cons, add-one, arith, ◌≡◌, List, [], ◌∷◌, map, Bool, true, false, ◌||◌, refl, sym, ap, ◌∙◌, Box, Vec, Global, rules}
 use Rattle.ash_tree.specs.declared.tree.places.Place.{Place}
 use Rattle.ash_tree.specs.declared.tree.statements.Label.{Label}
 use Rattle.ash_tree.specs.declared.tree.statements.StmtKind.TheViews as stmt_views
 use Rattle.ash_tree.specs.declared.tree.statements.Stmt as code_stmt
 use Rattle.ash_tree.specs.declared.tree.statements.Case as code_case
 use Rattle.ash_tree.specs.declared.tree.expressions.Expr as code_expr
-use Rattle.ash_tree.specs.Tree.{If, IfElse, labelled, stmts, cases}
+use Rattle.ash_tree.specs.Tree.{If, IfElse, labelled, next_case, stmts, cases}
 use Rattle.ash_tree.specs.Views.{stmt_at, stmt_of, case_of, expr_of}
 use Rattle.ash_tree.proofs.Rows.{stmts_of-row}
 use Rattle.ash_typing.specs.Returning.{any_returns, last_returns, case_returns}
@@ -25,6 +25,22 @@ case_made p l body = search (rules, stmt_views.the_lemmas, stmts_of-row)
 
 pub case_is : (c : code_case.Case) → case_of c ≡ labelled (code_case.out-Case c).place (code_case.out-Case c).label (stmts (map stmt_of (code_case.out-Case c).body.items))
 case_is c = ap case_of (sym (code_case.roll-out-Case c)) ∙ case_made (code_case.out-Case c).place (code_case.out-Case c).label (code_case.out-Case c).body
+
+pub begins_at : (labels : List code_case.Case) (i : ℕ) (x : code_case.Case) → i < length labels → x ≡ get_or labels i x → drop i labels ≡ x ∷ drop (i + 1) labels
+begins_at labels i x within is = drop-cons labels i x within ∙ ap (λ y. y ∷ drop (suc i) labels) (sym is) ∙ ap (λ m. x ∷ drop m labels) (sym (add-one i))
+
+pub labels_at : (labels : List code_case.Case) (i : ℕ) (x : code_case.Case) → i < length labels → x ≡ get_or labels i x → cases (map case_of (drop i labels)) ≡ next_case (labelled (code_case.out-Case x).place (code_case.out-Case x).label (stmts (map stmt_of (code_case.out-Case x).body.items))) (cases (map case_of (drop (i + 1) labels)))
+labels_at labels i x within is = ap (λ xs. cases (map case_of xs)) (begins_at labels i x within is) ∙ ap (λ c. next_case c (cases (map case_of (drop (i + 1) labels)))) (case_is x)
+
+-- one of several, or another
+
+pub here : (a b : Bool) → a ≡ true → true ≡ (a || b)
+here true b h = refl
+here false b h = cc
+
+pub later : (a b : Bool) → a ≡ false → b ≡ (a || b)
+later true b h = cc
+later false b h = refl
 
 -- the last label
 

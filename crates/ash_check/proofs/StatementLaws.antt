@@ -27,7 +27,7 @@ use Rattle.ash_expressions.specs.declared.stop.Stop.{Stop}
 use Rattle.ash_expressions.specs.declared.stop.Stop.TheVariants as stops
 use Rattle.ash_expressions.specs.Gives.{Fails}
 use Rattle.ash_expressions.specs.Views.{declared_of}
-use Rattle.ash_check.proofs.ReturnLaws.{case_is}
+use Rattle.ash_check.proofs.ReturnLaws.{case_is, begins_at}
 use Rattle.ash_typing.specs.Scopes.{Scope, block_of, behind}
 use Rattle.ash_typing.specs.Labels.{is_last}
 
@@ -174,9 +174,6 @@ known_at kind before x rest = label_typed kind before (is_last (written.cases (m
 
 abbrev body_at : Scope → code_case.Case → Checking Stmts
 body_at scope x = stmts_typed scope (written.stmts (map stmt_of (code_case.out-Case x).body.items))
-
-begins_at : (labels : List code_case.Case) (i : ℕ) (x : code_case.Case) → i < length labels → x ≡ get_or labels i x → drop i labels ≡ x ∷ drop (i + 1) labels
-begins_at labels i x within is = drop-cons labels i x within ∙ ap (λ y. y ∷ drop (suc i) labels) (sym is) ∙ ap (λ m. x ∷ drop m labels) (sym (add-one i))
 
 first_is : (scope : Scope) (kind : Option Kind) (before : List Label) (done : List Case) (labels : List code_case.Case) (i : ℕ) (x : code_case.Case) → i < length labels → x ≡ get_or labels i x → walked scope kind before done (drop i labels) ≡ first_label scope kind before done x (drop (i + 1) labels) (known_at kind before x (drop (i + 1) labels)) (body_at scope x)
 first_is scope kind before done labels i x within is =
