@@ -17,6 +17,7 @@ use Rattle.ash_typing.specs.Declarations.{at_type, at_type_name}
 use Rattle.ash_typing.specs.declared.types.Ty.TheVariants.{Object}
 use Rattle.ash_typing.specs.FaultPlaces.{is_return, begins_expression, breaks_at}
 use Rattle.ash_typing.specs.Phrases.{Phrase, Stands}
+use Rattle.ash_typing.specs.Mismatches.{Mismatches}
 use Rattle.ash_typing.specs.FaultMeaning as meaning
 use Rattle.ash_typing.specs.FaultMeaning.{IsWrong, Naming, named_by, TypeUse, written_by, is_misplaced}
 use Rattle.ash_typing.proofs.FaultTokens.{HasToken, HasStart}
@@ -32,6 +33,10 @@ StandsIn script x = Stands script.calls script.items x
 
 abbrev pub Wrong : Script → Rule → ℕ → Meaning → Type 0
 Wrong script rule at m = IsWrong script.calls script.items rule at m
+
+-- types do not fit at an offset
+abbrev pub Mismatch : Script → ℕ → Type 0
+Mismatch script at = Mismatches script.calls script.items at
 
 -- a token is at the offset of a fault, means what one of its rule may, and there the rule is broken
 abbrev pub IsIn : Script → Fault → Type 0
@@ -59,8 +64,8 @@ past_return m h = go (is_return m)
     go true = refl
     go false = h
 
-pub mismatch : {script : Script} {A : Type 0} {Q : A → Type 0} {at : ℕ} → HasStart script.tokens at → Answers script Q (broken rules.TypeMismatch at)
-mismatch h = faulty (h.0, h.1, past_return h.0 h.2, meaning.mismatch)
+pub mismatch : {script : Script} {A : Type 0} {Q : A → Type 0} {at : ℕ} → HasStart script.tokens at → Mismatch script at → Answers script Q (broken rules.TypeMismatch at)
+mismatch h w = faulty (h.0, h.1, past_return h.0 h.2, meaning.mismatch w)
 
 pub no_place : {script : Script} {A : Type 0} {Q : A → Type 0} {at : ℕ} → HasStart script.tokens at → ((m : Meaning) → Wrong script rules.NotAssignable at m) → Answers script Q (broken rules.NotAssignable at)
 no_place h w = faulty (h.0, h.1, h.2, w h.0)

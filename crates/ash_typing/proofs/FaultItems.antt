@@ -26,16 +26,16 @@ use Rattle.ash_typing.specs.Implementations.{implemented}
 use Rattle.ash_typing.proofs.FaultTokens.{HasToken, NamedIn, TypeNameIn, DeclIn, VarsIn, StmtsIn, ParameterIn, ResultIn, RoutineIn, MemberIn, ClassIn, InterfaceMethodIn, InterfaceIn, ItemIn}
 use Rattle.ash_typing.specs.Phrases as phrases
 use Rattle.ash_typing.specs.Phrases.{Phrase, names_behind, names_of_members, names_of_methods, names_listed}
+use Rattle.ash_typing.specs.Mismatches as mismatches
 use Rattle.ash_typing.specs.FaultMeaning as meaning
 use Rattle.ash_typing.specs.FaultMeaning.{Naming, has_constructor, named_by, counted_by, is_declared, kept, passed, written_by}
 use Rattle.std.proofs.lemmas.List.{length-append}
 use Rattle.ash_registrations.specs.Calls.{Call}
 use Rattle.ash_typing.proofs.FaultNames.{with_name, with_one, with_decls, behind_item, behind_globals, classes_counted, interfaces_counted, behind_method, behind_fields, behind_constructor, behind_signature, behind_listed}
 use Rattle.ash_typing.proofs.TakenNames.{names_with, neither}
-use Rattle.ash_typing.proofs.FaultAnswers.{Script, StandsIn, Wrong, Answers, fine, faulty, Fine, name_taken, bind, bind_by, bind_to, either, IsOf, type_named, same_named, Miswritten, miswritten}
+use Rattle.ash_typing.proofs.FaultAnswers.{Script, StandsIn, Wrong, Mismatch, Answers, fine, faulty, Fine, name_taken, bind, bind_by, bind_to, either, IsOf, type_named, same_named, Miswritten, miswritten}
 use Rattle.ash_typing.proofs.FaultPhrases.{sees}
 use Rattle.ash_typing.proofs.FaultStatements.{IsNamedAt, IsWrittenAt, named_at, written_at, variables_ty_in, decl_in, stmts_in}
-use Rattle.ash_tree.specs.Items.{Routine, routine_of}
 
 -- names
 
@@ -131,20 +131,20 @@ AtListed script env place before n ns = StandsIn script (phrases.Interfaces env 
 not_listed : (script : Script) (env : Environment) (place : ℕ) (before : List written.TypeName) (n : written.TypeName) (ns : List written.TypeName) → AtListed script env place before n ns → is_declared (type_named env n.name) ≡ false → Wrong script rules.UnknownType n.place.at (name n.name)
 not_listed script env place before n ns r b = meaning.no_interface r (subst (λ found. is_declared found ≡ false) (same_named script env n.name (sees r)) b)
 
-listed_at_in : (script : Script) (env : Environment) (place : ℕ) (before : List written.TypeName) (n : written.TypeName) (ns : List written.TypeName) (found : Option ObjectType) → HasToken script.tokens (name n.name) n.place.at → AtListed script env place before n ns → type_named env n.name ≡ found → Fine script (listed_at n.place.at found)
-listed_at_in script env place before n ns (Some (objects.Interface interface)) h r e = fine tt
+listed_at_in : (script : Script) (env : Environment) (place : ℕ) (before : List written.TypeName) (n : written.TypeName) (ns : List written.TypeName) (found : Option ObjectType) → HasToken script.tokens (name n.name) n.place.at → AtListed script env place before n ns → type_named env n.name ≡ found → Answers script (λ (interface : ℕ). type_named env n.name ≡ Some (objects.Interface interface)) (listed_at n.place.at found)
+listed_at_in script env place before n ns (Some (objects.Interface interface)) h r e = fine e
 listed_at_in script env place before n ns (Some (objects.Class class)) h r e = faulty (name n.name, h, refl, meaning.listed_class r (subst (λ found. found ≡ Some (objects.Class class)) (same_named script env n.name (sees r)) e))
 listed_at_in script env place before n ns (Some (objects.Host kind)) h r e = faulty (name n.name, h, refl, not_listed script env place before n ns r (ap is_declared e))
 listed_at_in script env place before n ns (Some (objects.Array of)) h r e = faulty (name n.name, h, refl, not_listed script env place before n ns r (ap is_declared e))
 listed_at_in script env place before n ns None h r e = faulty (name n.name, h, refl, not_listed script env place before n ns r (ap is_declared e))
 
-implemented_in : (script : Script) (at : ℕ) (text : List ℕ) (interface : ℕ) (methods : Option (List ℕ)) → HasToken script.tokens (name text) at → Fine script (implemented_at at interface methods)
-implemented_in script at text interface None h = faulty (name text, h, refl, meaning.mismatch)
-implemented_in script at text interface (Some methods) h = fine tt
+implemented_in : (script : Script) (at : ℕ) (text : List ℕ) (interface : ℕ) (methods : Option (List ℕ)) → HasToken script.tokens (name text) at → (methods ≡ None → Mismatch script at) → Fine script (implemented_at at interface methods)
+implemented_in script at text interface None h z = faulty (name text, h, refl, meaning.mismatch (z refl))
+implemented_in script at text interface (Some methods) h z = fine tt
 
 listed_in : (script : Script) (env : Environment) (place : ℕ) (before : List written.TypeName) (listed : Listed) (n : written.TypeName) (ns : List written.TypeName) → TypeNameIn script.tokens n → listed.names ≡ names_listed before → AtListed script env place before n ns → Answers script (λ (next : Listed). next.names ≡ names_listed (before ++ n ∷ [])) (listed_typed env place listed n)
 unfolding listed_typed
-listed_in script env place before listed n ns h k r = bind (listed_at_in script env place before n ns (type_named env n.name) h r refl) (λ interface u. bind_to _ (untaken_in script listed.names n.place.at n.name (phrases.Interfaces env place before (n ∷ ns)) h r (rw k refl)) (bind (implemented_in script n.place.at n.name interface (implemented env place interface) h) (λ implementation w. fine (ap (λ names. with_name names n.name) k ∙ behind_listed before n))))
+listed_in script env place before listed n ns h k r = bind (listed_at_in script env place before n ns (type_named env n.name) h r refl) (λ interface u. bind_to _ (untaken_in script listed.names n.place.at n.name (phrases.Interfaces env place before (n ∷ ns)) h r (rw k refl)) (bind (implemented_in script n.place.at n.name interface (implemented env place interface) h (λ b. mismatches.lacks_method r (subst (λ found. found ≡ Some (objects.Interface interface)) (same_named script env n.name (sees r)) u) b)) (λ implementation w. fine (ap (λ names. with_name names n.name) k ∙ behind_listed before n))))
 
 all_listed_in : (script : Script) (env : Environment) (place : ℕ) (before : List written.TypeName) (listed : Listed) (ns : List written.TypeName) → AllByRecursion (TypeNameIn script.tokens) ns → listed.names ≡ names_listed before → StandsIn script (phrases.Interfaces env place before ns) → Fine script (all_listed env place listed ns)
 all_listed_in script env place before listed [] h k r = fine tt

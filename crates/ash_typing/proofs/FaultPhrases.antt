@@ -2,14 +2,10 @@
 use Rattle.std.proofs.Common.{◌≡◌, List, refl}
 use Rattle.ash_registrations.specs.Calls.{Call}
 use Rattle.ash_tree.specs.Tree as written
-use Rattle.ash_typing.specs.Environment.{Environment, target, method}
+use Rattle.ash_typing.specs.Environment.{Environment}
 use Rattle.ash_typing.specs.Heads.{heads}
 use Rattle.ash_typing.specs.Scopes.{Scope, block_of, behind}
-use Rattle.ash_typing.specs.Phrases.{Phrase, environment_of, Stands, call_arguments, converted, array_arguments, cast, before_suffixes, first_operand, condition, otherwise, value, argument, other_arguments, linked, other_links, method_arguments, index, other_suffixes, initial_value, initial_arguments, local, other_locals, locals, evaluated, block, if_condition, if_body, else_condition, then_body, else_body, while_condition, while_body, do_condition, do_body, for_head, for_condition, for_steps, for_body, switch_value, statement, other_statements, labelled, other_cases, parameters, other_parameters, other_variables, method_parameters, other_methods, other_interfaces, fields, other_members, items, other_items, interfaces, methods, function, globals}
-use Rattle.ash_typing.specs.Expressions.{in_brackets, chosen}
-use Rattle.ash_tree.specs.Tree.{suffixes, operand, links, cases, members}
-use Rattle.ash_typing.specs.Statements.{returned}
-use Rattle.ash_typing.specs.TypedModules.{body, variable, constructor}
+use Rattle.ash_typing.specs.Phrases.{Phrase, environment_of, Stands, call_arguments, converted, array_arguments, cast, before_suffixes, first_operand, condition, otherwise, value, argument, other_arguments, linked, other_links, method_arguments, index, other_suffixes, initial_value, initial_arguments, local, other_locals, locals, evaluated, block, if_condition, if_body, else_condition, then_body, else_body, while_condition, while_body, do_condition, do_body, for_head, for_condition, for_steps, for_body, switch_value, statement, other_statements, labelled, other_cases, parameters, other_parameters, other_variables, method_parameters, other_methods, other_interfaces, fields, other_members, items, other_items, interfaces, methods, function, globals, in_brackets, suffixes, operand, links, chosen, target, cases, returned, body, variable, method, constructor, members}
 
 abbrev pub Sees : List Call → List written.Item → Environment → Type 0
 Sees calls is env = (env.heads ≡ heads calls is) × (env.registered ≡ calls)
@@ -29,7 +25,7 @@ sees (before_suffixes r) = sees r
 sees (suffixes r e) = sees r
 sees (operand r) = sees r
 sees (first_operand r) = sees r
-sees (links r) = sees r
+sees (links r e) = sees r
 sees (condition r) = sees r
 sees (chosen r) = sees r
 sees (otherwise r) = sees r
@@ -38,7 +34,7 @@ sees (value r) = sees r
 sees (argument r) = sees r
 sees (other_arguments r) = sees r
 sees (linked r) = sees r
-sees (other_links r) = sees r
+sees (other_links r e f) = sees r
 sees (method_arguments r) = sees r
 sees (index r) = sees r
 sees (other_suffixes r e) = sees r

@@ -1,7 +1,5 @@
--- What is wrong where the fault of a module is told, for each rule that one sentence says: a phrase that breaks the rule
--- stands there, with what it sees. Of a `TypeMismatch` no more is said than at which tokens it may be: which two types do
--- not fit differs from phrase to phrase. Nor is it said that nothing before is wrong: which fault is the first is in the
--- definitions of the walk.
+-- What is wrong where the fault of a module is told, for each rule: a phrase that breaks the rule stands there, with what
+-- it sees. It is not said that nothing before is wrong: which fault is the first is in the definitions of the walk.
 use Rattle.std.specs.Prelude.{◌≡◌, ℕ, ◌+◌, Bool, true, false, ◌&&◌, ◌||◌, List, [], ◌∷◌, Option, Some, None, Ok, option_map, length, nat_eq, nat_le}
 use Rattle.std.specs.List.{Any, list_any}
 use Rattle.std.specs.Option.{is_some}
@@ -39,8 +37,8 @@ use Rattle.ash_typing.specs.Returning.{returns_in}
 use Rattle.ash_typing.specs.Items.{is_taken}
 use Rattle.ash_tree.specs.Items.{Routine, classes_of, interfaces_of}
 use Rattle.ash_typing.specs.FaultPlaces.{breaks_at}
-use Rattle.ash_typing.specs.Phrases.{names_behind, names_of_members, names_of_methods, names_listed, Phrase, Expression, Locals, Statement, Parameters, ARoutine, Variables, Methods, Interfaces, ClassMembers, Items, Stands}
-use Rattle.ash_tree.specs.Tree.{Suffixes, Initializer, Cases}
+use Rattle.ash_typing.specs.Mismatches.{counts_behind, Mismatches}
+use Rattle.ash_typing.specs.Phrases.{names_behind, names_of_members, names_of_methods, names_listed, Phrase, Expression, Suffixes, Initializer, Locals, Statement, Cases, Parameters, ARoutine, Variables, Methods, Interfaces, ClassMembers, Items, Stands}
 
 -- how many arguments are given
 
@@ -146,17 +144,12 @@ is_misplaced used o = used.is_passed || is_interface o
 abbrev pub takes_value : Typed → Bool
 takes_value t = is_some (assignable t.form t.tree) && is_stored t.form t.ty
 
--- `++` and `--`, before and behind a place
+-- `++` and `--` before a place
 
 abbrev pub counts : UnaryOp → Bool
 counts unary.Increment = true
 counts unary.Decrement = true
 counts _ = false
-
-abbrev pub counts_behind : written.Suffix → Bool
-counts_behind written.Increment = true
-counts_behind written.Decrement = true
-counts_behind _ = false
 
 -- What is wrong at an offset, where a token means this: in the module of this script, where these calls are registered.
 pub data IsWrong (calls : List Call) (script : List written.Item) : Rule → ℕ → Meaning → Type 0 where
@@ -297,8 +290,10 @@ pub data IsWrong (calls : List Call) (script : List written.Item) : Rule → ℕ
       → Stands calls script (ClassMembers env class before (written.AConstructor c ∷ ms))
       → bytes_eq c.name class ≡ false
       → IsWrong calls script rules.Misplaced c.place.at (name c.name)
-  -- (nothing is said)
-  mismatch : {at : ℕ} {m : Meaning} → IsWrong calls script rules.TypeMismatch at m
+  -- the type of an expression does not fit where it stands
+  mismatch : {at : ℕ} {m : Meaning}
+      → Mismatches calls script at
+      → IsWrong calls script rules.TypeMismatch at m
   -- what stands left of `=` or of `op=` takes no value
   takes_none : {env : Environment} {p : Place} {op : AssignOp} {e v : written.Expr} {t : Typed} {m : Meaning}
       → Stands calls script (Expression env (written.Assign p e op v))

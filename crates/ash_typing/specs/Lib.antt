@@ -18,6 +18,7 @@ pub mod Items
 pub mod TypedModules
 pub mod FaultPlaces
 pub mod Phrases
+pub mod Mismatches
 pub mod FaultMeaning
 pub mod Offered
 pub mod Soundness

@@ -12,9 +12,9 @@ use Rattle.ash_tree.specs.declared.tree.statements.Label.{Label}
 use Rattle.ash_typed.specs.declared.types.Kind.{Kind}
 use Rattle.ash_typing.specs.declared.types.Ty.{Ty}
 use Rattle.ash_typing.specs.declared.types.Ty.TheVariants as ty
-use Rattle.ash_typing.specs.Environment.{Environment, Declared, with_locals, inside}
+use Rattle.ash_typing.specs.Environment.{Environment, Declared, with_locals}
 use Rattle.ash_typing.specs.Heads.{declared, ty_in}
-use Rattle.ash_typing.specs.Expressions.{Typed, typed, suffix_typed}
+use Rattle.ash_typing.specs.Expressions.{Typed, operate, typed, suffix_typed}
 use Rattle.ash_typing.specs.Declarations.{at_type, known_ty}
 use Rattle.ash_typing.specs.Switches.{kind_in}
 use Rattle.ash_typing.specs.Scopes.{Scope, block_of, loop_of, switch_of, with_variables, behind, body_scope}
@@ -48,8 +48,8 @@ with_decl names d = record { registered = names.registered; taken = names.taken 
 pub data Phrase : Type 0 where
   Expression : Environment → written.Expr → Phrase
   Arguments : Environment → written.Exprs → Phrase
-  Links : Environment → written.Links → Phrase
   -- behind what is typed so
+  Links : Environment → Typed → written.Links → Phrase
   Suffixes : Environment → Typed → written.Suffixes → Phrase
   -- of a variable at the second offset, whose type is written at the first
   Initializer : Environment → ℕ → ℕ → Ty → written.Initializer → Phrase
@@ -78,7 +78,7 @@ pub data Phrase : Type 0 where
 abbrev pub environment_of : Phrase → Environment
 environment_of (Expression env e) = env
 environment_of (Arguments env es) = env
-environment_of (Links env ls) = env
+environment_of (Links env t ls) = env
 environment_of (Suffixes env t ss) = env
 environment_of (Initializer env of_at at of i) = env
 environment_of (Locals scope at of ds) = scope.env
@@ -124,9 +124,10 @@ pub data Stands (calls : List Call) (script : List written.Item) : Phrase → Ty
   first_operand : {env : Environment} {p : Place} {e : written.Expr} {ls : written.Links}
       → Stands calls script (Expression env (written.Binary p e ls))
       → Stands calls script (Expression env e)
-  links : {env : Environment} {p : Place} {e : written.Expr} {ls : written.Links}
+  links : {env : Environment} {p : Place} {e : written.Expr} {ls : written.Links} {t : Typed}
       → Stands calls script (Expression env (written.Binary p e ls))
-      → Stands calls script (Links env ls)
+      → typed env false e ≡ Ok t
+      → Stands calls script (Links env t ls)
   condition : {env : Environment} {p : Place} {c a b : written.Expr}
       → Stands calls script (Expression env (written.Conditional p c a b))
       → Stands calls script (Expression env c)
@@ -148,12 +149,14 @@ pub data Stands (calls : List Call) (script : List written.Item) : Phrase → Ty
   other_arguments : {env : Environment} {e : written.Expr} {es : written.Exprs}
       → Stands calls script (Arguments env (written.expr e es))
       → Stands calls script (Arguments env es)
-  linked : {env : Environment} {op : BinaryOp} {e : written.Expr} {ls : written.Links}
-      → Stands calls script (Links env (written.link op e ls))
+  linked : {env : Environment} {t : Typed} {op : BinaryOp} {e : written.Expr} {ls : written.Links}
+      → Stands calls script (Links env t (written.link op e ls))
       → Stands calls script (Expression env e)
-  other_links : {env : Environment} {op : BinaryOp} {e : written.Expr} {ls : written.Links}
-      → Stands calls script (Links env (written.link op e ls))
-      → Stands calls script (Links env ls)
+  other_links : {env : Environment} {t u next : Typed} {op : BinaryOp} {e : written.Expr} {ls : written.Links}
+      → Stands calls script (Links env t (written.link op e ls))
+      → typed env false e ≡ Ok u
+      → operate op t u ≡ Ok next
+      → Stands calls script (Links env next ls)
   method_arguments : {env : Environment} {t : Typed} {p : Place} {text : List ℕ} {es : written.Exprs} {ss : written.Suffixes}
       → Stands calls script (Suffixes env t (written.suffix (written.Method p text es) ss))
       → Stands calls script (Arguments env es)
