@@ -8,7 +8,7 @@ ghost use Rattle.ash_typing.specs.Returning as definition;
 use ash_tree::{Case, Label, Stmt, StmtKind};
 
 #[cycle(breaking)]
-#[tactic(auto, using(ash_tree::proofs::Rows::block_is, crate::proofs::ReturnLaws::if_is, crate::proofs::ReturnLaws::if_else_is))]
+#[tactic(auto, using(crate::proofs::ReturnLaws::if_is, crate::proofs::ReturnLaws::if_else_is))]
 fn breaks(stmt: &Stmt) -> bool
     ensures { result ≡ definition.breaks (stmt_of stmt.now) }
 {
@@ -37,7 +37,6 @@ fn any_breaks(body: &[Stmt]) -> bool
     false
 }
 
-#[tactic(auto, using(crate::proofs::ReturnLaws::case_is))]
 fn breaks_out(labels: &[Case]) -> bool
     ensures { result ≡ definition.breaks_out (cases (map case_of labels.now)) }
 {
@@ -55,7 +54,6 @@ fn is_default(label: Label) -> bool
     matches!(label, Label::Default)
 }
 
-#[tactic(auto, using(crate::proofs::ReturnLaws::case_is))]
 fn has_default(labels: &[Case]) -> bool
     ensures { result ≡ definition.has_default (cases (map case_of labels.now)) }
 {
@@ -69,7 +67,7 @@ fn has_default(labels: &[Case]) -> bool
 
 /// Whether a statement returns.
 #[cycle(returning)]
-#[tactic(auto, using(ash_tree::proofs::Rows::block_is, ash_tree::proofs::Rows::switch_is, crate::proofs::ReturnLaws::if_else_is))]
+#[tactic(auto, using(crate::proofs::ReturnLaws::if_else_is))]
 fn returns(stmt: &Stmt) -> bool
     ensures { result ≡ definition.returns (stmt_of stmt.now) }
 {

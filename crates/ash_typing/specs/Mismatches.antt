@@ -105,7 +105,7 @@ pub data IsUnfit (classes : List Class) : List Ty → List Typed → ℕ → Typ
 
 -- Types do not fit at this offset: in the module of this script, where these calls are registered.
 pub data Mismatches (calls : List Call) (script : List written.Item) : ℕ → Type 0 where
-  -- arguments
+  -- an argument does not fit its parameter
   of_call : {env : Environment} {p : Place} {text : List ℕ} {es : written.Exprs} {callee : Callee} {parameters : List Ty} {ts : List Typed} {at : ℕ}
       → Stands calls script (Expression env (written.Call p text es))
       → callee_in env text ≡ Some callee
@@ -132,7 +132,7 @@ pub data Mismatches (calls : List Call) (script : List written.Item) : ℕ → T
       → callee.parameters ≡ Some parameters
       → IsUnfit env.heads.classes parameters ts arg_at
       → Mismatches calls script arg_at
-  -- operators
+  -- an operand is of no type that its operator takes; of two operands the one is told that the operator takes nowhere
   operand : {env : Environment} {p : Place} {op : UnaryOp} {e : written.Expr} {t : Typed}
       → Stands calls script (Expression env (written.Unary p op e))
       → typed env false e ≡ Ok t
@@ -176,7 +176,7 @@ pub data Mismatches (calls : List Call) (script : List written.Item) : ℕ → T
       → typed env false b ≡ Ok y
       → common x.ty y.ty ≡ None
       → Mismatches calls script (if is_void x.ty then x.at else y.at)
-  -- assignments
+  -- what is assigned does not fit the place, or does not meet with it under the operator of `op=`
   assigned : {env : Environment} {p : Place} {op : AssignOp} {e v : written.Expr} {t u : Typed}
       → Stands calls script (Expression env (written.Assign p e op v))
       → typed env (is_assign op) e ≡ Ok t
