@@ -31,7 +31,7 @@ use Rattle.ash_typing.specs.Terms.{assignable, is_stored, array_parameters}
 use Rattle.ash_typing.specs.Declarations.{at_type, at_type_name}
 use Rattle.ash_typing.specs.Switches.{is_within}
 use Rattle.ash_typing.specs.Labels.{is_same_constant, is_last}
-use Rattle.ash_typing.specs.Statements as statements
+use Rattle.ash_typing.specs.Scopes as scopes
 use Rattle.ash_typing.specs.Scopes.{Scope}
 use Rattle.ash_typing.specs.Returning.{returns_in}
 use Rattle.ash_typing.specs.Items.{is_taken}
@@ -94,7 +94,7 @@ named_by (ClassMembers env class before (written.AConstructor c ∷ ms)) = namin
 named_by (Methods env before (m ∷ ms)) = naming m.place m.name (is_taken (names_of_methods before) m.name)
 named_by (Interfaces env place before (n ∷ ns)) = naming n.place n.name (is_taken (names_listed before) n.name)
 named_by (Parameters env before (x ∷ xs)) = naming x.place x.name (list_any (declares x.name) before)
-named_by (Locals scope at of (d ∷ ds)) = naming d.place d.name (statements.is_taken scope d.name)
+named_by (Locals scope at of (d ∷ ds)) = naming d.place d.name (scopes.is_taken scope d.name)
 named_by _ = None
 
 -- What the first of these declares, where there may be only so many, and whether there are that many before it: 256

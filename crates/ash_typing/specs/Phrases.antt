@@ -12,7 +12,7 @@ use Rattle.ash_tree.specs.declared.tree.statements.Label.{Label}
 use Rattle.ash_typed.specs.declared.types.Kind.{Kind}
 use Rattle.ash_typing.specs.declared.types.Ty.{Ty}
 use Rattle.ash_typing.specs.declared.types.Ty.TheVariants as ty
-use Rattle.ash_typing.specs.Environment.{Environment, Declared, with_locals}
+use Rattle.ash_typing.specs.Environment.{Environment, Declared, with_locals, inside}
 use Rattle.ash_typing.specs.Heads.{declared, ty_in}
 use Rattle.ash_typing.specs.Expressions.{Typed, operate, typed, suffix_typed}
 use Rattle.ash_typing.specs.Declarations.{at_type, known_ty}
