@@ -4,6 +4,10 @@
 //! linear time. Each has one fault, which stands at its very end, so that all the work is done and nothing kept. Beside
 //! the check stands how long the lexer and the parser take alone.
 
+ghost use Rattle.std.specs.Prelude.{IfOk};
+ghost use Rattle.ash_tree.specs.Views.{module_of};
+ghost use Rattle.ash_typing.specs.Nesting.{ItemsDeclareInBlocks};
+
 use crate::rates::Timing;
 use crate::sources::{LENGTHS, SHAPES, script};
 use anyhow::Result;
@@ -16,7 +20,10 @@ use std::alloc::Global;
 use std::io;
 
 /// The tree of a source, with how many tokens it has.
-fn parsed(alloc: Global, text: &str) -> Result<(usize, Module)> {
+#[tactic(auto, using(ash_typing::proofs::SoundnessNesting::derived_proper))]
+fn parsed(alloc: Global, text: &str) -> Result<(usize, Module)>
+    ensures nested { IfOk result (λ found. ItemsDeclareInBlocks (module_of found.1)) }
+{
     let tokens = lex(alloc, text)?;
     let tree = parse_module(alloc, tokens.as_slice())?;
     Ok((tokens.len(), tree))

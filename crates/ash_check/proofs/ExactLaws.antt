@@ -104,3 +104,23 @@ cyclic_is calls items = (go, back)
         let r = some_round classes (told_cycle classes) refl h.1 h.3 in
         let foremost : IsTold (Refers classes) (r.0).0 (r.0).1 = (told_is classes (r.0).0 (r.0).1).0 r.1 in
         (round_of classes r.0, (cycle_is calls items (round_of classes r.0)).1 (h.0, (r.0).0, (r.0).1, h.2, foremost, refl))
+
+-- what is refused for a rule that is broken
+
+same_fault : (x y : Fault) → ◌≡◌ {A = Result Module Told} (Err (Broken x)) (Err (Broken y)) → x ≡ y
+same_fault x y h = cc
+
+other_cycle : (names : List (List ℕ)) (f : Fault) → ◌≡◌ {A = Result Module Told} (Err (Cyclic names)) (Err (Broken f)) → ⊥
+other_cycle names f h = cc
+
+unless_broken : (classes : List Class) (way : Option (ℕ × List ℕ)) (m : Module) (f : Fault) → unless_round classes way m ≡ Err (Broken f) → ⊥
+unless_broken classes None m f h = not_cyclic m (Broken f) h
+unless_broken classes (Some way) m f h = other_cycle (round_of classes way) f h
+
+by_broken : (classes : List Class) (r : Checking Module) (f : Fault) → checked_by classes r ≡ Err (Broken f) → r ≡ Err f
+by_broken classes (Ok m) f h = absurd (unless_broken classes (told_cycle classes) m f h)
+by_broken classes (Err other) f h = ap Err (same_fault other f h)
+
+pub broken_is : (calls : List Call) (items : List Item) (fault : Fault) → (checked calls items ≡ Err (Broken fault)) ↔ (module_typed calls items ≡ Err fault)
+unfolding checked
+broken_is calls items fault = (by_broken (classes_of items) (module_typed calls items) fault, λ h. ap (checked_by (classes_of items)) h)

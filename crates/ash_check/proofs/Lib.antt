@@ -4,3 +4,4 @@ pub mod StatementLaws
 pub mod NodeLaws
 pub mod ExactLaws
 pub mod MethodLaws
+pub mod CheckedLaws

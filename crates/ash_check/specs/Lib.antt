@@ -2,3 +2,4 @@ pub mod Told
 pub mod WalkViews
 pub mod StatementViews
 pub mod Checks
+pub mod CheckedModules

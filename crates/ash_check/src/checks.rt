@@ -8,29 +8,24 @@ ghost use Rattle.ash_tree.specs.Tree.{Item};
 ghost use Rattle.ash_tree.specs.Views.{module_of as written_module};
 ghost use Rattle.ash_typed.specs.Modules as modules;
 ghost use Rattle.ash_typed.specs.Modules.{module_of};
+ghost use Rattle.ash_typing.specs.declared.fault.Fault.{Fault};
+ghost use Rattle.ash_typing.specs.Items as definition;
+ghost use Rattle.ash_typing.specs.Nesting.{ItemsDeclareInBlocks};
 ghost use Rattle.ash_typing.specs.TypedModules.{IsTyped};
 ghost use Rattle.ash_classes.specs.References.{Refers, classes_of, seen};
 ghost use Rattle.ash_classes.specs.Ways.{IsTold, Reaches, AreRanks};
-ghost use Rattle.ash_check.specs.Checks.{Cyclic, checked, Tells, told_of, name_at, round_of, GoesRoundIfCyclic};
+ghost use Rattle.ash_check.specs.CheckedModules.{IsChecked};
+ghost use Rattle.ash_check.specs.Checks.{Broken, Cyclic, checked, Tells, told_of, name_at, round_of, GoesRoundIfCyclic};
 
+use crate::checked::Checked;
 use crate::faults::{CheckFault, ClassNames};
 use crate::items::module_typed;
 use ash_classes::{Cycle, class_ranks, classes};
 use ash_registrations::Registrations;
 use ash_registry::Registry;
 use ash_tree::Class;
-use ash_typed::Module;
 use std::alloc::{AllocError, Global};
-
-/// A script that was checked.
-#[derive(Drop)]
-pub struct Checked {
-    /// What the script declares, typed.
-    pub module: Module,
-    /// A rank for each class, by its place in `module.classes`: a number below that of the classes, and greater than the
-    /// rank of each class that it refers to.
-    pub ranks: Vec<usize>,
-}
+use std::snapshot::Snapshot;
 
 // The names of the classes at these places.
 fn names_at(alloc: Global, classes: &[&Class], places: &[usize]) -> Result<Vec<String>, AllocError>
@@ -67,21 +62,34 @@ fn check_by(
     registry: &Registrations,
     script: &ash_tree::Module,
 ) -> Result<Checked, CheckFault>
-    ensures answer { MatchResult result (λ done. checked (table.registered registry.now) (written_module script.now) ≡ Ok (module_of done.module)) (λ fault. Tells (checked (table.registered registry.now) (written_module script.now)) fault) }
-    ensures typed { IfOk result (λ done. IsTyped (table.registered registry.now) (written_module script.now) (module_of done.module)) }
-    ensures ranks { IfOk result (λ done. AreRanks (Refers (classes_of (written_module script.now))) (length (classes_of (written_module script.now))) done.ranks.items) }
-    ensures acyclic { OnOk result ((class : ℕ) → Reaches (Refers (classes_of (written_module script.now))) class class → ⊥) }
+    requires nested { ItemsDeclareInBlocks (written_module script.now) }
+    ensures answer { MatchResult result
+        (λ done. checked (table.registered registry.now) (written_module script.now) ≡ Ok (module_of done.typed))
+        (λ fault. Tells (checked (table.registered registry.now) (written_module script.now)) fault) }
+    ensures typed { IfOk result (λ done.
+        IsTyped (table.registered registry.now) (written_module script.now) (module_of done.typed)) }
+    ensures ranks { IfOk result (λ done. AreRanks (Refers (classes_of (written_module script.now)))
+        (length (classes_of (written_module script.now))) done.ranks) }
+    ensures registered { IfOk result (λ done. done.registered ≡ table.registered registry.now) }
+    ensures sound { IfOk result (λ done. IsChecked (table.registered registry.now) (module_of done.typed) done.ranks) }
+    ensures acyclic { OnOk result ((class : ℕ) →
+        Reaches (Refers (classes_of (written_module script.now))) class class → ⊥) }
     ensures round { IfErr result (λ fault. GoesRoundIfCyclic (classes_of (written_module script.now)) (told_of fault)) }
 {
     let module = module_typed(alloc, registry, script)?;
     match class_ranks(alloc, script)? {
-        Ok(ranks) => Ok(Checked { module, ranks }),
+        Ok(ranks) => Ok(Checked {
+            module,
+            ranks,
+            registrations: Snapshot::of(registry),
+        }),
         Err(cycle) => Err(CheckFault::CyclicType(round_names(alloc, script, &cycle)?)),
     }
 }
 
 /// Checks a script by itself and against what is registered: names, types, where phrases may stand, limits, and that
-/// none of its classes could form a cycle.
+/// none of its classes could form a cycle. Its declarations must be in blocks or in the heads of loops, as in every script
+/// that the grammar derives.
 ///
 /// # Errors
 ///
@@ -93,10 +101,18 @@ pub fn check(
     registry: &Registry,
     script: &ash_tree::Module,
 ) -> Result<Checked, CheckFault>
-    ensures answer { MatchResult result (λ done. checked (registered registry.now) (written_module script.now) ≡ Ok (module_of done.module)) (λ fault. Tells (checked (registered registry.now) (written_module script.now)) fault) }
-    ensures typed { IfOk result (λ done. IsTyped (registered registry.now) (written_module script.now) (module_of done.module)) }
-    ensures ranks { IfOk result (λ done. AreRanks (Refers (classes_of (written_module script.now))) (length (classes_of (written_module script.now))) done.ranks.items) }
-    ensures acyclic { OnOk result ((class : ℕ) → Reaches (Refers (classes_of (written_module script.now))) class class → ⊥) }
+    requires nested { ItemsDeclareInBlocks (written_module script.now) }
+    ensures answer { MatchResult result
+        (λ done. checked (registered registry.now) (written_module script.now) ≡ Ok (module_of done.typed))
+        (λ fault. Tells (checked (registered registry.now) (written_module script.now)) fault) }
+    ensures typed { IfOk result (λ done.
+        IsTyped (registered registry.now) (written_module script.now) (module_of done.typed)) }
+    ensures ranks { IfOk result (λ done. AreRanks (Refers (classes_of (written_module script.now)))
+        (length (classes_of (written_module script.now))) done.ranks) }
+    ensures registered { IfOk result (λ done. done.registered ≡ registered registry.now) }
+    ensures sound { IfOk result (λ done. IsChecked (registered registry.now) (module_of done.typed) done.ranks) }
+    ensures acyclic { OnOk result ((class : ℕ) →
+        Reaches (Refers (classes_of (written_module script.now))) class class → ⊥) }
     ensures round { IfErr result (λ fault. GoesRoundIfCyclic (classes_of (written_module script.now)) (told_of fault)) }
 {
     check_by(alloc, registry.registrations(), script)
@@ -104,7 +120,8 @@ pub fn check(
 
 /// That the check accepts a script, with this typed module, exactly where the rules give it this module and no class
 /// reaches itself. And that it answers a cycle exactly where the rules give it a module and some class reaches itself: the
-/// cycle from the first class that does, by the first of its shortest ways back. It does nothing when it runs.
+/// cycle from the first class that does, by the first of its shortest ways back. Else it answers the first fault of the walk.
+/// It does nothing when it runs.
 pub fn check_is_exact()
     ensures accepted { (calls : List Call) (items : List Item) (typed : modules.Module) →
         (checked calls items ≡ Ok typed) ↔ (IsTyped calls items typed ×
@@ -117,4 +134,6 @@ pub fn check_is_exact()
         (checked calls items ≡ Err (Cyclic names)) ↔
         ((typed : modules.Module) × (first : ℕ) × (others : List ℕ) × IsTyped calls items typed ×
         IsTold (Refers (classes_of items)) first others × (names ≡ round_of (classes_of items) (first, others))) }
+    ensures broken { (calls : List Call) (items : List Item) (fault : Fault) →
+        (checked calls items ≡ Err (Broken fault)) ↔ (definition.module_typed calls items ≡ Err fault) }
 {}

@@ -7,13 +7,17 @@
 //! gives what it says, unless memory runs out; `check_is_exact` says what that is by the rules of typing alone.
 //! Expressions are typed by `ash_expressions`.
 //!
-//! In reading order: `checks`, the whole; `faults`, what is told; `items`, the walk over a module, with `names`,
-//! `interfaces`, `implementations`, `routines`, `declarations` and `bodies`; `heads`, what a module declares;
-//! `statements`, the walk over a body, with `scopes`, what a statement sees, `locals`, `conditions`, `loops`, `switches`
-//! and `jumps`. Beside them `returning`, which statements return.
+//! What is answered is a `Checked`. Of each value of that type it is known, by the typed tree alone, that its module is
+//! sound and that its ranks fall along what its classes hold: `IsChecked` of `specs/CheckedModules.antt`.
+//!
+//! In reading order: `checked`, what is answered; `checks`, the whole; `faults`, what is told; `items`, the walk over a
+//! module, with `names`, `interfaces`, `implementations`, `routines`, `declarations` and `bodies`; `heads`, what a module
+//! declares; `statements`, the walk over a body, with `scopes`, what a statement sees, `locals`, `conditions`, `loops`,
+//! `switches` and `jumps`. Beside them `returning`, which statements return.
 #![tactic(auto)]
 
 mod bodies;
+mod checked;
 mod checks;
 mod conditions;
 mod declarations;
@@ -33,5 +37,6 @@ mod statements;
 mod switches;
 
 pub use ash_classes::search_is_exact;
-pub use checks::{Checked, check, check_is_exact};
+pub use checked::Checked;
+pub use checks::{check, check_is_exact};
 pub use faults::{CheckFault, ClassNames};

@@ -323,8 +323,8 @@ fn ranks_of_a_chain(rt: HostRuntime) -> Result<(), Fail> {
     let source = chain(rt.alloc(), 256)?;
     match checked(rt.alloc(), source.as_str()) {
         Ok(done) => {
-            check_ranks(&rt, done.ranks.as_slice());
-            check_number(&rt, done.module.classes.len(), 256, "the classes");
+            check_ranks(&rt, done.ranks());
+            check_number(&rt, done.module().classes.len(), 256, "the classes");
             Ok(())
         }
         Err(_) => Err(Fail::from("a chain that is no module")),

@@ -1,6 +1,10 @@
 //! Rows: each has what is found of a source, counted by hand, a bar, and the source. What is found is how the check of the
 //! source ends (`ok`, or its fault with the offset), or what another question asks.
 
+ghost use Rattle.std.specs.Prelude.{IfOk};
+ghost use Rattle.ash_tree.specs.Views.{module_of};
+ghost use Rattle.ash_typing.specs.Nesting.{ItemsDeclareInBlocks};
+
 use crate::cycles::cycle_of;
 use crate::expressions::{operands_of, type_of};
 use ash_check::{Checked, check};
@@ -70,7 +74,10 @@ fn registered(alloc: Global) -> Result<Registry, String> {
 }
 
 /// The tree of a source, or its fault.
-pub(crate) fn tree_of(alloc: Global, source: &str) -> Result<Module, String> {
+#[tactic(auto, using(ash_typing::proofs::SoundnessNesting::derived_proper))]
+pub(crate) fn tree_of(alloc: Global, source: &str) -> Result<Module, String>
+    ensures nested { IfOk result (λ tree. ItemsDeclareInBlocks (module_of tree)) }
+{
     let tokens = match lex(alloc, source) {
         Ok(tokens) => tokens,
         Err(fault) => return Err(printed(alloc, &fault)),

@@ -38,7 +38,7 @@ fn lines_and_slots(rt: HostRuntime) -> Result<(), Fail> {
     let Ok(done) = checked(rt.alloc(), SOURCE) else {
         return Err(Fail::from("no module"));
     };
-    let function = done.module.functions.first().ok_or("no function")?;
+    let function = done.module().functions.first().ok_or("no function")?;
     let found = locals_in(rt.alloc(), function)?;
     let wanted = [(2, None), (3, None), (5, Some(1)), (6, Some(2))];
     assert_eq!(rt; found.as_slice(), wanted.as_slice(), "{SOURCE}");

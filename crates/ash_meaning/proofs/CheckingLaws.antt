@@ -1,5 +1,5 @@
 -- The function that checks a source says exactly what the relation says.
-use Rattle.std.proofs.Common.{◌≡◌, ◌↔◌, ℕ, ◌-◌, ◌⊎◌, inl, inr, List, [], ◌∷◌, length, Option, Some, None, option_map, Result, Ok, Err, IsOk, IfOk, IfErr, refl, sym, ◌∙◌, ap, subst}
+use Rattle.std.proofs.Common.{◌≡◌, ◌↔◌, ℕ, ◌-◌, ◌⊎◌, inl, inr, List, [], ◌∷◌, length, Option, Some, None, option_map, Result, Ok, Err, IfOk, IfErr, refl, sym, ◌∙◌, ap, subst}
 use Rattle.std.specs.List.{slice_get}
 use Rattle.std.proofs.lemmas.List.{length-map}
 use Rattle.std.proofs.lemmas.Option.{slice_get-map}
@@ -28,10 +28,12 @@ use Rattle.ash_typing.specs.declared.fault.Rule.{Rule}
 use Rattle.ash_typing.specs.declared.fault.Rule.TheVariants as rules
 use Rattle.ash_typed.specs.Modules.{Module as Typed}
 use Rattle.ash_check.specs.declared.faults.CheckFault.{CheckFault}
-use Rattle.ash_check.specs.Checks.{Told, Broken, Cyclic, checked, told_of, IsWhatIsTold, Tells}
+use Rattle.ash_classes.specs.References.{classes_of}
+use Rattle.ash_check.specs.Checks.{Told, Broken, Cyclic, checked, told_of, round_of, IsWhatIsTold, Tells}
+use Rattle.ash_check.proofs.ExactLaws.{accepted_is, cyclic_is, cycle_is, broken_is}
 use Rattle.ash_meaning.specs.Lexing.{IsText, Lexes, lexical}
 use Rattle.ash_meaning.specs.Scanning.{scan, told, lexed}
-use Rattle.ash_meaning.specs.Checking.{Checking, tokens_in, end_by, end_in, syntactic, refusal_at, IsNoScript, broken_at, untyped, of_told, of_check, IsUntypedScript, ChecksTokens, Checks, no_tokens, has_tokens, unless_told, items_checked, script_checked, tokens_checked, checked_on, checked_source, TakesToTell, TakesToCheck}
+use Rattle.ash_meaning.specs.Checking.{Checking, tokens_in, end_by, end_in, syntactic, refusal_at, IsNoScript, broken_at, untyped, of_told, of_check, IsTypedScript, IsUntypedScript, IsCyclicScript, ChecksTokens, Checks, no_tokens, has_tokens, IsAccepted, HasCycle, ReportsCycle, unless_told, items_checked, script_checked, tokens_checked, checked_on, checked_source, TakesToTell, TakesToCheck}
 use Rattle.ash_meaning.specs.declared.refusal.Refusal as code
 use Rattle.ash_meaning.specs.Refusals.{Refusal, refusal_of}
 use Rattle.ash_meaning.specs.Refusals as refusals
@@ -54,8 +56,14 @@ seen_end ts = rw (length-map ts lexeme_of, slice_get-map lexeme_of ts (length ts
 -- what checking tokens comes to
 
 items_is : (registered : List Call) (tokens : List Lexeme) (items : List Item) → Derives 0 (tokens_in tokens) items → (r : Result Typed Told) → checked registered items ≡ r → ChecksTokens registered tokens (unless_told items r)
-items_is registered tokens items derived (Ok typed) e = record { derived = derived; typed = subst (λ (r : Result Typed Told). IsOk r) (sym e) refl }
-items_is registered tokens items derived (Err why) e = inr (record { items = items; derived = derived; why = why; untyped_is = e; told = refl })
+items_is registered tokens items derived (Ok typed) e =
+    let h = (accepted_is registered items typed).0 e in
+    record { derived = derived; typed = typed; by_rules = h.0; acyclic = h.1 }
+items_is registered tokens items derived (Err (Broken fault)) e =
+    inr (inl (record { items = items; derived = derived; fault = fault; first = (broken_is registered items fault).0 e; told = refl }))
+items_is registered tokens items derived (Err (Cyclic names)) e =
+    let h = (cycle_is registered items names).0 e in
+    inr (inr (record { items = items; derived = derived; typed = h.0; by_rules = h.3; first = h.1; others = h.2; cycle = h.4; told = ap refusals.CyclicType h.5 }))
 
 script_is : (registered : List Call) (tokens : List Lexeme) (o : Parsing (List Item)) → module_at (tokens_in tokens) ≡ o → ChecksTokens registered tokens (script_checked registered tokens o)
 script_is registered tokens (Ok script) e = items_is registered tokens script.0 (module_derived (tokens_in tokens) script.0 script.1 e) (checked registered script.0) refl
@@ -71,21 +79,26 @@ parsed : (registered : List Call) (tokens : List Lexeme) (items : List Item) →
 unfolding tokens_checked
 parsed registered tokens items derived = ap (script_checked registered tokens) (parsed_again (tokens_in tokens) items derived)
 
-when_typed : (items : List Item) (r : Result Typed Told) → IsOk r → unless_told items r ≡ Ok items
-when_typed items (Ok typed) h = refl
-when_typed items (Err why) h = absurd (cc)
+typed_only : (registered : List Call) (tokens : List Lexeme) (items : List Item) → IsTypedScript registered tokens items → tokens_checked registered tokens ≡ Ok items
+typed_only registered tokens items h = parsed registered tokens items h.derived ∙ ap (unless_told items) ((accepted_is registered items h.typed).1 (h.by_rules, h.acyclic))
 
 stopped : (registered : List Call) (tokens : List Lexeme) (refusal : Refusal) → IsNoScript tokens refusal → tokens_checked registered tokens ≡ Err refusal
 unfolding tokens_checked
 stopped registered tokens refusal h = ap (script_checked registered tokens) (first_is_stop (tokens_in tokens) h.halt h.first) ∙ ap (λ (r : Refusal). Err r) (sym h.told)
 
-refused : (registered : List Call) (tokens : List Lexeme) (refusal : Refusal) → IsUntypedScript registered tokens refusal → tokens_checked registered tokens ≡ Err refusal
-refused registered tokens refusal h = parsed registered tokens h.items h.derived ∙ ap (unless_told h.items) h.untyped_is ∙ ap (λ (r : Refusal). Err r) (sym h.told)
+untyped_only : (registered : List Call) (tokens : List Lexeme) (refusal : Refusal) → IsUntypedScript registered tokens refusal → tokens_checked registered tokens ≡ Err refusal
+untyped_only registered tokens refusal h = parsed registered tokens h.items h.derived ∙ ap (unless_told h.items) ((broken_is registered h.items h.fault).1 h.first) ∙ ap (λ (r : Refusal). Err r) (sym h.told)
+
+cyclic_only : (registered : List Call) (tokens : List Lexeme) (refusal : Refusal) → IsCyclicScript registered tokens refusal → tokens_checked registered tokens ≡ Err refusal
+cyclic_only registered tokens refusal h =
+    let found = (cycle_is registered h.items (round_of (classes_of h.items) (h.first, h.others))).1 (h.typed, h.first, h.others, h.by_rules, h.cycle, refl) in
+    parsed registered tokens h.items h.derived ∙ ap (unless_told h.items) found ∙ ap (λ (r : Refusal). Err r) (sym h.told)
 
 tokens_only : (registered : List Call) (tokens : List Lexeme) (checking : Checking) → ChecksTokens registered tokens checking → tokens_checked registered tokens ≡ checking
-tokens_only registered tokens (Ok items) h = parsed registered tokens items h.derived ∙ when_typed items (checked registered items) h.typed
+tokens_only registered tokens (Ok items) h = typed_only registered tokens items h
 tokens_only registered tokens (Err refusal) (inl h) = stopped registered tokens refusal h
-tokens_only registered tokens (Err refusal) (inr h) = refused registered tokens refusal h
+tokens_only registered tokens (Err refusal) (inr (inl h)) = untyped_only registered tokens refusal h
+tokens_only registered tokens (Err refusal) (inr (inr h)) = cyclic_only registered tokens refusal h
 
 -- what checking a source comes to
 
@@ -228,3 +241,86 @@ tells_is items answer (Some why) h = inr (ap (unless_told items) h)
 
 pub typing_refused : (registered : List Call) (items : List Item) (fault : CheckFault) → Tells (checked registered items) fault → (refusal : Refusal) → refusal ≡ of_check fault → (refusal ≡ refusals.NoMemory) ⊎ (items_checked registered items ≡ Err refusal)
 typing_refused registered items fault h refusal is = subst (λ (r : Refusal). (r ≡ refusals.NoMemory) ⊎ (items_checked registered items ≡ Err r)) (sym is) (tells_is items (checked registered items) (told_of fault) h)
+
+-- what is accepted, and what is refused for a cycle, by the rules
+
+-- what the code answers of a source
+abbrev pub Answers : List Call → List ℕ → Refusal → Type 0
+Answers registered source refusal = ((refusal ≡ refusals.NoMemory) × TakesToCheck (checked_source registered source)) ⊎ (checked_source registered source ≡ Err refusal)
+
+accepted_by : (registered : List Call) (source : List ℕ) (items : List Item) (checking : Checking) → checking ≡ Ok items → Checks registered source checking → IsAccepted registered source
+accepted_by registered source items checking is (no_tokens refusal e h) = absurd (cc)
+accepted_by registered source items checking is (has_tokens tokens h checks) =
+    record { tokens = tokens; lexed = h; items = items; script = subst (ChecksTokens registered tokens) is checks }
+
+pub found_accepted : (registered : List Call) (source : List ℕ) (items : List Item) → checked_source registered source ≡ Ok items → IsAccepted registered source
+found_accepted registered source items is = accepted_by registered source items (checked_source registered source) is (checked_source-is registered source)
+
+checked_accepted : (registered : List Call) (source : List ℕ) (h : IsAccepted registered source) → checked_source registered source ≡ Ok h.items
+checked_accepted registered source h = checked_source-only registered source (Ok h.items) (has_tokens h.tokens h.lexed h.script)
+
+-- nothing but memory is in the way of what is accepted
+pub accepted_only : (registered : List Call) (source : List ℕ) (refusal : Refusal) → Answers registered source refusal → IsAccepted registered source → refusal ≡ refusals.NoMemory
+accepted_only registered source refusal (inl h) a = h.0
+accepted_only registered source refusal (inr h) a = absurd (let found : checked_source registered source ≡ Ok a.items = checked_accepted registered source a in cc)
+
+no_syntax : (fault : ParseFault) (names : List (List ℕ)) → syntactic fault ≡ refusals.CyclicType names → ⊥
+no_syntax parse_faults.NoMemory names e = cc
+no_syntax (parse_faults.Unexpected at) names e = cc
+no_syntax (parse_faults.Unsupported word at) names e = cc
+no_syntax (parse_faults.TooDeep at) names e = cc
+
+no_rule : (rule : Rule) (at : ℕ) (names : List (List ℕ)) → broken_at rule at ≡ refusals.CyclicType names → ⊥
+no_rule rules.UnknownName at names e = cc
+no_rule rules.UnknownType at names e = cc
+no_rule rules.NameTaken at names e = cc
+no_rule rules.TypeMismatch at names e = cc
+no_rule rules.WrongArgumentCount at names e = cc
+no_rule rules.NotAssignable at names e = cc
+no_rule rules.NoReturn at names e = cc
+no_rule rules.Misplaced at names e = cc
+no_rule rules.NoFactory at names e = cc
+no_rule rules.TooMany at names e = cc
+no_rule rules.ConstantOutOfRange at names e = cc
+no_rule rules.DuplicateCase at names e = cc
+
+cycle_in : (registered : List Call) (source : List ℕ) (tokens : List Lexeme) (names : List (List ℕ)) → Lexes source (Ok tokens) → ChecksTokens registered tokens (Err (refusals.CyclicType names)) → ReportsCycle registered source (refusals.CyclicType names)
+cycle_in registered source tokens names h (inl no) = absurd (no_syntax (fault_of (end_in tokens) no.halt) names (sym no.told))
+cycle_in registered source tokens names h (inr (inl no)) = absurd (no_rule no.fault.rule no.fault.at names (sym no.told))
+cycle_in registered source tokens names h (inr (inr script)) = record { tokens = tokens; lexed = h; script = script }
+
+cycle_by : (registered : List Call) (source : List ℕ) (names : List (List ℕ)) (checking : Checking) → checking ≡ Err (refusals.CyclicType names) → Checks registered source checking → ReportsCycle registered source (refusals.CyclicType names)
+cycle_by registered source names checking is (no_tokens refusal e h) =
+    let same : refusal ≡ refusals.CyclicType names = cc in
+    absurd (subst (λ (r : Refusal). Lexes source (Err r)) same h)
+cycle_by registered source names checking is (has_tokens tokens h checks) = cycle_in registered source tokens names h (subst (ChecksTokens registered tokens) is checks)
+
+-- a cycle is answered where there is one, and it is the one that is told
+pub cycle_reported : (registered : List Call) (source : List ℕ) (refusal : Refusal) → Answers registered source refusal → (names : List (List ℕ)) → refusal ≡ refusals.CyclicType names → ReportsCycle registered source refusal
+cycle_reported registered source refusal (inl h) names is = absurd (let none : refusal ≡ refusals.NoMemory = h.0 in cc)
+cycle_reported registered source refusal (inr h) names is =
+    subst (ReportsCycle registered source) (sym is) (cycle_by registered source names (checked_source registered source) (h ∙ ap (λ (r : Refusal). Err r) is) (checked_source-is registered source))
+
+-- the refusal of a source with a cycle
+checked_cycle : (registered : List Call) (source : List ℕ) → HasCycle registered source → (refusal : Refusal) × (checked_source registered source ≡ Err refusal) × ReportsCycle registered source refusal
+checked_cycle registered source h =
+    let found = (cyclic_is registered h.items).1 (h.typed, h.class, h.by_rules, h.round) in
+    let k = (cycle_is registered h.items found.0).0 found.1 in
+    let refusal = refusals.CyclicType (round_of (classes_of h.items) (k.1, k.2)) in
+    let script : IsCyclicScript registered h.tokens refusal = record { items = h.items; derived = h.derived; typed = k.0; by_rules = k.3; first = k.1; others = k.2; cycle = k.4; told = refl } in
+    (refusal, checked_source-only registered source (Err refusal) (has_tokens h.tokens h.lexed (inr (inr script))), record { tokens = h.tokens; lexed = h.lexed; script = script })
+
+-- such a source is not accepted
+pub cycle_not_found : (registered : List Call) (source : List ℕ) (items : List Item) → checked_source registered source ≡ Ok items → HasCycle registered source → ⊥
+cycle_not_found registered source items is h =
+    let k = checked_cycle registered source h in
+    let refused : checked_source registered source ≡ Err k.0 = k.1 in
+    cc
+
+pub cycle_only : (registered : List Call) (source : List ℕ) (refusal : Refusal) → Answers registered source refusal → HasCycle registered source → (refusal ≡ refusals.NoMemory) ⊎ ReportsCycle registered source refusal
+cycle_only registered source refusal (inl h) c = inl h.0
+cycle_only registered source refusal (inr h) c =
+    let k = checked_cycle registered source c in
+    let refused : checked_source registered source ≡ Err k.0 = k.1 in
+    let same : k.0 ≡ refusal = cc in
+    inr (subst (ReportsCycle registered source) same k.2)

@@ -4,7 +4,9 @@ use Rattle.ash_lex.specs.Tokens.{Lexeme}
 use Rattle.ash_tree.specs.Tree.{Item}
 use Rattle.ash_registry.specs.Calls.{Call}
 use Rattle.ash_meaning.specs.Lexing.{Lexes}
-use Rattle.ash_meaning.specs.Checking.{Checking, IsNoScript, IsUntypedScript, ChecksTokens, Checks, no_tokens, has_tokens, checked_source, TakesToTell, TakesToCheck}
+use Rattle.ash_classes.specs.References.{classes_of}
+use Rattle.ash_check.specs.Checks.{Broken, Cyclic, round_of}
+use Rattle.ash_meaning.specs.Checking.{Checking, IsNoScript, IsUntypedScript, IsCyclicScript, ChecksTokens, Checks, no_tokens, has_tokens, checked_source, TakesToTell, TakesToCheck}
 use Rattle.ash_subset.specs.Tree.{Module, module_of}
 use Rattle.ash_subset.specs.declared.tree.Module as code
 use Rattle.ash_meaning.specs.Reading.{Reading, ReadsScript, Reads, refused, typed, module_or_none, read_checked, read_source, module_in, module_read, TakesToRead}
@@ -103,11 +105,15 @@ stop_told : (tokens : List Lexeme) (refusal : Refusal) → IsNoScript tokens ref
 stop_told tokens refusal h = takes_is_told refusal (subst TakesToTell (sym h.told) (takes_halt tokens h.halt))
 
 untyped_told : (registered : List Call) (tokens : List Lexeme) (refusal : Refusal) → IsUntypedScript registered tokens refusal → IsTold refusal
-untyped_told registered tokens refusal h = takes_is_told refusal (subst TakesToTell (sym h.told) (takes_untyped h.why))
+untyped_told registered tokens refusal h = takes_is_told refusal (subst TakesToTell (sym h.told) (takes_untyped (Broken h.fault)))
 
-tokens_told : (registered : List Call) (tokens : List Lexeme) (refusal : Refusal) → IsNoScript tokens refusal ⊎ IsUntypedScript registered tokens refusal → IsTold refusal
+cyclic_told : (registered : List Call) (tokens : List Lexeme) (refusal : Refusal) → IsCyclicScript registered tokens refusal → IsTold refusal
+cyclic_told registered tokens refusal h = takes_is_told refusal (subst TakesToTell (sym h.told) (takes_untyped (Cyclic (round_of (classes_of h.items) (h.first, h.others)))))
+
+tokens_told : (registered : List Call) (tokens : List Lexeme) (refusal : Refusal) → IsNoScript tokens refusal ⊎ IsUntypedScript registered tokens refusal ⊎ IsCyclicScript registered tokens refusal → IsTold refusal
 tokens_told registered tokens refusal (inl h) = stop_told tokens refusal h
-tokens_told registered tokens refusal (inr h) = untyped_told registered tokens refusal h
+tokens_told registered tokens refusal (inr (inl h)) = untyped_told registered tokens refusal h
+tokens_told registered tokens refusal (inr (inr h)) = cyclic_told registered tokens refusal h
 
 checks_told : (registered : List Call) (source : List ℕ) (checking : Checking) (refusal : Refusal) → Checks registered source checking → checking ≡ Err refusal → IsTold refusal
 checks_told registered source checking refusal (no_tokens other e h) is =

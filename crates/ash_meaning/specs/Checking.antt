@@ -1,8 +1,9 @@
 -- What checking a source comes to: the items of its script, or the refusal for which it is none that is typed.
 --
--- A source that has no tokens is refused for that, one whose tokens are no script for their first fault, and a script
--- that is not typed for what the check of types tells of it.
-use Rattle.std.specs.Prelude.{◌≡◌, ◌⊎◌, ◌-◌, ℕ, List, length, map, Option, Some, None, Result, Ok, Err, IsOk}
+-- A source that has no tokens is refused for that, and one whose tokens are no script for their first fault. A script is
+-- accepted exactly where the rules of typing give it a typed module and no class reaches itself by what its fields hold. One
+-- that the rules give none is refused for the first fault of the walk, and one with such a class for the cycle that is told.
+use Rattle.std.specs.Prelude.{◌≡◌, ◌⊎◌, ◌-◌, ℕ, List, length, map, Option, Some, None, Result, Ok, Err}
 use Rattle.std.specs.List.{slice_get}
 use Rattle.ash_lex.specs.Tokens.{Meaning, Lexeme}
 use Rattle.ash_tree.specs.declared.tree.places.Place.{Place}
@@ -18,8 +19,13 @@ use Rattle.ash_parse.specs.FirstFault.{FirstFault}
 use Rattle.ash_registry.specs.Calls.{Call as Registration}
 use Rattle.ash_typing.specs.declared.fault.Rule.{Rule}
 use Rattle.ash_typing.specs.declared.fault.Rule.TheVariants as rules
+use Rattle.ash_typing.specs.declared.fault.Fault.{Fault}
+use Rattle.ash_typing.specs.Items.{module_typed}
+use Rattle.ash_typing.specs.TypedModules.{IsTyped}
 use Rattle.ash_typed.specs.Modules.{Module}
-use Rattle.ash_check.specs.Checks.{Told, Broken, Cyclic, checked, told_of}
+use Rattle.ash_classes.specs.References.{Refers, classes_of}
+use Rattle.ash_classes.specs.Ways.{IsTold, Reaches}
+use Rattle.ash_check.specs.Checks.{Told, Broken, Cyclic, checked, told_of, round_of}
 use Rattle.ash_check.specs.declared.faults.CheckFault.{CheckFault}
 use Rattle.ash_meaning.specs.Lexing.{Lexes}
 use Rattle.ash_meaning.specs.Scanning.{lexed}
@@ -95,28 +101,70 @@ of_told None = refusals.NoMemory
 abbrev pub of_check : CheckFault → Refusal
 of_check fault = of_told (told_of fault)
 
--- The tokens are those of a script with these items, which is typed.
+-- The tokens are those of a script with these items: the rules of typing give it a typed module, and no class reaches
+-- itself.
 pub record IsTypedScript (registered : List Registration) (tokens : List Lexeme) (items : List Item) : Type 0 where
   pub derived : Derives 0 (tokens_in tokens) items
-  pub typed : IsOk (checked registered items)
+  pub typed : Module
+  pub by_rules : IsTyped registered items typed
+  pub acyclic : (class : ℕ) → Reaches (Refers (classes_of items)) class class → ⊥
 
--- The tokens are those of a script that is refused for what the check of types tells.
+-- The tokens are those of a script that breaks a rule of typing: it is refused for the first fault, in the order in which
+-- a script is walked.
 pub record IsUntypedScript (registered : List Registration) (tokens : List Lexeme) (refusal : Refusal) : Type 0 where
   pub items : List Item
   pub derived : Derives 0 (tokens_in tokens) items
-  pub why : Told
-  pub untyped_is : checked registered items ≡ Err why
-  pub told : refusal ≡ untyped why
+  pub fault : Fault
+  pub first : module_typed registered items ≡ Err fault
+  pub told : refusal ≡ broken_at fault.rule fault.at
+
+-- The tokens are those of a script to which the rules give a typed module, and a class reaches itself: it is refused for
+-- the one cycle that is told.
+pub record IsCyclicScript (registered : List Registration) (tokens : List Lexeme) (refusal : Refusal) : Type 0 where
+  pub items : List Item
+  pub derived : Derives 0 (tokens_in tokens) items
+  pub typed : Module
+  pub by_rules : IsTyped registered items typed
+  pub first : ℕ
+  pub others : List ℕ
+  pub cycle : IsTold (Refers (classes_of items)) first others
+  pub told : refusal ≡ refusals.CyclicType (round_of (classes_of items) (first, others))
 
 -- what checking the tokens of a source comes to
 abbrev pub ChecksTokens : List Registration → List Lexeme → Checking → Type 0
 ChecksTokens registered tokens (Ok items) = IsTypedScript registered tokens items
-ChecksTokens registered tokens (Err refusal) = IsNoScript tokens refusal ⊎ IsUntypedScript registered tokens refusal
+ChecksTokens registered tokens (Err refusal) = IsNoScript tokens refusal ⊎ IsUntypedScript registered tokens refusal ⊎ IsCyclicScript registered tokens refusal
 
 -- what checking a source comes to, where these calls are registered
 pub data Checks (registered : List Registration) (source : List ℕ) (checking : Checking) : Type 0 where
   no_tokens : (refusal : Refusal) → checking ≡ Err refusal → Lexes source (Err refusal) → Checks registered source checking
   has_tokens : (tokens : List Lexeme) → Lexes source (Ok tokens) → ChecksTokens registered tokens checking → Checks registered source checking
+
+-- A source is accepted where it has tokens, the grammar derives a script from them, the rules give that a typed module and
+-- no class reaches itself.
+pub record IsAccepted (registered : List Registration) (source : List ℕ) : Type 0 where
+  pub tokens : List Lexeme
+  pub lexed : Lexes source (Ok tokens)
+  pub items : List Item
+  pub script : IsTypedScript registered tokens items
+
+-- a source with tokens from which the grammar derives a script, to which the rules give a typed module, and some class
+-- reaches itself
+pub record HasCycle (registered : List Registration) (source : List ℕ) : Type 0 where
+  pub tokens : List Lexeme
+  pub lexed : Lexes source (Ok tokens)
+  pub items : List Item
+  pub derived : Derives 0 (tokens_in tokens) items
+  pub typed : Module
+  pub by_rules : IsTyped registered items typed
+  pub class : ℕ
+  pub round : Reaches (Refers (classes_of items)) class class
+
+-- the refusal of such a source, with the cycle that is told
+pub record ReportsCycle (registered : List Registration) (source : List ℕ) (refusal : Refusal) : Type 0 where
+  pub tokens : List Lexeme
+  pub lexed : Lexes source (Ok tokens)
+  pub script : IsCyclicScript registered tokens refusal
 
 -- The same as a function: that it gives what checking the source comes to is proved of it.
 

@@ -1,6 +1,6 @@
 // The script that a source spells, if it is typed.
 
-ghost use Rattle.std.specs.Prelude.{◌≡◌, ◌⊎◌, ◌↔◌, ℕ, List, Ok, Err, IsOk, IfOk, IfErr, OnOk};
+ghost use Rattle.std.specs.Prelude.{◌≡◌, ◌⊎◌, ◌↔◌, ℕ, List, Ok, Err, IsOk, IfOk, IfErr, OnOk, MatchResult};
 ghost use Rattle.std.specs.List.{AllByRecursion};
 ghost use Rattle.ash_lex.specs.Tokens.{lexemes};
 ghost use Rattle.ash_tree.specs.Views.{module_of as items_of};
@@ -8,11 +8,12 @@ ghost use Rattle.ash_tree.specs.Tree.{Item};
 ghost use Rattle.ash_registry.specs.Calls.{Call};
 ghost use Rattle.ash_registry.specs.Registered.{registered};
 ghost use Rattle.ash_typed.specs.Modules.{Module as Typed};
-ghost use Rattle.ash_typing.specs.TypedModules.{IsFree};
+ghost use Rattle.ash_typing.specs.Nesting.{ItemsDeclareInBlocks};
+ghost use Rattle.ash_typing.specs.TypedModules.{IsFree, IsTyped};
 ghost use Rattle.ash_tree.specs.Items.{item_names};
-ghost use Rattle.ash_check.specs.Checks.{checked};
-ghost use Rattle.ash_meaning.specs.Checking.{Checking, Checks, items_checked, tokens_checked, checked_source, TakesToCheck};
-ghost use Rattle.ash_meaning.specs.Refusals.{refusal_of, NoMemory};
+ghost use Rattle.ash_meaning.specs.Checking.{Checking, Checks, IsAccepted, HasCycle, ReportsCycle};
+ghost use Rattle.ash_meaning.specs.Checking.{items_checked, tokens_checked, checked_source, TakesToCheck};
+ghost use Rattle.ash_meaning.specs.Refusals.{refusal_of, NoMemory, CyclicType};
 
 use crate::lexing::tokens_of;
 use crate::refusal::Refusal;
@@ -25,6 +26,7 @@ use std::alloc::Global;
 
 /// The script, if it is typed.
 fn typed_script(alloc: Global, registry: &Registry, script: Module) -> Result<Module, Refusal>
+    requires nested { ItemsDeclareInBlocks (items_of script) }
     ensures found { IfOk result (λ found. items_checked (registered registry.now) (items_of script) ≡ Ok (items_of found)) }
     ensures refused { IfErr result (λ refusal.
         (refusal_of refusal ≡ NoMemory) ⊎ (items_checked (registered registry.now) (items_of script) ≡ Err (refusal_of refusal))) }
@@ -78,13 +80,25 @@ pub(crate) fn checked_script(
 /// the source; a rule of typing that is broken, the first in the order in which the script is walked; `CyclicType`. Or
 /// `NoMemory`, which a source that is too long never tells.
 pub fn check_source(alloc: Global, registry: &Registry, source: &[u8]) -> Result<(), Refusal>
-    ensures accepted { OnOk result (IsOk (checked_source (registered registry.now) source.now)) }
+    // What is accepted by the rules, and nothing else; only memory may be in the way.
+    ensures accepted { OnOk result (IsAccepted (registered registry.now) source.now) }
+    ensures only { IsAccepted (registered registry.now) source.now →
+        IfErr result (λ refusal. refusal_of refusal ≡ NoMemory) }
+    // A cycle is answered where the rules give a typed module and some class reaches itself, and nowhere else.
+    ensures cycle { IfErr result (λ refusal. (names : List (List ℕ)) → refusal_of refusal ≡ CyclicType names →
+        ReportsCycle (registered registry.now) source.now (refusal_of refusal)) }
+    ensures cyclic { HasCycle (registered registry.now) source.now → MatchResult result (λ _. ⊥) (λ refusal.
+        (refusal_of refusal ≡ NoMemory) ⊎ ReportsCycle (registered registry.now) source.now (refusal_of refusal)) }
+    // All of it as one function of the source, with the first fault.
+    ensures found { OnOk result (IsOk (checked_source (registered registry.now) source.now)) }
     ensures refused { IfErr result (λ refusal.
         ((refusal_of refusal ≡ NoMemory) × TakesToCheck (checked_source (registered registry.now) source.now))
         ⊎ (checked_source (registered registry.now) source.now ≡ Err (refusal_of refusal))) }
 {
-    checked_script(alloc, registry, source)?;
-    Ok(())
+    match checked_script(alloc, registry, source) {
+        Ok(_script) => Ok(()),
+        Err(refusal) => Err(refusal),
+    }
 }
 
 /// Checking a source comes to one script that is typed, or to one refusal.
@@ -96,5 +110,5 @@ pub fn one_checking()
 /// No script that is typed declares a registered name: those and the names of a module are one space.
 pub fn registered_names_are_taken()
     ensures { (registered : List Call) (items : List Item) (typed : Typed) →
-        checked registered items ≡ Ok typed → AllByRecursion (IsFree registered) (item_names items) }
+        IsTyped registered items typed → AllByRecursion (IsFree registered) (item_names items) }
 {}

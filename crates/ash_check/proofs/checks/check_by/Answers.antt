@@ -1,13 +1,18 @@
-use Rattle.std.proofs.Common.{◌≡◌, ◌∙◌, ℕ, IfErr, OnOk, Some, None, Ok, Err, ap, sym, subst}
+use Rattle.std.proofs.Common.{◌≡◌, ◌∙◌, ℕ, length, IfOk, IfErr, OnOk, Some, None, Ok, Err, ap, sym, subst}
+use Rattle.std.specs.declared.vec.Vec.{Vec}
+use Rattle.std.specs.declared.alloc.Global.{Global}
+use Rattle.ash_registrations.specs.declared.registrations.Registrations.{Registrations}
 use Rattle.ash_registrations.specs.Registered.{registered}
 use Rattle.ash_tree.specs.Views.{module_of as written_module}
 use Rattle.ash_typed.specs.Modules.{module_of}
 use Rattle.ash_classes.specs.declared.cycles.Cycle.{Cycle}
 use Rattle.ash_classes.specs.References.{Refers, classes_of}
 use Rattle.ash_classes.specs.ToldCycle.{told_cycle}
-use Rattle.ash_classes.specs.Ways.{IsTold}
+use Rattle.ash_classes.specs.Ways.{IsTold, AreRanks}
+use Rattle.ash_check.specs.CheckedModules.{IsChecked}
 use Rattle.ash_check.specs.Checks.{checked, Cyclic, GoesRound}
 use Rattle.ash_check.specs.Told.{stopped}
+use Rattle.ash_check.proofs.CheckedLaws.{is_checked}
 use Rattle.ash_check.proofs.CheckLaws.{stop_is_told, tells_if_err, typed_is_checked, cycle_is_told, way_begins_within, way_is_within, goes_round}
 use Rattle.ash_typing.proofs.ModuleLaws.{module_typed-exact}
 use Rattle.ash_check.proofs.checks.check_by.Goals as goal
@@ -15,7 +20,7 @@ use Rattle.ash_check.proofs.checks.check_by.Goals as goal
 pub returns-in_err-module-clause-answer : goal.returns-in_err-module-clause-answer
 returns-in_err-module-clause-answer c =
     let answer = checked (registered c.args.registry.now) (written_module c.args.script.now) in
-    tells_if_err c.from_residual.result (stopped c.in_err-module.field-0.0) answer (λ done. answer ≡ Ok (module_of done.module)) c.from_residual.ensures.1 (stop_is_told (registered c.args.registry.now) (written_module c.args.script.now) c.in_err-module.field-0.0 c.in_err-module.ensures)
+    tells_if_err c.from_residual.result (stopped c.in_err-module.field-0.0) answer (λ done. answer ≡ Ok (module_of done.typed)) c.from_residual.ensures.1 (stop_is_told (registered c.args.registry.now) (written_module c.args.script.now) c.in_err-module.field-0.0 c.in_err-module.ensures)
 
 pub round_names-requires-clause-first : goal.round_names-requires-clause-first
 round_names-requires-clause-first c =
@@ -53,3 +58,15 @@ returns-in_ok-round_names-in-Err-clause-round c =
 
 pub returns-in-Ok-clause-typed : goal.returns-in-Ok-clause-typed
 returns-in-Ok-clause-typed c = (module_typed-exact (registered c.args.registry.now) (written_module c.args.script.now) (module_of c.in_ok-module.module)).0 c.in_ok-module.ensures
+
+pub returns-in-Ok-clause-sound : goal.returns-in-Ok-clause-sound
+returns-in-Ok-clause-sound c =
+    let items = written_module c.args.script.now in
+    let are = subst (λ r. IfOk r (λ (ranks : Vec ℕ Global). AreRanks (Refers (classes_of items)) (length (classes_of items)) ranks.items)) c.in-Ok.is c.in_ok-ranks.ensures.ranks in
+    is_checked (registered c.args.registry.now) items (module_of c.in_ok-module.module) c.in-Ok.ranks.items c.requires.nested c.in_ok-module.ensures are
+
+pub invariant_of-result : goal.invariant_of-result
+invariant_of-result c =
+    let items = written_module c.args.script.now in
+    let are = subst (λ r. IfOk r (λ (ranks : Vec ℕ Global). AreRanks (Refers (classes_of items)) (length (classes_of items)) ranks.items)) c.in-Ok.is c.in_ok-ranks.ensures.ranks in
+    subst (λ (r : Registrations). IsChecked (registered r) (module_of c.in_ok-module.module) c.in-Ok.ranks.items) (sym c.of.ensures) (is_checked (registered c.args.registry.now) items (module_of c.in_ok-module.module) c.in-Ok.ranks.items c.requires.nested c.in_ok-module.ensures are)
