@@ -1,0 +1,16 @@
+pub mod Activity
+pub mod Runs
+pub mod Releases
+pub mod Frames
+pub mod ObjectSteps
+pub mod HostSteps
+pub mod Operators
+pub mod Locations
+pub mod Classes
+pub mod ArraySteps
+pub mod Calls
+pub mod Expressions
+pub mod Statements
+pub mod Functions
+pub mod Ends
+pub mod Examples
