@@ -1,18 +1,17 @@
 -- Steps on arrays.
-use Rattle.std.specs.Prelude.{ℕ, ◌-◌, ◌==◌, nat_lt, nat_le, List, [], ◌∷◌, ◌++◌, length, take, drop, replicate, pos, unsigned_abs, Option, Some, None}
+use Rattle.std.specs.Prelude.{ℕ, ◌-◌, ◌==◌, nat_lt, nat_le, List, [], ◌∷◌, ◌++◌, length, take, drop, replicate, unsigned_abs}
 use Rattle.std.specs.Option.{option_map_or}
 use Rattle.ash_host.specs.declared.word.Word.{Word}
 use Rattle.ash_host.specs.declared.word.Word.TheVariants as words
-use Rattle.ash_host.specs.Objects.{Plain, Script, Array, Host, Element, Bools, Ints, Uints, Int64s, Uint64s, Handles, Hosts, object_at}
+use Rattle.ash_host.specs.Objects.{Plain, Array, Element, Bools, Ints, Uints, Int64s, Uint64s, Handles, Hosts, object_at}
 use Rattle.ash_integers.specs.Integers.{number_of}
 use Rattle.ash_typed.specs.declared.types.Kind.TheVariants as kinds
 use Rattle.ash_typed.specs.declared.types.VarType.TheVariants as vars
 use Rattle.ash_typed.specs.declared.tree.operations.ArrayMethod.{ArrayMethod}
 use Rattle.ash_typed.specs.declared.tree.operations.ArrayMethod.TheVariants as methods
 use Rattle.ash_phrases.specs.declared.exception.Exception.TheVariants.{IndexOutOfBounds, ArrayLimit}
-use Rattle.ash_phrases.specs.Activity.{World, Activity}
 use Rattle.ash_phrases.specs.Runs.{Run, give, ◌>>=◌, ◌>>◌, look, demand, no_step}
-use Rattle.ash_phrases.specs.Releases.{hold, hold_all, give_held}
+use Rattle.ash_phrases.specs.Releases.{hold_all, give_held}
 use Rattle.ash_phrases.specs.ObjectSteps.{words_at, put_words, demand_number, make}
 use Rattle.ash_phrases.specs.Operators.{zero_of}
 

@@ -1,5 +1,5 @@
 -- Calls: of functions, of methods, and of what is constructed.
-use Rattle.std.specs.Prelude.{ℕ, Bool, if◌then◌else◌, List, [], ◌∷◌, map, slice_get, Option, unwrap_or, false}
+use Rattle.std.specs.Prelude.{ℕ, if◌then◌else◌, List, map, slice_get, Option, unwrap_or, false}
 use Rattle.std.specs.Option.{option_map_or, option_and_then}
 use Rattle.ash_host.specs.declared.word.Word.{Word}
 use Rattle.ash_host.specs.declared.word.Word.TheVariants as words
@@ -12,7 +12,7 @@ use Rattle.ash_typed.specs.declared.tree.operations.Target.{Target}
 use Rattle.ash_typed.specs.declared.tree.operations.Target.TheVariants as targets
 use Rattle.ash_typed.specs.StatementTree.{Initialization}
 use Rattle.ash_typed.specs.Modules.{Class}
-use Rattle.ash_phrases.specs.Activity.{World, Activity}
+use Rattle.ash_phrases.specs.Activity.{World}
 use Rattle.ash_phrases.specs.Runs.{Run, give, ◌>>=◌, ◌>>◌, look, found}
 use Rattle.ash_phrases.specs.Frames.{demand_frame, in_frame_of}
 use Rattle.ash_phrases.specs.ObjectSteps.{demand_number, make}

@@ -1,10 +1,10 @@
 -- What a module's names stand for while it runs: the places of classes in its source, what class an object is of, and what
 -- is entered by a call.
-use Rattle.std.specs.Prelude.{ℕ, ◌+◌, ◌==◌, Bool, true, false, if◌then◌else◌, nat_eq, nat_le, List, [], ◌∷◌, ◌++◌, codes, map, length, find, position, count_by, slice_get, Option, Some, None, option_map, is_some, unwrap_or}
+use Rattle.std.specs.Prelude.{ℕ, ◌+◌, ◌==◌, Bool, false, if◌then◌else◌, nat_eq, nat_le, List, [], ◌++◌, codes, map, length, find, position, count_by, slice_get, Option, None, option_map, is_some}
 use Rattle.std.specs.List.{range_with_len}
 use Rattle.std.specs.Option.{option_map_or, option_and_then}
 use Rattle.std.specs.Str.{bytes_eq}
-use Rattle.ash_host.specs.Objects.{Plain, Script, Array, Host, Element, Bools, Ints, Uints, Int64s, Uint64s, Handles, Hosts}
+use Rattle.ash_host.specs.Objects.{Plain, Script, Element, Bools, Ints, Uints, Int64s, Uint64s, Handles, Hosts}
 use Rattle.ash_typed.specs.declared.types.Kind.TheVariants as kinds
 use Rattle.ash_typed.specs.declared.types.Element as typed_element
 use Rattle.ash_typed.specs.declared.types.Element.TheVariants as elements

@@ -1,18 +1,17 @@
 -- How a run of a function, or of the initializers of a module, ends, and what it leaves.
-use Rattle.std.specs.Prelude.{ℕ, List, [], ◌++◌, codes, map, Option, Some, None}
+use Rattle.std.specs.Prelude.{ℕ, List, [], codes, map, Option, Some, None}
 use Rattle.std.specs.Option.{option_and_then}
 use Rattle.ash_host.specs.declared.word.Word.{Word}
 use Rattle.ash_host.specs.declared.word.Word.TheVariants.{Null}
-use Rattle.ash_typed.specs.StatementTree.{Initialization}
 use Rattle.ash_typed.specs.Modules.{Module}
 use Rattle.ash_typed.specs.Signatures.{types_of_globals}
 use Rattle.ash_phrases.specs.declared.exception.Exception.{Exception}
 use Rattle.ash_phrases.specs.Activity.{World, Frame, Activity}
-use Rattle.ash_phrases.specs.Runs.{Run, Interrupt, Raising, OutOfTicks, Progress, Done, Ended, NoStep, give, ◌>>=◌, ◌>>◌, found}
-use Rattle.ash_phrases.specs.Frames.{frame_of, tick, enter}
+use Rattle.ash_phrases.specs.Runs.{Interrupt, Raising, OutOfTicks, Progress, Done, Ended, NoStep, give, ◌>>◌}
+use Rattle.ash_phrases.specs.Frames.{frame_of, tick}
 use Rattle.ash_phrases.specs.Releases.{sweep}
 use Rattle.ash_phrases.specs.Operators.{zero_of}
-use Rattle.ash_phrases.specs.Classes.{Program, Callee, FreeFunction, Entry, entry_of}
+use Rattle.ash_phrases.specs.Classes.{Program, FreeFunction, Entry, entry_of}
 use Rattle.ash_phrases.specs.Functions.{initialize_module, body, calls_within}
 
 -- how a run ends: at its end, or by an exception or a refused tick, with the function and the line of the innermost frame

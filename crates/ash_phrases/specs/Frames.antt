@@ -4,7 +4,7 @@ use Rattle.ash_host.specs.declared.word.Word.{Word}
 use Rattle.ash_host.specs.Objects.{handles}
 use Rattle.ash_phrases.specs.declared.exception.Exception.TheVariants.{StackOverflow}
 use Rattle.ash_phrases.specs.Activity.{Frame, Activity, in_frame}
-use Rattle.ash_phrases.specs.Runs.{Run, Done, give, ◌>>=◌, ◌>>◌, look, change, demand, out_of_ticks}
+use Rattle.ash_phrases.specs.Runs.{Run, give, ◌>>=◌, ◌>>◌, look, change, demand, out_of_ticks}
 use Rattle.ash_phrases.specs.Releases.{holding, release}
 
 -- ticks

@@ -1,8 +1,7 @@
 -- What frames do behind the tick of their entry: constructions and bodies of functions, and the initializers of a module.
-use Rattle.std.specs.Prelude.{ℕ, zero, suc, ◌+◌, List, [], ◌∷◌, length, Option, Some, None}
+use Rattle.std.specs.Prelude.{ℕ, zero, suc, ◌+◌, List, [], ◌∷◌, length, Option, None}
 use Rattle.std.specs.Option.{option_map_or}
 use Rattle.ash_host.specs.declared.word.Word.{Word}
-use Rattle.ash_typed.specs.Tree.{Expr}
 use Rattle.ash_typed.specs.StatementTree.{Initialization}
 use Rattle.ash_typed.specs.Modules.{Variables}
 use Rattle.ash_phrases.specs.Runs.{Run, give, skip, ◌>>=◌, ◌>>◌, out_of_ticks}
@@ -13,7 +12,7 @@ use Rattle.ash_phrases.specs.Locations.{Global, Part, this, write}
 use Rattle.ash_phrases.specs.Classes.{Program, Callee, Entry}
 use Rattle.ash_phrases.specs.Calls.{Calls, entry}
 use Rattle.ash_phrases.specs.Expressions.{expression}
-use Rattle.ash_phrases.specs.Statements.{Flow, On, Broke, Continued, Returned, statements}
+use Rattle.ash_phrases.specs.Statements.{Flow, Returned, statements}
 
 -- initializers, from a place on; what has none stays as it is
 

@@ -10,15 +10,15 @@ use Rattle.ash_host.specs.declared.event.Event.TheVariants.{Drew, Called}
 use Rattle.ash_host.specs.declared.event.Target.{Target}
 use Rattle.ash_host.specs.declared.event.Target.TheVariants as targets
 use Rattle.ash_host.specs.Calls.{HostCall, Start, Invoke, Get, Set}
-use Rattle.ash_host.specs.Objects.{Plain, Script, Array, Host, object_at}
+use Rattle.ash_host.specs.Objects.{Plain, Host, object_at}
 use Rattle.ash_host.specs.Records.{HostRecord, next_record}
 use Rattle.ash_typed.specs.declared.types.Kind.TheVariants as kinds
 use Rattle.ash_typed.specs.declared.types.VarType.{VarType}
 use Rattle.ash_typed.specs.declared.types.VarType.TheVariants as vars
 use Rattle.ash_phrases.specs.declared.exception.Exception.TheVariants.{PoolEmpty, BadHostAnswer, Raised}
-use Rattle.ash_phrases.specs.Activity.{FreeBox, World, Activity, in_world}
+use Rattle.ash_phrases.specs.Activity.{FreeBox, World, in_world}
 use Rattle.ash_phrases.specs.Runs.{Run, give, ◌>>=◌, ◌>>◌, look, change, raise, no_step, found}
-use Rattle.ash_phrases.specs.Releases.{hold, give_held}
+use Rattle.ash_phrases.specs.Releases.{hold}
 use Rattle.ash_phrases.specs.ObjectSteps.{with_object, demand_number, make}
 
 -- events

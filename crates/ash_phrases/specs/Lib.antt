@@ -13,4 +13,6 @@ pub mod Expressions
 pub mod Statements
 pub mod Functions
 pub mod Ends
+pub mod ExampleParts
 pub mod Examples
+pub mod ObjectExamples

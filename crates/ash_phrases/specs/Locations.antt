@@ -1,5 +1,5 @@
 -- Where a value is stored, once a place is computed, and how it is read and written there.
-use Rattle.std.specs.Prelude.{ℕ, List, slice_index_or, slice_set}
+use Rattle.std.specs.Prelude.{ℕ, slice_index_or, slice_set}
 use Rattle.ash_host.specs.declared.word.Word.{Word}
 use Rattle.ash_host.specs.declared.word.Word.TheVariants.{Null}
 use Rattle.ash_typed.specs.declared.types.VarType.{VarType}
@@ -7,8 +7,8 @@ use Rattle.ash_typed.specs.declared.tree.operations.Variable.{Variable}
 use Rattle.ash_typed.specs.declared.tree.operations.Variable.TheVariants as variables
 use Rattle.ash_typed.specs.declared.tree.operations.Member.{Member}
 use Rattle.ash_typed.specs.declared.tree.operations.Member.TheVariants as members
-use Rattle.ash_phrases.specs.Activity.{World, Frame, Activity, in_frame, in_world}
-use Rattle.ash_phrases.specs.Runs.{Run, give, ◌>>=◌, ◌>>◌, look, change}
+use Rattle.ash_phrases.specs.Activity.{World, Frame, in_frame, in_world}
+use Rattle.ash_phrases.specs.Runs.{Run, ◌>>=◌, ◌>>◌, look, change}
 use Rattle.ash_phrases.specs.Releases.{hold}
 use Rattle.ash_phrases.specs.ObjectSteps.{words_in, words_at, put_words}
 use Rattle.ash_phrases.specs.HostSteps.{get_property, set_property}

@@ -1,11 +1,11 @@
 -- Steps on objects: what words an object has, and how one is made.
-use Rattle.std.specs.Prelude.{ℕ, ◌+◌, ◌-◌, ◌^◌, nat_lt, List, [], length, Option, Some, None}
+use Rattle.std.specs.Prelude.{ℕ, ◌+◌, ◌-◌, ◌^◌, nat_lt, List, [], length}
 use Rattle.std.specs.Option.{option_map_or}
 use Rattle.ash_host.specs.declared.word.Word.{Word}
 use Rattle.ash_host.specs.declared.word.Word.TheVariants as words
 use Rattle.ash_host.specs.Objects.{Plain, Script, Array, Host, Objects, object_at, with_at, fields_of}
 use Rattle.ash_phrases.specs.declared.exception.Exception.TheVariants.{NullPointerAccess, ObjectLimit, NumbersSpent}
-use Rattle.ash_phrases.specs.Activity.{World, Activity, in_world}
+use Rattle.ash_phrases.specs.Activity.{World, in_world}
 use Rattle.ash_phrases.specs.Runs.{Run, give, ◌>>=◌, ◌>>◌, look, change, raise, demand}
 
 -- objects that are there

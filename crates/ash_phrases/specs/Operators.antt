@@ -1,5 +1,5 @@
 -- Operators on words, by the definitions of the integers of scripts.
-use Rattle.std.specs.Prelude.{Bool, true, false, not, ℤ, pos, ◌+ℤ◌, ◌-ℤ◌, Result, Ok, Err}
+use Rattle.std.specs.Prelude.{Bool, false, not, ℤ, pos, ◌+ℤ◌, ◌-ℤ◌, Result, Ok, Err}
 use Rattle.ash_host.specs.declared.word.Word.{Word}
 use Rattle.ash_host.specs.declared.word.Word.TheVariants as words
 use Rattle.ash_host.specs.Records.{is_same_word}

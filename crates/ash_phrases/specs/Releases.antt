@@ -4,7 +4,7 @@ use Rattle.ash_host.specs.declared.word.Word.{Word}
 use Rattle.ash_host.specs.declared.event.Event.TheVariants.{Dropped}
 use Rattle.ash_host.specs.Objects.{handles}
 use Rattle.ash_host.specs.Reach.{after_sweep, drops_of_sweep}
-use Rattle.ash_phrases.specs.Activity.{World, Frame, Activity, in_frame}
+use Rattle.ash_phrases.specs.Activity.{World, Frame, in_frame}
 use Rattle.ash_phrases.specs.Runs.{Run, give, ◌>>=◌, ◌>>◌, look, change}
 
 -- what is held

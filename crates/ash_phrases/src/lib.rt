@@ -15,5 +15,5 @@
 mod examples;
 mod exception;
 
-pub use examples::{worked_examples};
+pub use examples::{worked_examples, worked_host_examples, worked_object_examples};
 pub use exception::Exception;
