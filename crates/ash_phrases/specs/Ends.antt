@@ -44,12 +44,12 @@ begun world budget frame = record { world = world; ticks = budget; frame = frame
 
 -- a call from outside, of the function at a place, with the words of its arguments
 
-abbrev pub call_entry : Program → ℕ → List Word → ℕ → World → Entry → Option Outcome
-call_entry program place args budget world e =
-    outcome_of ((tick e.line >> body program budget (FreeFunction place)) (begun world budget (frame_of e.name e.line Null args)))
+abbrev pub call_entry : Program → List Word → ℕ → World → Entry → Option Outcome
+call_entry program args budget world e =
+    outcome_of ((tick e.line >> body program budget e) (begun world budget (frame_of e.name e.line Null args)))
 
 abbrev pub call_function : Program → ℕ → List Word → ℕ → World → Option Outcome
-call_function program place args budget world = option_and_then (call_entry program place args budget world) (entry_of program.tree (FreeFunction place))
+call_function program place args budget world = option_and_then (call_entry program args budget world) (entry_of program.tree (FreeFunction place))
 
 -- a module that is loaded: its globals are zero, `false` or null, then the initializers run in one frame without a tick
 -- of its own

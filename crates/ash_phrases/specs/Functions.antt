@@ -9,8 +9,8 @@ use Rattle.ash_phrases.specs.Frames.{tick}
 use Rattle.ash_phrases.specs.Releases.{full}
 use Rattle.ash_phrases.specs.ObjectSteps.{object_of}
 use Rattle.ash_phrases.specs.Locations.{Global, Part, this, write}
-use Rattle.ash_phrases.specs.Classes.{Program, Callee, Entry}
-use Rattle.ash_phrases.specs.Calls.{Calls, entry}
+use Rattle.ash_phrases.specs.Classes.{Program, Entry}
+use Rattle.ash_phrases.specs.Calls.{Calls}
 use Rattle.ash_phrases.specs.Expressions.{expression}
 use Rattle.ash_phrases.specs.Statements.{Flow, Returned, statements}
 
@@ -54,11 +54,9 @@ run_entry calls depth e =
 
 -- What a frame does, where calls go so deep at most, and loops take so many turns. Each call takes a tick first, so that
 -- what has no more ticks than that never comes to the end of it: the depth is no part of the meaning.
-abbrev pub body : Program → ℕ → Callee → Run (Option Word)
-body program zero callee = out_of_ticks
-body program (suc depth) callee =
-    let calls : Calls = record { program = program; body = body program depth } in
-    entry calls callee >>= run_entry calls depth
+abbrev pub body : Program → ℕ → Entry → Run (Option Word)
+body program zero e = out_of_ticks
+body program (suc depth) e = run_entry (record { program = program; body = body program depth }) depth e
 
 -- what phrases call
 abbrev pub calls_within : Program → ℕ → Calls
