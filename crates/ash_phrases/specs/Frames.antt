@@ -48,4 +48,4 @@ leave result = change (λ activity. back_in activity.callers result activity) >>
 
 -- What an entered frame does: a tick at the line of its entry, and then this, whose value is the result.
 abbrev pub in_frame_of : List ℕ → ℕ → Word → List Word → Run Word → Run Word
-in_frame_of function line this locals body = enter function line this locals >> tick line >> body >>= leave
+in_frame_of function line this locals body = enter function line this locals >> (tick line >> body) >>= leave

@@ -1,0 +1,4 @@
+pub mod States
+pub mod Requests
+pub mod Tasks
+pub mod Steps
