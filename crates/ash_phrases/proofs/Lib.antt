@@ -1,0 +1,4 @@
+pub mod Same
+pub mod SameSteps
+pub mod SamePhrases
+pub mod Depth

@@ -1,8 +1,8 @@
 -- Runs that come to the same wherever at most so many ticks are left: how they are put together.
-use Rattle.std.proofs.Common.{◌≡◌, ◌≤◌, ◌<◌, ◌∙◌, ℕ, zero, suc, Bool, true, false, Option, Some, None, if◌then◌else◌, refl, sym, ap, arith}
+use Rattle.std.proofs.Common.{◌≡◌, ◌≤◌, ◌<◌, ◌∙◌, ℕ, zero, suc, Bool, true, false, Option, Some, None, if◌then◌else◌, refl, ap, arith}
 use Rattle.ash_phrases.specs.declared.exception.Exception.{Exception}
 use Rattle.ash_phrases.specs.Activity.{Activity, in_frame}
-use Rattle.ash_phrases.specs.Runs.{Interrupt, OutOfTicks, Progress, Done, Ended, NoStep, Run, give, onward, ◌>>=◌, ◌>>◌, look, change, raise, demand, out_of_ticks, no_step, found}
+use Rattle.ash_phrases.specs.Runs.{Progress, Done, Ended, NoStep, Run, give, onward, ◌>>=◌, ◌>>◌, look, change, raise, demand, out_of_ticks, no_step, found}
 use Rattle.ash_phrases.specs.Frames.{at_line, spend, tick}
 use Rattle.ash_phrases.specs.Laws.{LeavesAtMost, AreSame}
 
@@ -23,6 +23,12 @@ fewer le h = record {
   same = λ a l. h.same a (at_most_more l le);
   left = λ a l. h.left a (at_most_more l le);
 }
+
+-- a tick alone
+
+spends_alone : (t : ℕ) (b : Activity) → b.ticks ≤ t → LeavesAtMost t (spend t b)
+spends_alone zero b l = l
+spends_alone (suc t) b l = omega arith
 
 module _ {n : ℕ} where
   goes_on : {A B : Type 0} {f g : A → Run B} (t : ℕ) → t ≤ n → ((v : A) → AreSame n (f v) (g v)) → (p : Progress A) → LeavesAtMost t p → (onward p f ≡ onward p g) × LeavesAtMost t (onward p f)
@@ -82,12 +88,6 @@ module _ {n : ℕ} where
     same = λ a le. (spends {r = r} {s = s} h a.ticks (in_frame (at_line line) a) le (at_most a.ticks)).0;
     left = λ a le. (spends {r = r} {s = s} h a.ticks (in_frame (at_line line) a) le (at_most a.ticks)).1;
   }
-
-  -- a tick alone
-
-  spends_alone : (t : ℕ) (b : Activity) → b.ticks ≤ t → LeavesAtMost t (spend t b)
-  spends_alone zero b l = l
-  spends_alone (suc t) b l = omega arith
 
   pub a_tick : (line : ℕ) → AreSame n (tick line) (tick line)
   a_tick line = record { same = λ a le. refl; left = λ a le. spends_alone a.ticks (in_frame (at_line line) a) (at_most a.ticks) }

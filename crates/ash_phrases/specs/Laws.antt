@@ -1,14 +1,10 @@
 -- The laws of the meaning.
-use Rattle.std.specs.Prelude.{◌≡◌, ◌≤◌, ℕ, List, Option}
+use Rattle.std.specs.Prelude.{◌≡◌, ◌≤◌, ℕ, Option}
 use Rattle.ash_host.specs.declared.word.Word.{Word}
-use Rattle.ash_typed.specs.Tree.{Expr}
-use Rattle.ash_typed.specs.StatementTree.{Stmt}
 use Rattle.ash_phrases.specs.Activity.{Activity}
-use Rattle.ash_phrases.specs.Runs.{Progress, Done, Ended, NoStep, Run, give, ◌>>◌}
+use Rattle.ash_phrases.specs.Runs.{Progress, Done, Ended, NoStep, Run, ◌>>◌}
 use Rattle.ash_phrases.specs.Frames.{tick}
 use Rattle.ash_phrases.specs.Classes.{Program, Entry}
-use Rattle.ash_phrases.specs.Expressions.{expression}
-use Rattle.ash_phrases.specs.Statements.{Flow, statement}
 use Rattle.ash_phrases.specs.Functions.{body, calls_within, initialize_module}
 
 -- at most so many ticks are left, wherever a phrase came

@@ -13,6 +13,7 @@ pub mod Expressions
 pub mod Statements
 pub mod Functions
 pub mod Ends
+pub mod Laws
 pub mod ExampleParts
 pub mod Examples
 pub mod ObjectExamples

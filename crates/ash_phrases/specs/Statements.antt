@@ -107,7 +107,7 @@ turn t next = t.body >>= behind_body t next
 -- ticks than turns never comes to the end of them.
 abbrev pub turns : ℕ → Turn → Run Flow
 turns zero t = tick t.line >> out_of_ticks
-turns (suc depth) t = tick t.line >> t.condition >>= (λ goes_on. if goes_on then turn t (turns depth t) else give On)
+turns (suc depth) t = tick t.line >> (t.condition >>= (λ goes_on. if goes_on then turn t (turns depth t) else give On))
 
 abbrev pub repeat : Test → ℕ → Turn → Run Flow
 repeat tests.First depth t = turns depth t

@@ -9,11 +9,13 @@
 //! The crate stands on typed trees, on objects as plain data and on the integers of scripts, and knows no parser and no
 //! rule of typing. A call and a turn of a loop each take a tick, so that the definitions go by how many are left.
 //!
-//! In reading order: `exception` (what a script can raise), `examples` (phrases whose meaning is computed).
+//! In reading order: `exception` (what a script can raise), `laws` (of the meaning),
+//! `examples` (phrases whose meaning is computed).
 #![tactic(auto)]
 
 mod examples;
 mod exception;
+pub mod laws;
 
 pub use examples::{worked_examples, worked_host_examples, worked_object_examples};
 pub use exception::Exception;

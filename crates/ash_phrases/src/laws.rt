@@ -1,0 +1,10 @@
+//! The laws of the meaning. A function without a body does nothing: its contract is the law.
+ghost use Rattle.std.specs.Prelude.{◌≤◌, ℕ};
+ghost use Rattle.ash_phrases.specs.Classes.{Program};
+ghost use Rattle.ash_phrases.specs.Laws.{DepthIsNoPart};
+
+/// The depth is no part of the meaning: from any depth at least the ticks left, the same.
+pub fn depth_is_no_part()
+    ensures { (program : Program) (ticks depth other : ℕ) → ticks ≤ depth → ticks ≤ other
+      → DepthIsNoPart program ticks depth other }
+{}
