@@ -1,3 +1,4 @@
+pub mod Computing
 pub mod Same
 pub mod SameSteps
 pub mod SamePhrases

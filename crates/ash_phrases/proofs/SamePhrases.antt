@@ -53,9 +53,9 @@ same_turns zero (suc e) n line le more hc hs hb = ticked line (λ m less. absurd
 same_turns (suc d) zero n line le more hc hs hb = ticked line (λ m less. absurd (omega arith))
 same_turns (suc d) (suc e) n line {c} {c'} {s} {s'} {b} {b'} le more hc hs hb =
     ticked line (λ m less.
-      let fit : m ≤ n = omega arith in
-      let more_turns : AreSame m (turns d (turn_of line c s b)) (turns e (turn_of line c' s' b')) = same_turns d e m line (omega arith) (omega arith) (fewer fit hc) (fewer fit hs) (fewer fit hb) in
-      bound (fewer fit hc) (λ goes_on. chosen_by goes_on (same_turn line c c' b b' (fewer fit hs) (fewer fit hb) more_turns) (given On)))
+    let fit : m ≤ n = omega arith in
+    let more_turns : AreSame m (turns d (turn_of line c s b)) (turns e (turn_of line c' s' b')) = same_turns d e m line (omega arith) (omega arith) (fewer fit hc) (fewer fit hs) (fewer fit hb) in
+    bound (fewer fit hc) (λ goes_on. chosen_by goes_on (same_turn line c c' b b' (fewer fit hs) (fewer fit hb) more_turns) (given On)))
 
 same_repeat : (test : Test) (d e n line : ℕ) {c c' : Run Bool} {s s' : Run (Unit {0})} {b b' : Run Flow} → n ≤ d → n ≤ e → AreSame n c c' → AreSame n s s' → AreSame n b b' → AreSame n (repeat test d (turn_of line c s b)) (repeat test e (turn_of line c' s' b'))
 same_repeat tests.First d e n line le more hc hs hb = same_turns d e n line le more hc hs hb
@@ -137,7 +137,7 @@ module _ {n : ℕ} (p : Program) (one other : Entry → Run (Option Word)) (bodi
   same_construct : (class : ℕ) (args : List Word) → AreSame n (construct c class args) (construct c' class args)
   same_construct class args =
       bound (found_there (entry_of p.tree (Construction class))) (λ e. bound (found_there (slice_get (p.tree).classes class)) (λ k. bound (followed (followed to_demand_frame to_demand_number) (to_make (blank p class k)))
-        (λ number. same_frame e.name e.line (words.Object number) args (λ m less. followed (bodies e m less) (given (words.Object number))))))
+      (λ number. same_frame e.name e.line (words.Object number) args (λ m less. followed (bodies e m less) (given (words.Object number))))))
 
   same_through : (interface method number : ℕ) (args : List Word) → AreSame n (call_through c interface method number args) (call_through c' interface method number args)
   same_through interface method number args = bound (bound (looked (λ a. option_and_then (class_of p) (object_at number a.world.objects))) found_there) (λ class. bound (found_there (implemented p.tree interface method class)) (λ own. same_call (ClassMethod class own) (words.Object number) args))

@@ -70,7 +70,7 @@ abbrev pub resize : ℕ → ℕ → Run (Unit {0})
 resize number count =
     demand (nat_le count max_elements) ArrayLimit
     >> words_at number >>= (λ all. hold_all (drop count all)
-        >> zero_at number >>= (λ zero. put_words number (resized count zero all)))
+    >> zero_at number >>= (λ zero. put_words number (resized count zero all)))
 
 abbrev pub insert_last : ℕ → Word → Run (Unit {0})
 insert_last number word =
@@ -81,7 +81,7 @@ abbrev pub remove_last : ℕ → Run (Unit {0})
 remove_last number =
     words_at number
     >>= (λ all. demand (nat_lt 0 (length all)) IndexOutOfBounds >> hold_all (drop (length all - 1) all)
-        >> put_words number (take (length all - 1) all))
+    >> put_words number (take (length all - 1) all))
 
 abbrev pub length_of : ℕ → Run ℕ
 length_of number = words_at number >>= (λ all. give (length all))

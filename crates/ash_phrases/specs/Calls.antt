@@ -40,7 +40,7 @@ abbrev pub call : Calls → Callee → Word → List Word → Run Word
 call calls callee this args =
     entry calls callee
     >>= (λ e. demand_frame
-        >> in_frame_of e.name e.line this args (calls.body e >>= (λ value. give (value_or_null value))))
+    >> in_frame_of e.name e.line this args (calls.body e >>= (λ value. give (value_or_null value))))
 
 -- a new object of a class, with nothing in its fields
 abbrev pub blank : Program → ℕ → Class → Plain (List ℕ)
@@ -53,7 +53,7 @@ construct calls class args =
     >>= (λ e. found (slice_get calls.program.tree.classes class)
     >>= (λ c. demand_frame >> demand_number >> make (blank calls.program class c)
     >>= (λ number. in_frame_of e.name e.line (words.Object number) args
-        (calls.body e >> give (words.Object number)))))
+    (calls.body e >> give (words.Object number)))))
 
 -- the class of an object
 abbrev pub class_at : Calls → ℕ → Run ℕ

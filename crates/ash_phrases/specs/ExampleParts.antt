@@ -1,6 +1,7 @@
 -- Parts of small modules whose meaning is computed, and what is compared of it.
-use Rattle.std.specs.Prelude.{ℕ, pos, List, [], ◌∷◌, replicate, codes, Option, Some, option_map}
+use Rattle.std.specs.Prelude.{◌≡◌, ℕ, pos, List, [], ◌∷◌, replicate, codes, Option, Some, None, option_map}
 use Rattle.std.specs.Option.{option_map_or}
+use Rattle.ash_host.specs.declared.word.Word.{Word}
 use Rattle.ash_host.specs.declared.word.Word.TheVariants as words
 use Rattle.ash_host.specs.declared.answer.HostAnswer.TheVariants.{Value, Nothing}
 use Rattle.ash_host.specs.declared.event.Event.{Event}
@@ -23,7 +24,8 @@ use Rattle.ash_typed.specs.StatementTree.{Initialization, Stmt, Evaluate, Return
 use Rattle.ash_typed.specs.Modules.{Variables, Function, Class, Module}
 use Rattle.ash_phrases.specs.Activity.{World}
 use Rattle.ash_phrases.specs.Classes.{Program}
-use Rattle.ash_phrases.specs.Ends.{End, Outcome, load_module}
+use Rattle.ash_phrases.specs.declared.exception.Exception.{Exception}
+use Rattle.ash_phrases.specs.Ends.{End, Finished, Threw, Aborted, Outcome, load_module}
 
 -- parts of trees
 
@@ -74,11 +76,26 @@ empty_world = record { globals = []; outside = []; objects = []; last = 0; servi
 abbrev pub end_of : Option Outcome → Option End
 end_of outcome = option_map (λ (o : Outcome). o.end) outcome
 
-abbrev pub events_of : Option Outcome → Option (List Event)
-events_of outcome = option_map (λ (o : Outcome). (o.world).events) outcome
+-- a run ends with a value; by an exception, or by a refused tick, in a function at line 1; or it has no step
+abbrev pub Gives : Option Outcome → Word → Type 0
+Gives outcome word = end_of outcome ≡ Some (Finished (Some word))
 
-abbrev pub services_of : Option Outcome → Option (List (List ℕ))
-services_of outcome = option_map (λ (o : Outcome). (o.world).services) outcome
+abbrev pub Throws : Option Outcome → Exception → List ℕ → Type 0
+Throws outcome exception function = end_of outcome ≡ Some (Threw exception function 1)
+
+abbrev pub Aborts : Option Outcome → List ℕ → Type 0
+Aborts outcome function = end_of outcome ≡ Some (Aborted function 1)
+
+abbrev pub HasNoStep : Option Outcome → Type 0
+HasNoStep outcome = end_of outcome ≡ None
+
+-- what a run leaves
+
+abbrev pub HasEvents : Option Outcome → List Event → Type 0
+HasEvents outcome events = option_map (λ (o : Outcome). (o.world).events) outcome ≡ Some events
+
+abbrev pub HasServices : Option Outcome → List (List ℕ) → Type 0
+HasServices outcome states = option_map (λ (o : Outcome). (o.world).services) outcome ≡ Some states
 
 -- what a load leaves, with the budget of 9 ticks
 abbrev pub loaded : Program → World

@@ -123,4 +123,4 @@ abbrev pub construct_host : ℕ → List Word → Run Word
 construct_host kind args =
     draw kind
     >>= (λ number. hold (words.Object number) >> call_host (targets.Object number) (Start args) >>= accept None
-        >> give (words.Object number))
+    >> give (words.Object number))

@@ -1,5 +1,5 @@
 -- Small modules whose meaning is computed: of objects, host objects, interfaces and arrays.
-use Rattle.std.specs.Prelude.{ℕ, pos, List, [], ◌∷◌, codes, Some, None}
+use Rattle.std.specs.Prelude.{ℕ, pos, List, [], ◌∷◌, codes, Option, Some, None}
 use Rattle.ash_host.specs.declared.word.Word.TheVariants as words
 use Rattle.ash_host.specs.declared.answer.HostAnswer.{HostAnswer}
 use Rattle.ash_host.specs.declared.answer.HostAnswer.TheVariants as answers
@@ -25,8 +25,11 @@ use Rattle.ash_typed.specs.declared.tree.statements.Test.TheVariants as tests
 use Rattle.ash_typed.specs.Tree.{Expr, Null, This, Read, Invoke, Convert, Cast, Operate, Assign, Call, Place, Held, Indexed, exprs}
 use Rattle.ash_typed.specs.StatementTree.{Initialization, Stmt, Declare, Block, declared_head, For, repeated, Break, stmts}
 use Rattle.ash_typed.specs.Modules.{Variables, Function, Interface, Class}
+use Rattle.ash_host.specs.Objects.{Script}
+use Rattle.ash_phrases.specs.Activity.{World}
 use Rattle.ash_phrases.specs.Classes.{Program}
-use Rattle.ash_phrases.specs.ExampleParts.{int, handle_of_class, number, local, global, calculate, variable, give, evaluate, function, module_of, program, counter, new_counter, add, counter_value, f, only}
+use Rattle.ash_phrases.specs.Ends.{Outcome, call_function, load_module}
+use Rattle.ash_phrases.specs.ExampleParts.{empty_world, counters, started, int, handle_of_class, number, local, global, calculate, variable, give, evaluate, function, module_of, program, counter, new_counter, add, counter_value, f, only}
 
 -- `int two(Counter@ h, int k) { return k; }`
 -- `int f() { Counter@ a = Counter(1); Counter@ c = Counter(5); int r = two(@a = null, c.add(1)); c.add(1); return r; }`
@@ -176,3 +179,17 @@ unfinished = program (module_of [] (declared (Call (targets.Service 0 1 (Some in
   where
     declared : Expr → Variables
     declared e = record { line = 1; values = variable int (Some e) ∷ [] }
+
+-- worlds that these run in
+
+-- what a load of `unfinished` comes to, with one service
+abbrev pub unfinished_load : Option Outcome
+unfinished_load = load_module unfinished 9 (record empty_world { services = int_bytes (pos 0) ∷ []; answers = tallied ∷ [] })
+
+-- `g` is an object of the class at this place in the source
+abbrev pub with_object_of : ℕ → World
+with_object_of place = record empty_world { globals = words.Object 1 ∷ []; objects = (1, Script (codes "m") place []) ∷ [] }
+
+-- a call of `f` with one counter, which answers this to the call of its method
+abbrev pub with_answer : Program → ℕ → ℕ → HostAnswer → Option Outcome
+with_answer p method argument answer = call_function p 0 [] 9 (counters 1 (started 1 1 ∷ answered method argument answer ∷ []))

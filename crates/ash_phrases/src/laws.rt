@@ -6,5 +6,5 @@ ghost use Rattle.ash_phrases.specs.Laws.{DepthIsNoPart};
 /// The depth is no part of the meaning: from any depth at least the ticks left, the same.
 pub fn depth_is_no_part()
     ensures { (program : Program) (ticks depth other : ℕ) → ticks ≤ depth → ticks ≤ other
-      → DepthIsNoPart program ticks depth other }
+        → DepthIsNoPart program ticks depth other }
 {}
