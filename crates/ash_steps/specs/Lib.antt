@@ -2,3 +2,4 @@ pub mod States
 pub mod Requests
 pub mod Tasks
 pub mod Steps
+pub mod Examples

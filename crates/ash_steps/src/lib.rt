@@ -7,10 +7,12 @@
 //! source, or its first fault. They are in `specs/`, in reading order: `States`, `Requests`, `Tasks` (the refusals of each
 //! request, in order), `Steps` (what is done, and runs over requests).
 //!
-//! In reading order: `argument` (what a call is handed), `laws` (of steps).
+//! In reading order: `argument` (what a call is handed), `laws` (of steps), `examples` (runs that are computed).
 #![tactic(auto)]
 
 mod argument;
+mod examples;
 pub mod laws;
 
 pub use argument::Argument;
+pub use examples::worked_runs;
