@@ -3,3 +3,4 @@ pub mod Same
 pub mod SameSteps
 pub mod SamePhrases
 pub mod Depth
+pub mod Released

@@ -1,7 +1,10 @@
 -- The laws of the meaning.
-use Rattle.std.specs.Prelude.{◌≡◌, ◌≤◌, ℕ, Option}
+use Rattle.std.specs.Prelude.{◌≡◌, ◌≤◌, ◌++◌, ◌∷◌, ℕ, List, map, Contains, Option}
 use Rattle.ash_host.specs.declared.word.Word.{Word}
-use Rattle.ash_phrases.specs.Activity.{Activity}
+use Rattle.ash_host.specs.declared.event.Event.TheVariants.{Dropped}
+use Rattle.ash_host.specs.Reach.{Swept, hosts_gone}
+use Rattle.ash_phrases.specs.Activity.{World, Frame, Activity}
+use Rattle.ash_phrases.specs.Releases.{roots, sweep, release}
 use Rattle.ash_phrases.specs.Runs.{Progress, Done, Ended, NoStep, Run, ◌>>◌}
 use Rattle.ash_phrases.specs.Frames.{tick}
 use Rattle.ash_phrases.specs.Classes.{Program, Entry}
@@ -31,3 +34,19 @@ initialized program depth = initialize_module (calls_within program depth) 0 (pr
 pub record DepthIsNoPart (program : Program) (ticks depth other : ℕ) : Type 0 where
   pub functions : (e : Entry) → AreSame ticks (entered program depth e) (entered program other e)
   pub initializers : AreSame ticks (initialized program depth) (initialized program other)
+
+-- What a release point does to the world: what can be reached from the roots stays as it was, and all else goes; the host
+-- objects among it are the last events, by ascending number; nothing else changes.
+pub record IsReleased (frames : List Frame) (old new : World) : Type 0 where
+  pub swept : Swept (Contains (roots frames old)) old.objects new.objects (hosts_gone old.objects new.objects)
+  pub told : new.events ≡ old.events ++ map Dropped (hosts_gone old.objects new.objects)
+  pub others : new ≡ record old { objects = new.objects; events = new.events }
+
+-- what a release point leaves of an activity
+abbrev pub after_release : Activity → Activity
+after_release activity = record activity { world = sweep (activity.frame ∷ activity.callers) activity.world }
+
+-- A release point of a run is that of its frames, and changes nothing but the world.
+pub record ReleasesTheUnreachable (activity : Activity) : Type 0 where
+  pub runs : release activity ≡ Done tt (after_release activity)
+  pub world : IsReleased (activity.frame ∷ activity.callers) activity.world (after_release activity).world
