@@ -17,3 +17,4 @@ pub mod Laws
 pub mod ExampleParts
 pub mod Examples
 pub mod ObjectExamples
+pub mod ReleaseExamples

@@ -11,6 +11,8 @@ ghost use Rattle.ash_phrases.specs.Ends.{call_function};
 ghost use Rattle.ash_phrases.specs.Examples as examples;
 ghost use Rattle.ash_phrases.specs.ObjectExamples as objects;
 ghost use Rattle.ash_phrases.specs.ObjectExamples.{with_answer, with_object_of};
+ghost use Rattle.ash_phrases.specs.ReleaseExamples as releases;
+ghost use Rattle.ash_phrases.specs.ReleaseExamples.{value_read};
 ghost use Rattle.ash_phrases.specs.ExampleParts.{Gives, Throws, Aborts, HasNoStep, HasEvents, HasServices, empty_world, loaded, counters, with_counters, started, added, f};
 
 /// What functions of integers come to, with loops, `switch` and calls.
@@ -76,4 +78,28 @@ pub fn worked_object_examples()
         Exception.IndexOutOfBounds (codes "g") }
     ensures index { Throws (call_function objects.in_an_array 2 (Word.Uint 0 ∷ []) 9 (loaded objects.in_an_array))
         Exception.IndexOutOfBounds (codes "h") }
+{}
+
+/// Where objects go, and in which order.
+pub fn worked_release_examples()
+    ensures condition { HasEvents (call_function releases.after_a_condition 0 [] 9
+            (counters 2 (started 1 1 ∷ value_read 1 1 ∷ started 2 2 ∷ [])))
+        (Drew 1 ∷ Dropped 1 ∷ Drew 2 ∷ Dropped 2 ∷ []) }
+    ensures blocks { HasEvents (call_function releases.after_blocks 0 [] 9
+            (counters 3 (started 1 1 ∷ started 2 2 ∷ started 3 3 ∷ [])))
+        (Drew 1 ∷ Drew 2 ∷ Dropped 2 ∷ Dropped 1 ∷ Drew 3 ∷ Dropped 3 ∷ []) }
+    ensures continued { HasEvents (call_function releases.after_continue 0 [] 19
+            (counters 4 (started 1 1 ∷ started 2 1 ∷ started 3 1 ∷ started 4 1 ∷ [])))
+        (Drew 1 ∷ Drew 2 ∷ Dropped 1 ∷ Dropped 2 ∷ Drew 3 ∷ Drew 4 ∷ Dropped 3 ∷ Dropped 4 ∷ []) }
+    ensures returned { HasEvents (call_function releases.after_a_return 1 [] 9
+            (counters 2 (started 1 1 ∷ started 2 2 ∷ added 1 1 1 2 ∷ [])))
+        (Drew 1 ∷ Drew 2 ∷ Dropped 2 ∷ Called (Target.Object 1) 1 ∷ Dropped 1 ∷ []) }
+    ensures exception { HasEvents (call_function releases.after_an_exception 1 [] 9 (counters 2 (started 1 2 ∷ started 2 1 ∷ [])))
+        (Drew 1 ∷ Drew 2 ∷ Dropped 1 ∷ Dropped 2 ∷ []) }
+    ensures function_of_the_exception { Throws (call_function releases.after_an_exception 1 [] 9
+            (counters 2 (started 1 2 ∷ started 2 1 ∷ [])))
+        Exception.DivideByZero (codes "g") }
+    ensures construction { HasEvents (call_function releases.in_a_construction 0 [] 9 (counters 2 (started 2 1 ∷ started 3 2 ∷ [])))
+        (Drew 2 ∷ Drew 3 ∷ Dropped 2 ∷ Dropped 3 ∷ []) }
+    ensures refused_entry { Aborts (call_function releases.in_a_construction 0 [] 2 (counters 2 [])) (codes "A.A") }
 {}
