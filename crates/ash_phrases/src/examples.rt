@@ -40,12 +40,12 @@ pub fn worked_examples()
 /// What functions do to objects of the embedding program.
 pub fn worked_host_examples()
     ensures held_until_the_expression_ends { HasEvents (call_function objects.overwritten_in_an_argument 1 [] 9
-            (counters 2 (started 1 1 ∷ started 2 5 ∷ added 2 1 5 6 ∷ added 2 1 6 7 ∷ [])))
+        (counters 2 (started 1 1 ∷ started 2 5 ∷ added 2 1 5 6 ∷ added 2 1 6 7 ∷ [])))
         (Drew 1 ∷ Drew 2 ∷ Called (Target.Object 2) 1 ∷ Dropped 1 ∷ Called (Target.Object 2) 1 ∷ Dropped 2 ∷ []) }
     ensures in_ascending_number { HasEvents (call_function objects.shared 0 [] 20 (counters 2 (started 3 1 ∷ started 5 2 ∷ [])))
         (Drew 3 ∷ Drew 5 ∷ Dropped 3 ∷ Dropped 5 ∷ []) }
     ensures blocks_left_together { HasEvents (call_function objects.blocks_left_together 0 [] 9
-            (counters 3 (started 1 1 ∷ started 2 2 ∷ started 3 3 ∷ [])))
+        (counters 3 (started 1 1 ∷ started 2 2 ∷ started 3 3 ∷ [])))
         (Drew 1 ∷ Drew 2 ∷ Dropped 1 ∷ Dropped 2 ∷ Drew 3 ∷ Dropped 3 ∷ []) }
     ensures empty_pool { Throws (call_function objects.shared 0 [] 20 (counters 1 (started 3 1 ∷ []))) Exception.PoolEmpty f }
     ensures no_answer { HasNoStep (call_function objects.shared 0 [] 20 (counters 2 (started 3 1 ∷ []))) }
@@ -72,7 +72,7 @@ pub fn worked_object_examples()
     ensures cast_to_its_class { Gives (call_function objects.through_an_interface 1 [] 9 (with_object_of 1)) (Word.Bool false) }
     ensures cast_to_another { Gives (call_function objects.through_an_interface 1 [] 9 (with_object_of 2)) (Word.Bool true) }
     ensures inserted { Gives (call_function objects.in_an_array 0 [] 9
-            (with_counters 1 (started 2 5 ∷ []) (loaded objects.in_an_array)))
+        (with_counters 1 (started 2 5 ∷ []) (loaded objects.in_an_array)))
         (Word.Int (pos 1)) }
     ensures removed { Throws (call_function objects.in_an_array 1 [] 9 (loaded objects.in_an_array))
         Exception.IndexOutOfBounds (codes "g") }
@@ -83,21 +83,21 @@ pub fn worked_object_examples()
 /// Where objects go, and in which order.
 pub fn worked_release_examples()
     ensures condition { HasEvents (call_function releases.after_a_condition 0 [] 9
-            (counters 2 (started 1 1 ∷ value_read 1 1 ∷ started 2 2 ∷ [])))
+        (counters 2 (started 1 1 ∷ value_read 1 1 ∷ started 2 2 ∷ [])))
         (Drew 1 ∷ Dropped 1 ∷ Drew 2 ∷ Dropped 2 ∷ []) }
     ensures blocks { HasEvents (call_function releases.after_blocks 0 [] 9
-            (counters 3 (started 1 1 ∷ started 2 2 ∷ started 3 3 ∷ [])))
+        (counters 3 (started 1 1 ∷ started 2 2 ∷ started 3 3 ∷ [])))
         (Drew 1 ∷ Drew 2 ∷ Dropped 2 ∷ Dropped 1 ∷ Drew 3 ∷ Dropped 3 ∷ []) }
     ensures continued { HasEvents (call_function releases.after_continue 0 [] 19
-            (counters 4 (started 1 1 ∷ started 2 1 ∷ started 3 1 ∷ started 4 1 ∷ [])))
+        (counters 4 (started 1 1 ∷ started 2 1 ∷ started 3 1 ∷ started 4 1 ∷ [])))
         (Drew 1 ∷ Drew 2 ∷ Dropped 1 ∷ Dropped 2 ∷ Drew 3 ∷ Drew 4 ∷ Dropped 3 ∷ Dropped 4 ∷ []) }
     ensures returned { HasEvents (call_function releases.after_a_return 1 [] 9
-            (counters 2 (started 1 1 ∷ started 2 2 ∷ added 1 1 1 2 ∷ [])))
+        (counters 2 (started 1 1 ∷ started 2 2 ∷ added 1 1 1 2 ∷ [])))
         (Drew 1 ∷ Drew 2 ∷ Dropped 2 ∷ Called (Target.Object 1) 1 ∷ Dropped 1 ∷ []) }
     ensures exception { HasEvents (call_function releases.after_an_exception 1 [] 9 (counters 2 (started 1 2 ∷ started 2 1 ∷ [])))
         (Drew 1 ∷ Drew 2 ∷ Dropped 1 ∷ Dropped 2 ∷ []) }
     ensures function_of_the_exception { Throws (call_function releases.after_an_exception 1 [] 9
-            (counters 2 (started 1 2 ∷ started 2 1 ∷ [])))
+        (counters 2 (started 1 2 ∷ started 2 1 ∷ [])))
         Exception.DivideByZero (codes "g") }
     ensures construction { HasEvents (call_function releases.in_a_construction 0 [] 9 (counters 2 (started 2 1 ∷ started 3 2 ∷ [])))
         (Drew 2 ∷ Drew 3 ∷ Dropped 2 ∷ Dropped 3 ∷ []) }

@@ -17,5 +17,7 @@ mod examples;
 mod exception;
 pub mod laws;
 
-pub use examples::{worked_examples, worked_host_examples, worked_object_examples, worked_release_examples};
+pub use examples::{
+    worked_examples, worked_host_examples, worked_object_examples, worked_release_examples,
+};
 pub use exception::Exception;
