@@ -11,8 +11,8 @@ pub fn depth_is_no_part()
         → DepthIsNoPart program ticks depth other }
 {}
 
-/// A release point takes exactly what can't be reached, the host objects among it by ascending number, and changes nothing
-/// else.
+/// A release point takes exactly what can't be reached, the host objects among it by ascending number, and changes
+/// nothing else.
 pub fn release_takes_the_unreachable()
     ensures { (activity : Activity) → IsInOrder activity.world.objects → ReleasesTheUnreachable activity }
 {}

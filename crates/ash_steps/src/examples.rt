@@ -9,7 +9,10 @@ ghost use Rattle.ash_phrases.specs.Ends.{Finished, Threw};
 ghost use Rattle.ash_phrases.specs.ExampleParts.{started};
 ghost use Rattle.ash_phrases.specs.ObjectExamples.{tallied};
 ghost use Rattle.ash_steps.specs.declared.argument.Argument.{Argument};
-ghost use Rattle.ash_steps.specs.Requests.{Load, Call, Discard, Global, Object, Seq, Answered, Value, ShownAs, Number, Refused, OfKind, BadName, BadSource, ModuleTaken, NoModule, NoFunction, NotCallable, BadArguments, NoObject};
+ghost use Rattle.ash_steps.specs.Requests.{Load, Call, Discard, Global, Object, Seq};
+ghost use Rattle.ash_steps.specs.Requests.{Answered, Value, ShownAs, Number, Refused, OfKind};
+ghost use Rattle.ash_steps.specs.Requests.{BadName, BadSource, ModuleTaken, NoModule, NoFunction, NotCallable};
+ghost use Rattle.ash_steps.specs.Requests.{BadArguments, NoObject};
 ghost use Rattle.ash_steps.specs.Examples.{Replies, m, k};
 
 /// What a few runs over requests reply.

@@ -11,7 +11,8 @@ ghost use Rattle.ash_steps.specs.Steps.{step, replied};
 
 /// A request that is refused changes nothing, and its reply is the first cause.
 pub fn refusal_changes_nothing<F>()
-    ensures { (read : List ℕ → Result Module F) (budget : ℕ) (request : Request) (state : State) (hosts : Hosts) (refusal : Refusal F)
+    ensures { (read : List ℕ → Result Module F) (budget : ℕ) (request : Request)
+        (state : State) (hosts : Hosts) (refusal : Refusal F)
         → first_refusal read request state ≡ Some refusal
         → step read budget request state hosts ≡ Some (replied (Refused refusal) state hosts) }
 {}
