@@ -1,2 +1,3 @@
 pub mod Computing
 mod Refused
+mod Counted

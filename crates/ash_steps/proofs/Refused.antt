@@ -1,6 +1,6 @@
 -- A request that is refused changes nothing.
-use Rattle.std.proofs.Common.{◌≡◌, ℕ, List, ap, arith}
-use Rattle.std.specs.Prelude.{Option, Some, None, Result, Ok, Err}
+use Rattle.std.proofs.Common.{◌≡◌, ℕ, ap}
+use Rattle.std.specs.Prelude.{Some, Ok, Err}
 use Rattle.std.specs.Result.{result_err}
 use Rattle.ash_steps.specs.States.{State, Hosts}
 use Rattle.ash_steps.specs.Requests.{Refusal, Refused}
