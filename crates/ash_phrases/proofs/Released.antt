@@ -10,7 +10,7 @@ pub swept_by : (frames : List Frame) (world : World) → IsInOrder world.objects
 unfolding sweep
 swept_by frames world in_order = record {
   swept = sweep_is_exact (roots frames world) world.objects in_order;
-  told = refl;
+  events = refl;
   others = refl;
 }
 

@@ -75,7 +75,7 @@ module _ {n : ℕ} where
   found_there (Some v) = given v
   found_there None = nowhere
 
-  -- a tick, and behind it runs that are the same of fewer ticks
+  -- a tick, and after it runs that are the same of fewer ticks
 
   spends : {A : Type 0} {r s : Run A} → ((m : ℕ) → m < n → AreSame m r s) → (t : ℕ) (b : Activity) → t ≤ n → b.ticks ≤ t → (onward (spend t b) (λ _. r) ≡ onward (spend t b) (λ _. s)) × LeavesAtMost t (onward (spend t b) (λ _. r))
   spends h zero b le l = (refl, l)

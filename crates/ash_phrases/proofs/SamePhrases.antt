@@ -25,7 +25,7 @@ use Rattle.ash_phrases.specs.Calls.{Calls, value_or_null, blank, call, construct
 use Rattle.ash_phrases.specs.Operators.{is_true, zero_of, converted_to, altered}
 use Rattle.ash_phrases.specs.Locations.{Global, Part, location_of_member}
 use Rattle.ash_phrases.specs.Expressions.{expression, location, arguments, lazily}
-use Rattle.ash_phrases.specs.Statements.{Flow, On, Broke, Continued, Returned, go_on, end_block, in_block, behind_break, declare_all, evaluate, evaluate_all, condition, condition_or_true, begin, return_value, Turn, behind_body, turn, turns, repeat, Labelled, from_label, is_constant, or_else, fall_through, switch, statement, otherwise, loop, statements, case_run, cases}
+use Rattle.ash_phrases.specs.Statements.{Flow, On, Broke, Continued, Returned, go_on, end_block, in_block, after_break, declare_all, evaluate, evaluate_all, condition, condition_or_true, begin, return_value, Turn, after_body, turn, turns, repeat, Labelled, from_label, is_constant, or_else, fall_through, switch, statement, otherwise, loop, statements, case_run, cases}
 use Rattle.ash_phrases.specs.Functions.{initialize_globals, initialize_module, write_field, initialize_fields, value_of, run_entry}
 use Rattle.ash_phrases.specs.Laws.{AreSame}
 use Rattle.ash_phrases.specs.Releases.{full}
@@ -38,14 +38,14 @@ abbrev turn_of : ℕ → Run Bool → Run (Unit {0}) → Run Flow → Turn
 turn_of line condition steps body = record { line = line; condition = condition; steps = steps; body = body }
 
 module _ {n : ℕ} (line : ℕ) (c c' : Run Bool) {s s' : Run (Unit {0})} (b b' : Run Flow) where
-  same_behind_body : {next others : Run Flow} → AreSame n s s' → AreSame n next others → (flow : Flow) → AreSame n (behind_body (turn_of line c s b) next flow) (behind_body (turn_of line c' s' b') others flow)
-  same_behind_body hs k On = followed hs k
-  same_behind_body hs k Continued = followed (followed to_release hs) k
-  same_behind_body hs k Broke = given _
-  same_behind_body hs k (Returned value) = given _
+  same_after_body : {next others : Run Flow} → AreSame n s s' → AreSame n next others → (flow : Flow) → AreSame n (after_body (turn_of line c s b) next flow) (after_body (turn_of line c' s' b') others flow)
+  same_after_body hs k On = followed hs k
+  same_after_body hs k Continued = followed (followed to_release hs) k
+  same_after_body hs k Broke = given _
+  same_after_body hs k (Returned value) = given _
 
   same_turn : {next others : Run Flow} → AreSame n s s' → AreSame n b b' → AreSame n next others → AreSame n (turn (turn_of line c s b) next) (turn (turn_of line c' s' b') others)
-  same_turn hs hb k = bound hb (same_behind_body hs k)
+  same_turn hs hb k = bound hb (same_after_body hs k)
 
 same_turns : (d e n line : ℕ) {c c' : Run Bool} {s s' : Run (Unit {0})} {b b' : Run Flow} → n ≤ d → n ≤ e → AreSame n c c' → AreSame n s s' → AreSame n b b' → AreSame n (turns d (turn_of line c s b)) (turns e (turn_of line c' s' b'))
 same_turns zero zero n line le more hc hs hb = ticked line (λ m less. absurd (omega arith))
@@ -63,7 +63,7 @@ same_repeat tests.Last d e n line {c} {c'} {b = b} {b' = b'} le more hc hs hb = 
 
 -- labels
 
--- the same labels, each with the same statements behind it
+-- the same labels, each with the same statements after it
 pub data SameLabels (n : ℕ) : List Labelled → List Labelled → Type 0 where
   no_labels : SameLabels n [] []
   more_labels : {constant : Option ℤ} {r s : Run Flow} {ls ms : List Labelled} → AreSame n r s → SameLabels n ls ms → SameLabels n (record { constant = constant; run = r } ∷ ls) (record { constant = constant; run = s } ∷ ms)
@@ -105,11 +105,11 @@ module _ {n : ℕ} where
   same_block : {r s : Run Flow} → AreSame n r s → AreSame n (in_block r) (in_block s)
   same_block h = bound to_count_locals (λ outer. bound h (λ flow. followed (to_leave_blocks outer) (to_end_block flow)))
 
-  to_behind_break : (flow : Flow) → AreSame n (behind_break flow) (behind_break flow)
-  to_behind_break On = given _
-  to_behind_break Broke = followed to_release (given On)
-  to_behind_break Continued = given _
-  to_behind_break (Returned value) = given _
+  to_after_break : (flow : Flow) → AreSame n (after_break flow) (after_break flow)
+  to_after_break On = given _
+  to_after_break Broke = followed to_release (given On)
+  to_after_break Continued = given _
+  to_after_break (Returned value) = given _
 
   same_lazily : (op : Lazy) (b : Bool) {r s : Run Word} → AreSame n r s → AreSame n (lazily op b r) (lazily op b s)
   same_lazily lazies.And true h = h
@@ -228,9 +228,9 @@ module _ {n : ℕ} (p : Program) (one other : Entry → Run (Option Word)) (bodi
       same_statement (Evaluate line x) = followed (followed (a_tick line) (same_evaluate x)) (given On)
       same_statement (Block line ss) = same_block (same_statements ss)
       same_statement (If line x s rest) = bound (followed (a_tick line) (same_condition x)) (λ b. chosen_by b (same_statement s) (same_otherwise rest))
-      same_statement (Repeat line inside) = bound (followed (a_tick line) (same_loop line inside)) to_behind_break
-      same_statement (For line head inside) = bound (followed (a_tick line) (same_block (followed (same_begin head) (same_loop line inside)))) to_behind_break
-      same_statement (Switch line kind x cs) = bound (bound (followed (a_tick line) (to_full (same_expression x))) (same_switch (same_cases cs))) to_behind_break
+      same_statement (Repeat line inside) = bound (followed (a_tick line) (same_loop line inside)) to_after_break
+      same_statement (For line head inside) = bound (followed (a_tick line) (same_block (followed (same_begin head) (same_loop line inside)))) to_after_break
+      same_statement (Switch line kind x cs) = bound (bound (followed (a_tick line) (to_full (same_expression x))) (same_switch (same_cases cs))) to_after_break
       same_statement (Break line) = followed (a_tick line) (given Broke)
       same_statement (Continue line) = followed (a_tick line) (given Continued)
       same_statement (Return line x) = followed (a_tick line) (same_return x)

@@ -61,7 +61,7 @@ zero_in _ = words.Null
 abbrev pub zero_at : ℕ → Run Word
 zero_at number = look (λ activity. option_map_or zero_in (object_at number activity.world.objects) words.Null)
 
--- so many of these words, and new ones behind them where there are fewer
+-- so many of these words, and new ones after them where there are fewer
 abbrev pub resized : ℕ → Word → List Word → List Word
 resized count zero all = take count all ++ replicate (count - length all) zero
 

@@ -21,7 +21,7 @@ use Rattle.ash_phrases.specs.ArraySteps.{construct_array, invoke_array}
 use Rattle.ash_phrases.specs.Operators.{zero_of}
 use Rattle.ash_phrases.specs.Classes.{Program, class_of, implemented, is_object_of, element_of, Callee, FreeFunction, Method as ClassMethod, Construction, Entry, entry_of, place_of_class}
 
--- What phrases call: the module that runs, and what a frame does behind the tick of its entry.
+-- What phrases call: the module that runs, and what a frame does after the tick of its entry.
 pub record Calls : Type 0 where
   pub program : Program
   pub body : Entry → Run (Option Word)

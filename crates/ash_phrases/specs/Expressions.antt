@@ -20,14 +20,14 @@ use Rattle.ash_phrases.specs.Calls.{Calls, invoke, call_target, cast}
 abbrev pub store : Word → Location → Run Word
 store word location = write location word >> give word
 
--- `p op= e` behind `e` and `p`: the place is read, and what the operator makes is converted to its type and stored.
+-- `p op= e` after `e` and `p`: the place is read, and what the operator makes is converted to its type and stored.
 abbrev pub update : Kind → Calculation → Word → Location → Run Word
 update kind calculation right location =
     read location
     >>= (λ left. calculate calculation (converted_to calculation.of left) right)
     >>= (λ word. store (converted_to kind word) location)
 
--- `++` or `--` behind its place
+-- `++` or `--` after its place
 abbrev pub count_at : Kind → Step → Location → Run Word
 count_at kind step location =
     read location
@@ -51,7 +51,7 @@ abbrev mutual
   expression calls Null = give words.Null
   expression calls (This class) = this >>= give_held
   expression calls (Read place) = location calls place >>= read >>= give_held
-  -- the object is tested behind the arguments
+  -- the object is tested after the arguments
   expression calls (Invoke object method parameters es) =
       expression calls object
       >>= (λ handle. arguments calls es
@@ -73,7 +73,7 @@ abbrev mutual
   expression calls (Count place kind step) = location calls place >>= count_at kind step
   expression calls (Call target parameters es) = arguments calls es >>= call_target calls target
 
-  -- the object of a member is tested as soon as it is computed; that of an element behind the index
+  -- the object of a member is tested as soon as it is computed; that of an element after the index
   pub location : Calls → Place → Run Location
   location calls (Stored variable) = give (location_of_variable variable)
   location calls (Held object member) =

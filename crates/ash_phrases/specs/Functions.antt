@@ -1,4 +1,4 @@
--- What frames do behind the tick of their entry: constructions and bodies of functions, and the initializers of a module.
+-- What frames do after the tick of their entry: constructions and bodies of functions, and the initializers of a module.
 use Rattle.std.specs.Prelude.{ℕ, zero, suc, ◌+◌, List, [], ◌∷◌, length, Option, None}
 use Rattle.std.specs.Option.{option_map_or}
 use Rattle.ash_host.specs.declared.word.Word.{Word}
@@ -47,7 +47,7 @@ abbrev pub value_of : Flow → Option Word
 value_of (Returned value) = value
 value_of _ = None
 
--- what a frame does behind the tick of its entry
+-- what a frame does after the tick of its entry
 abbrev pub run_entry : Calls → ℕ → Entry → Run (Option Word)
 run_entry calls depth e =
     initialize_fields calls 0 e.fields >> statements calls depth e.body >>= (λ flow. give (value_of flow))

@@ -39,7 +39,7 @@ pub record DepthIsNoPart (program : Program) (ticks depth other : ℕ) : Type 0 
 -- objects among it are the last events, by ascending number; nothing else changes.
 pub record IsReleased (frames : List Frame) (old new : World) : Type 0 where
   pub swept : Swept (Contains (roots frames old)) old.objects new.objects (hosts_gone old.objects new.objects)
-  pub told : new.events ≡ old.events ++ map Dropped (hosts_gone old.objects new.objects)
+  pub events : new.events ≡ old.events ++ map Dropped (hosts_gone old.objects new.objects)
   pub others : new ≡ record old { objects = new.objects; events = new.events }
 
 -- what a release point leaves of an activity

@@ -40,10 +40,10 @@ end_block flow = give flow
 abbrev pub in_block : Run Flow → Run Flow
 in_block inside = count_locals >>= (λ outer. inside >>= (λ flow. leave_blocks outer >> end_block flow))
 
--- A `break` leads behind the loop or the `switch`, where the blocks that it leaves end together.
-abbrev pub behind_break : Flow → Run Flow
-behind_break Broke = release >> give On
-behind_break flow = give flow
+-- A `break` leads past the loop or the `switch`, where the blocks that it leaves end together.
+abbrev pub after_break : Flow → Run Flow
+after_break Broke = release >> give On
+after_break flow = give flow
 
 -- variables
 
@@ -92,16 +92,16 @@ pub record Turn : Type 0 where
   pub steps : Run (Unit {0})
   pub body : Run Flow
 
--- Behind a body come the steps and the next turn. The blocks that a `continue` leaves end together before them.
-abbrev pub behind_body : Turn → Run Flow → Flow → Run Flow
-behind_body t next On = t.steps >> next
-behind_body t next Continued = release >> t.steps >> next
-behind_body t next Broke = give Broke
-behind_body t next (Returned value) = give (Returned value)
+-- After a body come the steps and the next turn. The blocks that a `continue` leaves end together before them.
+abbrev pub after_body : Turn → Run Flow → Flow → Run Flow
+after_body t next On = t.steps >> next
+after_body t next Continued = release >> t.steps >> next
+after_body t next Broke = give Broke
+after_body t next (Returned value) = give (Returned value)
 
--- one turn, and those behind it
+-- one turn, and those after it
 abbrev pub turn : Turn → Run Flow → Run Flow
-turn t next = t.body >>= behind_body t next
+turn t next = t.body >>= after_body t next
 
 -- A loop from its condition on, of so many turns at most. Each turn takes a tick first, so that a loop that has no more
 -- ticks than turns never comes to the end of them.
@@ -115,7 +115,7 @@ repeat tests.Last depth t = turn t (turns depth t)
 
 -- `switch`
 
--- the statements behind a label, with its constant; `default` has none
+-- the statements after a label, with its constant; `default` has none
 pub record Labelled : Type 0 where
   pub constant : Option ℤ
   pub run : Run Flow
@@ -154,12 +154,12 @@ abbrev mutual
   statement calls depth (Block line ss) = in_block (statements calls depth ss)
   statement calls depth (If line c s other) =
       tick line >> condition calls c >>= (λ b. if b then statement calls depth s else otherwise calls depth other)
-  statement calls depth (Repeat line inside) = tick line >> loop calls depth line inside >>= behind_break
+  statement calls depth (Repeat line inside) = tick line >> loop calls depth line inside >>= after_break
   -- the head and the loop are a block, which a `break` leaves with those of the body
   statement calls depth (For line head inside) =
-      tick line >> in_block (begin calls head >> loop calls depth line inside) >>= behind_break
+      tick line >> in_block (begin calls head >> loop calls depth line inside) >>= after_break
   statement calls depth (Switch line kind e cs) =
-      tick line >> full (expression calls e) >>= switch (cases calls depth cs) >>= behind_break
+      tick line >> full (expression calls e) >>= switch (cases calls depth cs) >>= after_break
   statement calls depth (Break line) = tick line >> give Broke
   statement calls depth (Continue line) = tick line >> give Continued
   statement calls depth (Return line e) = tick line >> return_value calls e

@@ -18,7 +18,7 @@ pub record Step (Fault : Type 0) : Type 0 where
 abbrev pub hosts_left : World → Hosts
 hosts_left world = record { pool = world.pool; answers = world.answers }
 
--- the world without the globals of a module that did not come to its end: a release point behind that of its frames
+-- the world without the globals of a module that did not come to its end: a release point after that of its frames
 abbrev pub without_globals : World → World
 without_globals world = sweep [] (record world { globals = [] })
 
@@ -70,11 +70,11 @@ pub record Run (Fault : Type 0) : Type 0 where
   pub state : State
   pub hosts : Hosts
 
-abbrev pub behind : {Fault : Type 0} → Step Fault → Run Fault → Run Fault
-behind one rest = record rest { replies = one.reply ∷ rest.replies }
+abbrev pub with_step : {Fault : Type 0} → Step Fault → Run Fault → Run Fault
+with_step one rest = record rest { replies = one.reply ∷ rest.replies }
 
 -- A run: each request is answered from the state that the one before it left, by the hosts that it left. It is a function,
 -- so that a run is determined by the budget, the requests, the pool and what hosts answer.
 abbrev pub run : {Fault : Type 0} → (List ℕ → Result Module Fault) → ℕ → List Request → State → Hosts → Option (Run Fault)
 run read budget [] state hosts = Some (record { replies = []; state = state; hosts = hosts })
-run read budget (request ∷ requests) state hosts = option_and_then (λ one. option_map (behind one) (run read budget requests one.state one.hosts)) (step read budget request state hosts)
+run read budget (request ∷ requests) state hosts = option_and_then (λ one. option_map (with_step one) (run read budget requests one.state one.hosts)) (step read budget request state hosts)
