@@ -1,5 +1,5 @@
 -- What a release point does.
-use Rattle.std.proofs.Common.{ℕ, List, ◌∷◌, refl}
+use Rattle.std.proofs.Common.{List, ◌∷◌, refl}
 use Rattle.ash_host.specs.Objects.{IsInOrder}
 use Rattle.ash_host.proofs.ReachLaws.{sweep_is_exact}
 use Rattle.ash_phrases.specs.Activity.{World, Frame, Activity}

@@ -18,7 +18,7 @@ use Rattle.ash_typed.specs.declared.tree.statements.Test.TheVariants as tests
 use Rattle.ash_typed.specs.Tree.{Expr, Number, Truth, Null, This, Read, Invoke, Convert, Cast, Alter, Operate, Lazily, Conditional, Assign, Update, Count, Call, Place, Stored, Held, Indexed, Exprs, no_expr, expr}
 use Rattle.ash_typed.specs.StatementTree.{Initialization, Stmt, Empty, Declare, Evaluate, Block, If, Branch, no_branch, branch, Head, no_head, declared_head, evaluated_head, Repeat, For, Loop, repeated, Switch, Break, Continue, Return, Stmts, no_stmt, stmt, Case, labelled, Cases, no_case, next_case}
 use Rattle.ash_typed.specs.Modules.{Variables}
-use Rattle.ash_phrases.specs.Runs.{Run, ◌>>=◌, ◌>>◌}
+use Rattle.ash_phrases.specs.Runs.{Run, ◌>>=◌}
 use Rattle.ash_phrases.specs.Frames.{in_frame_of}
 use Rattle.ash_phrases.specs.Classes.{Program, class_of, implemented, element_of, Callee, Construction, Method as ClassMethod, FreeFunction, Entry, entry_of}
 use Rattle.ash_phrases.specs.Calls.{Calls, value_or_null, blank, call, construct, call_through, invoke, call_target}

@@ -30,7 +30,7 @@ use Rattle.ash_phrases.specs.Frames.{max_frames, demand_frame, enter, back_in, l
 use Rattle.ash_phrases.specs.ObjectSteps.{object_of, words_at, put_words, max_objects, max_number, demand_number, with_new, make}
 use Rattle.ash_phrases.specs.HostSteps.{note, next_answer, after_answer, call_host, accept, invoke_host, get_property, set_property, place_of_kind, without_box, box_in, box_of_kind, draw, construct_host, is_of}
 use Rattle.ash_phrases.specs.Operators.{int_type, calculated_by, converted_to, counted, given_by, give_or_raise, calculate, operate}
-use Rattle.ash_phrases.specs.Locations.{Location, Local, Global, Part, Property, with_local, with_global, this, read, overwrite, write}
+use Rattle.ash_phrases.specs.Locations.{Location, Local, Global, Part, Property, with_local, with_global, read, overwrite, write}
 use Rattle.ash_phrases.specs.ArraySteps.{max_elements, zero_element, natural_of, count_in, zero_in, resized, index_in, construct_array, zero_at, resize, insert_last, remove_last, length_of, invoke_array}
 use Rattle.ash_phrases.specs.Classes.{Program}
 use Rattle.ash_phrases.specs.Calls.{cast}
