@@ -9,11 +9,25 @@ use Rattle.std.specs.Map.{lookup, keys_of, values_of}
 use Rattle.ash_host.specs.declared.word.Word.{Word}
 use Rattle.ash_host.specs.declared.word.Word.TheVariants.{Object}
 
+-- M is what a module is known by, its name or the slot of a table.
+
+-- What the elements of an array are of. Handles of objects of a class or an interface have the module and the place of
+-- the class or the interface in the source there; handles of host objects have the kind.
+pub data Element (M : Type 0) : Type 0 where
+  Bools : Element M
+  Ints : Element M
+  Uints : Element M
+  Int64s : Element M
+  Uint64s : Element M
+  Handles : (owner : M) (place : ℕ) → Element M
+  Hosts : (kind : ℕ) → Element M
+
 -- An object. A script object has the module and the place of its class in the source there, and its fields in
--- order of declaration; a host object has its kind and its state. M is what a module is known by, its name or the
--- slot of a table.
+-- order of declaration; an array has what its elements are of, and the elements; a host object has its kind and its
+-- state.
 pub data Plain (M : Type 0) : Type 0 where
   Script : (owner : M) (place : ℕ) (fields : List Word) → Plain M
+  Array : (of : Element M) (elements : List Word) → Plain M
   Host : (kind : ℕ) (state : List ℕ) → Plain M
 
 -- the live objects by their numbers, each number below the next
@@ -49,21 +63,23 @@ handle _ = None
 abbrev pub handles : List Word → List ℕ
 handles words = filter_map handle words
 
--- the fields of an object; a host object has none
+-- the words of an object: its fields, or its elements; a host object has none
 abbrev pub fields_of : {M : Type 0} → Plain M → List Word
 fields_of (Script _ _ fields) = fields
+fields_of (Array _ elements) = elements
 fields_of (Host _ _) = []
 
 -- whether an object is a host object
 abbrev pub is_host : {M : Type 0} → Plain M → Bool
 is_host (Script _ _ _) = false
+is_host (Array _ _) = false
 is_host (Host _ _) = true
 
--- what the object of a number refers to by its fields; nothing where none lives
+-- what the object of a number refers to by its words; nothing where none lives
 abbrev pub references : {M : Type 0} → Objects M → ℕ → List ℕ
 references objects number = option_map_or (λ object. handles (fields_of object)) (object_at number objects) []
 
--- a field of the object of one number is a handle to the other
+-- a field or an element of the object of one number is a handle to the other
 abbrev pub Refers : {M : Type 0} → Objects M → ℕ → ℕ → Type 0
 Refers objects one other = Contains (references objects one) other
 
@@ -76,11 +92,11 @@ is_handle_to _ _ = false
 abbrev pub handles_to : ℕ → List Word → ℕ
 handles_to number words = count_by (is_handle_to number) words
 
--- how many fields are handles to an object
+-- how many fields and elements are handles to an object
 abbrev pub fields_to : {M : Type 0} → ℕ → Objects M → ℕ
 fields_to number objects = sum_by (λ object. handles_to number (fields_of object)) (values_of objects)
 
--- the count of an object: the globals and the fields that are handles to it
+-- the count of an object: the globals, the fields and the elements that are handles to it
 abbrev pub count_of : {M : Type 0} → ℕ → List Word → Objects M → ℕ
 count_of number globals objects = handles_to number globals + fields_to number objects
 

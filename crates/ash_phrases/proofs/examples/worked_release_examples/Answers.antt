@@ -1,0 +1,35 @@
+use Rattle.std.proofs.Common.{refl}
+use Rattle.ash_phrases.proofs.Computing.{computing}
+use Rattle.ash_phrases.proofs.examples.worked_release_examples.Goals as goal
+
+pub returns-clause-condition : goal.returns-clause-condition
+unfolding computing
+returns-clause-condition c = refl
+
+pub returns-clause-blocks : goal.returns-clause-blocks
+unfolding computing
+returns-clause-blocks c = refl
+
+pub returns-clause-continued : goal.returns-clause-continued
+unfolding computing
+returns-clause-continued c = refl
+
+pub returns-clause-returned : goal.returns-clause-returned
+unfolding computing
+returns-clause-returned c = refl
+
+pub returns-clause-exception : goal.returns-clause-exception
+unfolding computing
+returns-clause-exception c = refl
+
+pub returns-clause-function_of_the_exception : goal.returns-clause-function_of_the_exception
+unfolding computing
+returns-clause-function_of_the_exception c = refl
+
+pub returns-clause-construction : goal.returns-clause-construction
+unfolding computing
+returns-clause-construction c = refl
+
+pub returns-clause-refused_entry : goal.returns-clause-refused_entry
+unfolding computing
+returns-clause-refused_entry c = refl

@@ -1,0 +1,135 @@
+-- Parts of small modules whose meaning is computed, and what is compared of it.
+use Rattle.std.specs.Prelude.{◌≡◌, ℕ, pos, List, [], ◌∷◌, replicate, codes, Option, Some, None, option_map}
+use Rattle.std.specs.Option.{option_map_or}
+use Rattle.ash_host.specs.declared.word.Word.{Word}
+use Rattle.ash_host.specs.declared.word.Word.TheVariants as words
+use Rattle.ash_host.specs.declared.answer.HostAnswer.TheVariants.{Value, Nothing}
+use Rattle.ash_host.specs.declared.event.Event.{Event}
+use Rattle.ash_host.specs.declared.event.Target.TheVariants as hosts
+use Rattle.ash_host.specs.Calls as calls
+use Rattle.ash_host.specs.Ints.{int_bytes}
+use Rattle.ash_host.specs.Records.{HostRecord}
+use Rattle.ash_typed.specs.declared.types.Kind.TheVariants as kinds
+use Rattle.ash_typed.specs.declared.types.ObjectType.TheVariants as objects
+use Rattle.ash_typed.specs.declared.types.VarType.{VarType}
+use Rattle.ash_typed.specs.declared.types.VarType.TheVariants as vars
+use Rattle.ash_typed.specs.declared.tree.operations.Variable.TheVariants as variables
+use Rattle.ash_typed.specs.declared.tree.operations.Member.TheVariants as members
+use Rattle.ash_typed.specs.declared.tree.operations.Method.TheVariants as methods
+use Rattle.ash_typed.specs.declared.tree.operations.Target.TheVariants as targets
+use Rattle.ash_typed.specs.declared.tree.operations.Calculator.{Calculator}
+use Rattle.ash_typed.specs.declared.tree.operations.Operation.TheVariants as operations
+use Rattle.ash_typed.specs.Tree.{Expr, Number, Invoke, Operate, Call, Place, Stored, Held, exprs}
+use Rattle.ash_typed.specs.StatementTree.{Initialization, Stmt, Evaluate, Return, stmts}
+use Rattle.ash_typed.specs.Modules.{Variables, Function, Class, Module}
+use Rattle.ash_phrases.specs.Activity.{World}
+use Rattle.ash_phrases.specs.Classes.{Program}
+use Rattle.ash_phrases.specs.declared.exception.Exception.{Exception}
+use Rattle.ash_phrases.specs.Ends.{End, Finished, Threw, Aborted, Outcome, load_module}
+
+-- parts of trees
+
+abbrev pub int : VarType
+int = vars.Integer kinds.Int
+
+abbrev pub handle_of_class : ℕ → VarType
+handle_of_class class = vars.Handle (objects.Class class)
+
+abbrev pub handle_of_kind : ℕ → VarType
+handle_of_kind kind = vars.Handle (objects.Host kind)
+
+abbrev pub number : ℕ → Expr
+number n = Number kinds.Int n
+
+abbrev pub local : ℕ → VarType → Place
+local slot of = Stored (variables.Local slot of)
+
+abbrev pub global : ℕ → VarType → Place
+global place of = Stored (variables.Global place of)
+
+abbrev pub calculate : Calculator → Expr → Expr → Expr
+calculate operator a b = Operate (operations.Calculate (record { operator = operator; of = kinds.Int })) a b
+
+abbrev pub variable : VarType → Option Expr → Initialization
+variable of value = record { name = []; of = of; value = value }
+
+abbrev pub give : Expr → Stmt
+give e = Return 1 (Some e)
+
+abbrev pub evaluate : Expr → Stmt
+evaluate e = Evaluate 1 e
+
+abbrev pub function : List ℕ → Option VarType → List VarType → List Stmt → Function
+function name result parameters body = record { name = name; line = 1; result = result; parameters = parameters; body = stmts body }
+
+abbrev pub module_of : List Class → List Variables → List Function → Module
+module_of classes globals functions = record { interfaces = []; classes = classes; functions = functions; globals = globals }
+
+abbrev pub program : Module → Program
+program m = record { name = codes "m"; tree = m }
+
+-- worlds, and what is compared of an outcome
+
+abbrev pub empty_world : World
+empty_world = record { globals = []; outside = []; objects = []; last = 0; services = []; pool = []; answers = []; events = [] }
+
+abbrev pub end_of : Option Outcome → Option End
+end_of outcome = option_map (λ (o : Outcome). o.end) outcome
+
+-- a run ends with a value; by an exception, or by a refused tick, in a function at line 1; or it has no step
+abbrev pub Gives : Option Outcome → Word → Type 0
+Gives outcome word = end_of outcome ≡ Some (Finished (Some word))
+
+abbrev pub Throws : Option Outcome → Exception → List ℕ → Type 0
+Throws outcome exception function = end_of outcome ≡ Some (Threw exception function 1)
+
+abbrev pub Aborts : Option Outcome → List ℕ → Type 0
+Aborts outcome function = end_of outcome ≡ Some (Aborted function 1)
+
+abbrev pub HasNoStep : Option Outcome → Type 0
+HasNoStep outcome = end_of outcome ≡ None
+
+-- what a run leaves
+
+abbrev pub HasEvents : Option Outcome → List Event → Type 0
+HasEvents outcome events = option_map (λ (o : Outcome). (o.world).events) outcome ≡ Some events
+
+abbrev pub HasServices : Option Outcome → List (List ℕ) → Type 0
+HasServices outcome states = option_map (λ (o : Outcome). (o.world).services) outcome ≡ Some states
+
+-- what a load leaves, with the budget of 9 ticks
+abbrev pub loaded : Program → World
+loaded p = option_map_or (λ (o : Outcome). o.world) (load_module p 9 empty_world) empty_world
+
+-- counters, which have kind 1
+
+abbrev pub with_counters : ℕ → List HostRecord → World → World
+with_counters count answers world = record world { pool = replicate count (record { kind = 1; state = int_bytes (pos 0) }); answers = answers }
+
+abbrev pub counters : ℕ → List HostRecord → World
+counters count answers = with_counters count answers empty_world
+
+abbrev pub started : ℕ → ℕ → HostRecord
+started object n = record { target = hosts.Object object; call = calls.Start (words.Int (pos n) ∷ []); before = int_bytes (pos 0); answer = Nothing; after = int_bytes (pos n) }
+
+abbrev pub added : ℕ → ℕ → ℕ → ℕ → HostRecord
+added object n old sum = record { target = hosts.Object object; call = calls.Invoke 1 (words.Int (pos n) ∷ []); before = int_bytes (pos old); answer = Value (words.Int (pos sum)); after = int_bytes (pos sum) }
+
+abbrev pub counter : VarType
+counter = handle_of_kind 1
+
+abbrev pub new_counter : ℕ → Expr
+new_counter n = Call (targets.Host 1) (int ∷ []) (exprs (number n ∷ []))
+
+abbrev pub add : Expr → ℕ → Expr
+add object n = Invoke object (methods.Host 1 (Some int)) (int ∷ []) (exprs (number n ∷ []))
+
+abbrev pub counter_value : Expr → Place
+counter_value object = Held object (members.Property 1 int)
+
+abbrev pub f : List ℕ
+f = codes "f"
+
+-- a module with one function, `f`, of these parameters
+abbrev pub only : Option VarType → List VarType → List Stmt → Program
+only result parameters body = program (module_of [] [] (function f result parameters body ∷ []))

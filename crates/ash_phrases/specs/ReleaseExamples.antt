@@ -1,0 +1,80 @@
+-- Small modules whose meaning is computed: of objects that go at each sort of release point.
+use Rattle.std.specs.Prelude.{ℕ, pos, List, [], ◌∷◌, codes, Some, None}
+use Rattle.ash_host.specs.declared.word.Word.TheVariants as words
+use Rattle.ash_host.specs.declared.answer.HostAnswer.TheVariants.{Value}
+use Rattle.ash_host.specs.declared.event.Target.TheVariants as hosts
+use Rattle.ash_host.specs.Calls as calls
+use Rattle.ash_host.specs.Ints.{int_bytes}
+use Rattle.ash_host.specs.Records.{HostRecord}
+use Rattle.ash_typed.specs.declared.types.Kind.TheVariants as kinds
+use Rattle.ash_typed.specs.declared.tree.operations.Calculator.TheVariants as calculators
+use Rattle.ash_typed.specs.declared.tree.operations.Comparator.TheVariants as comparators
+use Rattle.ash_typed.specs.declared.tree.operations.Member.TheVariants as members
+use Rattle.ash_typed.specs.declared.tree.operations.Operands.TheVariants as operands
+use Rattle.ash_typed.specs.declared.tree.operations.Operation.TheVariants as operations
+use Rattle.ash_typed.specs.declared.tree.operations.Step.TheVariants as steps
+use Rattle.ash_typed.specs.declared.tree.operations.Target.TheVariants as targets
+use Rattle.ash_typed.specs.declared.tree.statements.Test.TheVariants as tests
+use Rattle.ash_typed.specs.Tree.{Expr, Null, This, Read, Operate, Assign, Count, Call, Place, Held, exprs}
+use Rattle.ash_typed.specs.StatementTree.{Stmt, Declare, Block, If, no_branch, declared_head, For, repeated, Continue, stmts}
+use Rattle.ash_typed.specs.Modules.{Function, Class}
+use Rattle.ash_phrases.specs.Classes.{Program}
+use Rattle.ash_phrases.specs.ExampleParts.{int, number, local, calculate, variable, give, evaluate, function, module_of, program, counter, new_counter, add, counter_value, f, only}
+
+-- parts
+
+-- `Counter@ x = Counter(n);`
+abbrev pub declared : ℕ → Stmt
+declared n = Declare 1 (variable counter (Some (new_counter n)) ∷ [])
+
+-- a record of a read of the property of a counter
+abbrev pub value_read : ℕ → ℕ → HostRecord
+value_read object n = record { target = hosts.Object object; call = calls.Get 1; before = int_bytes (pos n); answer = Value (words.Int (pos n)); after = int_bytes (pos n) }
+
+-- `void f() { if (Counter(1).value == 1) {} Counter@ b = Counter(2); }`
+abbrev pub after_a_condition : Program
+after_a_condition = only None [] (If 1 (Operate (operations.Compare comparators.Equal (operands.Integers kinds.Int)) (Read (counter_value (new_counter 1))) (number 1)) (Block 1 (stmts [])) no_branch ∷ declared 2 ∷ [])
+
+-- `void f() { { Counter@ a = Counter(1); { Counter@ b = Counter(2); } } Counter@ c = Counter(3); }`
+abbrev pub after_blocks : Program
+after_blocks = only None [] (Block 1 (stmts (declared 1 ∷ Block 1 (stmts (declared 2 ∷ [])) ∷ [])) ∷ declared 3 ∷ [])
+
+-- `void f() { for (int i = 0; i < 2; i++) { Counter@ a = Counter(1); { Counter@ b = Counter(1); continue; } } }`
+abbrev pub after_continue : Program
+after_continue = only None [] (For 1 (declared_head (variable int (Some (number 0)) ∷ [])) (repeated tests.First (Some below) (Count i kinds.Int steps.IncrementAfter ∷ []) (Block 1 (stmts (declared 1 ∷ Block 1 (stmts (declared 1 ∷ Continue 1 ∷ [])) ∷ [])))) ∷ [])
+  where
+    i : Place
+    i = local 0 int
+
+    below : Expr
+    below = Operate (operations.Compare comparators.Less (operands.Integers kinds.Int)) (Read i) (number 2)
+
+-- `Counter@ make() { Counter@ a = Counter(1); Counter@ b = Counter(2); return a; } void f() { make().add(1); }`
+abbrev pub after_a_return : Program
+after_a_return = program (module_of [] [] (make ∷ main ∷ []))
+  where
+    make : Function
+    make = function (codes "make") (Some counter) [] (declared 1 ∷ declared 2 ∷ give (Read (local 0 counter)) ∷ [])
+
+    main : Function
+    main = function f None [] (evaluate (add (Call (targets.Function 0 (Some counter)) [] (exprs [])) 1) ∷ [])
+
+-- `void g() { Counter@ a = Counter(1); int x = 1 / 0; } void f() { Counter@ b = Counter(2); g(); }`
+abbrev pub after_an_exception : Program
+after_an_exception = program (module_of [] [] (g ∷ main ∷ []))
+  where
+    g : Function
+    g = function (codes "g") None [] (declared 1 ∷ Declare 1 (variable int (Some (calculate calculators.Divide (number 1) (number 0))) ∷ []) ∷ [])
+
+    main : Function
+    main = function f None [] (declared 2 ∷ evaluate (Call (targets.Function 0 None) [] (exprs [])) ∷ [])
+
+-- `class A { Counter@ c = Counter(1); Counter@ d = Counter(2); A() { @c = null; } } void f() { A(); }`
+abbrev pub in_a_construction : Program
+in_a_construction = program (module_of (a ∷ []) [] (function f None [] (evaluate (Call (targets.Class 0) [] (exprs [])) ∷ []) ∷ []))
+  where
+    body : List Stmt
+    body = evaluate (Assign (Held (This 0) (members.Field 0 0 counter)) Null) ∷ []
+
+    a : Class
+    a = record { name = codes "A"; line = 1; interfaces = []; fields = variable counter (Some (new_counter 1)) ∷ variable counter (Some (new_counter 2)) ∷ []; constructor = Some (function (codes "A") None [] body); methods = [] }

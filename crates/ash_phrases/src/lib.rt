@@ -1,0 +1,25 @@
+//! The whole meaning of scripts: what each phrase of a typed tree does.
+//!
+//! A phrase is a run, from an activity (the world, the ticks left, and the frames) to how far it comes: to its
+//! value, to an exception or a refused tick, or to no step, where hosts gave no answer to the call that it makes.
+//! Runs are put together from named steps, and no phrase speaks of the fields of the activity. The definitions are
+//! in `specs/`, in reading order: `Activity` (what runs), `Runs` (how phrases are put together), `Releases` (what
+//! is held, and release points), `Frames` (ticks, frames), `ObjectSteps`, `HostSteps`, `ArraySteps`, `Operators`,
+//! `Locations` (what is read and written), `Classes` (what names stand for), `Calls`, `Expressions`, `Statements`,
+//! `Functions`, `Ends`; then `Laws`, and `Examples` with those beside it. The crate stands on typed trees, on
+//! objects as plain data and on the integers of scripts, and knows no parser and no rule of typing; of trees it
+//! names the labels of a `switch`, in an example. A call and a turn of a loop each take a tick, so that the
+//! definitions go by how many are left.
+//!
+//! In reading order: `exception` (what a script can raise), `laws` (of the meaning), `examples` (phrases whose
+//! meaning is computed).
+#![tactic(auto)]
+
+mod examples;
+mod exception;
+pub mod laws;
+
+pub use examples::{
+    worked_examples, worked_host_examples, worked_object_examples, worked_release_examples,
+};
+pub use exception::Exception;

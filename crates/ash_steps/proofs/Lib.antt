@@ -1,0 +1,3 @@
+pub mod Computing
+mod Refused
+mod Counted

@@ -1,0 +1,73 @@
+-- What outlives a request, and what hosts bring to one.
+use Rattle.std.specs.Prelude.{ℕ, ◌+◌, Bool, not, if◌then◌else◌, List, [], ◌∷◌, map, filter, find, flat_map, Option}
+use Rattle.std.specs.declared.cmp.Ordering.{Ordering}
+use Rattle.std.specs.Ordering.{is_lt, nat_cmp}
+use Rattle.std.specs.Cmp.Lexicographic.{slice_cmp}
+use Rattle.std.specs.Str.{bytes_eq}
+use Rattle.ash_host.specs.declared.word.Word.{Word}
+use Rattle.ash_host.specs.Objects.{Objects, handles}
+use Rattle.ash_host.specs.Records.{HostRecord}
+use Rattle.ash_phrases.specs.Activity.{FreeBox, World}
+
+-- a module that is loaded: its name, its source, and what its globals hold, in source order
+pub record Loaded : Type 0 where
+  pub name : List ℕ
+  pub source : List ℕ
+  pub globals : List Word
+
+-- The modules by ascending name, the objects, the states of the services in order of registration, the last number that
+-- was given to an object, and how many requests have been answered.
+pub record State : Type 0 where
+  pub modules : List Loaded
+  pub objects : Objects (List ℕ)
+  pub services : List (List ℕ)
+  pub last : ℕ
+  pub seq : ℕ
+
+-- before any request, with services in these states
+abbrev pub empty : List (List ℕ) → State
+empty services = record { modules = []; objects = []; services = services; last = 0; seq = 0 }
+
+-- what hosts bring to a request, which no state has: the free boxes, and what host objects and services will answer
+pub record Hosts : Type 0 where
+  pub pool : List FreeBox
+  pub answers : List HostRecord
+
+-- modules by name
+
+-- Names compare byte by byte, and a name comes before those that begin with it.
+abbrev pub compare_names : List ℕ → List ℕ → Ordering
+compare_names = slice_cmp nat_cmp
+
+abbrev pub has_name : List ℕ → Loaded → Bool
+has_name name m = bytes_eq m.name name
+
+abbrev pub find_module : List ℕ → State → Option Loaded
+find_module name state = find (has_name name) state.modules
+
+-- the modules with one more, before the first whose name comes after its own
+abbrev pub with_module : Loaded → List Loaded → List Loaded
+with_module new [] = new ∷ []
+with_module new (m ∷ ms) = if is_lt (compare_names new.name m.name) then new ∷ m ∷ ms else m ∷ with_module new ms
+
+-- the modules without the one of this name
+abbrev pub without_module : List ℕ → List Loaded → List Loaded
+without_module name ms = filter (λ m. not (has_name name m)) ms
+
+-- the modules with what a run left in the globals of the one of this name
+abbrev pub with_globals : List ℕ → List Word → List Loaded → List Loaded
+with_globals name globals ms = map (λ (m : Loaded). if has_name name m then record m { globals = globals } else m) ms
+
+-- the globals of all modules
+abbrev pub globals_of : List Loaded → List Word
+globals_of ms = flat_map (λ (m : Loaded). m.globals) ms
+
+-- states and worlds
+
+-- what a run finds, where a module has these globals and there are these others: what their globals hold is held outside
+abbrev pub world_of : List Word → List Loaded → State → Hosts → World
+world_of globals others state hosts = record { globals = globals; outside = handles (globals_of others); objects = state.objects; last = state.last; services = state.services; pool = hosts.pool; answers = hosts.answers; events = [] }
+
+-- the state that a run leaves, with these modules: one request more is answered
+abbrev pub state_after : List Loaded → World → State → State
+state_after ms world old = record { modules = ms; objects = world.objects; services = world.services; last = world.last; seq = old.seq + 1 }
