@@ -76,15 +76,22 @@ empty_world = record { globals = []; outside = []; objects = []; last = 0; servi
 abbrev pub end_of : Option Outcome → Option End
 end_of outcome = option_map (λ (o : Outcome). o.end) outcome
 
--- a run ends with a value; by an exception, or by a refused tick, in a function at line 1; or it has no step
+-- a run ends with a value; by an exception, or by a refused tick, in a function at a line; or it has no step
 abbrev pub Gives : Option Outcome → Word → Type 0
 Gives outcome word = end_of outcome ≡ Some (Finished (Some word))
 
+abbrev pub ThrowsAt : Option Outcome → Exception → List ℕ → ℕ → Type 0
+ThrowsAt outcome exception function line = end_of outcome ≡ Some (Threw exception function line)
+
+abbrev pub AbortsAt : Option Outcome → List ℕ → ℕ → Type 0
+AbortsAt outcome function line = end_of outcome ≡ Some (Aborted function line)
+
+-- the same of modules on one line
 abbrev pub Throws : Option Outcome → Exception → List ℕ → Type 0
-Throws outcome exception function = end_of outcome ≡ Some (Threw exception function 1)
+Throws outcome exception function = ThrowsAt outcome exception function 1
 
 abbrev pub Aborts : Option Outcome → List ℕ → Type 0
-Aborts outcome function = end_of outcome ≡ Some (Aborted function 1)
+Aborts outcome function = AbortsAt outcome function 1
 
 abbrev pub HasNoStep : Option Outcome → Type 0
 HasNoStep outcome = end_of outcome ≡ None

@@ -15,7 +15,7 @@ use Rattle.ash_typed.specs.declared.tree.operations.Lazy.TheVariants as lazies
 use Rattle.ash_typed.specs.declared.tree.operations.Step.TheVariants as steps
 use Rattle.ash_typed.specs.declared.tree.statements.Test.TheVariants as tests
 use Rattle.ash_typed.specs.Tree.{Expr, Truth, Read, Operate, Lazily, Conditional, Assign, Update, Count, Call, Place, Held, exprs}
-use Rattle.ash_typed.specs.StatementTree.{Stmt, Declare, Block, If, no_branch, declared_head, Repeat, For, repeated, Switch, Break, Continue, stmts, Case, cases, labelled}
+use Rattle.ash_typed.specs.StatementTree.{Return, Stmt, Declare, Block, If, no_branch, declared_head, Repeat, For, repeated, Switch, Break, Continue, stmts, Case, cases, labelled}
 use Rattle.ash_typed.specs.Modules.{Function, Class}
 use Rattle.ash_phrases.specs.Classes.{Program}
 use Rattle.ash_phrases.specs.ExampleParts.{int, handle_of_class, number, local, global, calculate, variable, give, evaluate, function, module_of, program, counter, counter_value, f, only}
@@ -132,3 +132,14 @@ only_what_decides = program (module_of [] (record { line = 1; values = variable 
 
     main : Function
     main = function f (Some int) [] (Declare 1 (variable vars.Bool (Some both) ∷ []) ∷ Declare 1 (variable int (Some either) ∷ []) ∷ give (Read n) ∷ [])
+
+-- on five lines: `int f()`, `{`, `int a = 1, b = 2;`, `return a / (b - 2);`, `}`
+abbrev pub on_lines : Program
+on_lines = program (module_of [] [] (record { name = f; line = 1; result = Some int; parameters = []; body = stmts (Declare 3 (variable int (Some (number 1)) ∷ variable int (Some (number 2)) ∷ []) ∷ Return 4 (Some (calculate calculators.Divide (Read (local 0 int)) (calculate calculators.Subtract (Read (local 1 int)) (number 2)))) ∷ []) } ∷ []))
+
+-- `int f(int x) { return x++ * 10 + ++x; }`
+abbrev pub counting : Program
+counting = only (Some int) (int ∷ []) (give (calculate calculators.Add (calculate calculators.Multiply (Count x kinds.Int steps.IncrementAfter) (number 10)) (Count x kinds.Int steps.Increment)) ∷ [])
+  where
+    x : Place
+    x = local 0 int

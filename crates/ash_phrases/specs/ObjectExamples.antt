@@ -22,7 +22,7 @@ use Rattle.ash_typed.specs.declared.tree.operations.Comparator.TheVariants as co
 use Rattle.ash_typed.specs.declared.tree.operations.Operands.TheVariants as operands
 use Rattle.ash_typed.specs.declared.tree.operations.Operation.TheVariants as operations
 use Rattle.ash_typed.specs.declared.tree.statements.Test.TheVariants as tests
-use Rattle.ash_typed.specs.Tree.{Expr, Null, This, Read, Invoke, Convert, Cast, Operate, Assign, Call, Place, Held, Indexed, exprs}
+use Rattle.ash_typed.specs.Tree.{Number, Expr, Null, This, Read, Invoke, Convert, Cast, Operate, Assign, Call, Place, Held, Indexed, exprs}
 use Rattle.ash_typed.specs.StatementTree.{Initialization, Stmt, Declare, Block, declared_head, For, repeated, Break, stmts}
 use Rattle.ash_typed.specs.Modules.{Variables, Function, Interface, Class}
 use Rattle.ash_host.specs.Objects.{Script}
@@ -172,6 +172,13 @@ in_an_array = program (module_of [] (record { line = 1; values = variable array 
 -- a record of a call of the service's function 1 with 3, which was at 0
 abbrev pub tallied : HostRecord
 tallied = record { target = hosts.Service 0; call = calls.Invoke 1 (words.Int (pos 3) ∷ []); before = int_bytes (pos 0); answer = answers.Value (words.Int (pos 3)); after = int_bytes (pos 3) }
+
+-- `array<int> a; int f(uint n) { a.resize(n); return a[0]; }`
+abbrev pub resized : Program
+resized = program (module_of [] (record { line = 1; values = variable of (Some (Call (targets.Array (elements.Integer kinds.Int)) [] (exprs []))) ∷ [] } ∷ []) (function f (Some int) (vars.Integer kinds.Uint ∷ []) (evaluate (Invoke (Read (global 0 of)) (methods.Array arrays.Resize) (vars.Integer kinds.Uint ∷ []) (exprs (Read (local 0 (vars.Integer kinds.Uint)) ∷ []))) ∷ give (Read (Indexed (Read (global 0 of)) (Number kinds.Uint 0) (elements.Integer kinds.Int))) ∷ []) ∷ []))
+  where
+    of : VarType
+    of = vars.Object (objects.Array (elements.Integer kinds.Int))
 
 -- `int a = tally(3); int b = 1; int c = 1 / 0;`
 abbrev pub unfinished : Program

@@ -15,11 +15,14 @@ use Rattle.ash_typed.specs.declared.tree.operations.Operation.TheVariants as ope
 use Rattle.ash_typed.specs.declared.tree.operations.Step.TheVariants as steps
 use Rattle.ash_typed.specs.declared.tree.operations.Target.TheVariants as targets
 use Rattle.ash_typed.specs.declared.tree.statements.Test.TheVariants as tests
-use Rattle.ash_typed.specs.Tree.{Expr, Null, This, Read, Operate, Assign, Count, Call, Place, Held, exprs}
+use Rattle.ash_typed.specs.Tree.{Invoke, Expr, Null, This, Read, Operate, Assign, Count, Call, Place, Held, exprs}
 use Rattle.ash_typed.specs.StatementTree.{Stmt, Declare, Block, If, no_branch, declared_head, For, repeated, Continue, stmts}
 use Rattle.ash_typed.specs.Modules.{Function, Class}
+use Rattle.ash_host.specs.Objects.{Host}
+use Rattle.ash_typed.specs.declared.tree.operations.Method.TheVariants as methods
+use Rattle.ash_phrases.specs.Activity.{World}
 use Rattle.ash_phrases.specs.Classes.{Program}
-use Rattle.ash_phrases.specs.ExampleParts.{int, number, local, calculate, variable, give, evaluate, function, module_of, program, counter, new_counter, add, counter_value, f, only}
+use Rattle.ash_phrases.specs.ExampleParts.{empty_world, added, global, int, number, local, calculate, variable, give, evaluate, function, module_of, program, counter, new_counter, add, counter_value, f, only}
 
 -- parts
 
@@ -78,3 +81,31 @@ in_a_construction = program (module_of (a ∷ []) [] (function f None [] (evalua
 
     a : Class
     a = record { name = codes "A"; line = 1; interfaces = []; fields = variable counter (Some (new_counter 1)) ∷ variable counter (Some (new_counter 2)) ∷ []; constructor = Some (function (codes "A") None [] body); methods = [] }
+
+-- `int two(Counter@ h, int k) { return k; } int use() { Counter@ b = Counter(2); return 1; }`
+-- `void f() { Counter@ a = Counter(1); two(@a = null, use()); }`
+abbrev pub overwritten : Program
+overwritten = program (module_of [] [] (two ∷ use_one ∷ main ∷ []))
+  where
+    two : Function
+    two = function (codes "two") (Some int) (counter ∷ int ∷ []) (give (Read (local 1 int)) ∷ [])
+
+    use_one : Function
+    use_one = function (codes "use") (Some int) [] (declared 2 ∷ give (number 1) ∷ [])
+
+    main : Function
+    main = function f None [] (declared 1 ∷ evaluate (Call (targets.Function 0 (Some int)) (counter ∷ int ∷ []) (exprs (Assign (local 0 counter) Null ∷ Call (targets.Function 1 (Some int)) [] (exprs []) ∷ []))) ∷ [])
+
+-- `Counter@ g = Counter(1); int clear() { @g = null; return 1; } int f() { return g.add(clear()); }`
+abbrev pub read_before : Program
+read_before = program (module_of [] (record { line = 1; values = variable counter (Some (new_counter 1)) ∷ [] } ∷ []) (clear ∷ main ∷ []))
+  where
+    clear : Function
+    clear = function (codes "clear") (Some int) [] (evaluate (Assign (global 0 counter) Null) ∷ give (number 1) ∷ [])
+
+    main : Function
+    main = function f (Some int) [] (give (Invoke (Read (global 0 counter)) (methods.Host 1 (Some int)) (int ∷ []) (exprs (Call (targets.Function 0 (Some int)) [] (exprs []) ∷ []))) ∷ [])
+
+-- the world that `read_before` is called in
+abbrev pub one_counter : World
+one_counter = record empty_world { globals = words.Object 1 ∷ []; objects = (1, Host 1 (int_bytes (pos 1))) ∷ []; last = 1; answers = added 1 1 1 2 ∷ [] }

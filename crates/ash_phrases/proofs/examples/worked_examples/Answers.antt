@@ -61,3 +61,27 @@ returns-clause-frames c = refl
 pub returns-clause-frames_and_ticks : goal.returns-clause-frames_and_ticks
 unfolding computing
 returns-clause-frames_and_ticks c = refl
+
+pub returns-clause-least_by_minus_one : goal.returns-clause-least_by_minus_one
+unfolding computing
+returns-clause-least_by_minus_one c = refl
+
+pub returns-clause-before_and_after : goal.returns-clause-before_and_after
+unfolding computing
+returns-clause-before_and_after c = refl
+
+pub returns-clause-line_of_the_entry : goal.returns-clause-line_of_the_entry
+unfolding computing
+returns-clause-line_of_the_entry c = refl
+
+pub returns-clause-line_of_a_declaration : goal.returns-clause-line_of_a_declaration
+unfolding computing
+returns-clause-line_of_a_declaration c = refl
+
+pub returns-clause-one_tick_for_two_variables : goal.returns-clause-one_tick_for_two_variables
+unfolding computing
+returns-clause-one_tick_for_two_variables c = refl
+
+pub returns-clause-line_of_an_exception : goal.returns-clause-line_of_an_exception
+unfolding computing
+returns-clause-line_of_an_exception c = refl

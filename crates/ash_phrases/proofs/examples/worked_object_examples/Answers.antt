@@ -33,3 +33,15 @@ returns-clause-removed c = refl
 pub returns-clause-index : goal.returns-clause-index
 unfolding computing
 returns-clause-index c = refl
+
+pub returns-clause-resized : goal.returns-clause-resized
+unfolding computing
+returns-clause-resized c = refl
+
+pub returns-clause-too_long : goal.returns-clause-too_long
+unfolding computing
+returns-clause-too_long c = refl
+
+pub returns-clause-no_element : goal.returns-clause-no_element
+unfolding computing
+returns-clause-no_element c = refl

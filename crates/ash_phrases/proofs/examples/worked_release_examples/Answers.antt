@@ -33,3 +33,11 @@ returns-clause-construction c = refl
 pub returns-clause-refused_entry : goal.returns-clause-refused_entry
 unfolding computing
 returns-clause-refused_entry c = refl
+
+pub returns-clause-overwritten : goal.returns-clause-overwritten
+unfolding computing
+returns-clause-overwritten c = refl
+
+pub returns-clause-read_before : goal.returns-clause-read_before
+unfolding computing
+returns-clause-read_before c = refl
