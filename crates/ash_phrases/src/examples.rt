@@ -46,11 +46,13 @@ pub fn worked_examples()
     ensures least_by_minus_one { Throws (call_function examples.quotient 0
         (Word.Int (negsuc (2 ^ 31 - 1)) ∷ Word.Int (negsuc 0) ∷ []) 2 empty_world)
         Exception.DivideOverflow f }
-    ensures before_and_after { Gives (call_function examples.counting 0 (Word.Int (pos 1) ∷ []) 2 empty_world) (Word.Int (pos 13)) }
+    ensures before_and_after { Gives (call_function examples.counting 0 (Word.Int (pos 1) ∷ []) 2 empty_world)
+        (Word.Int (pos 13)) }
     ensures line_of_the_entry { AbortsAt (call_function examples.on_lines 0 [] 0 empty_world) f 1 }
     ensures line_of_a_declaration { AbortsAt (call_function examples.on_lines 0 [] 1 empty_world) f 3 }
     ensures one_tick_for_two_variables { AbortsAt (call_function examples.on_lines 0 [] 2 empty_world) f 4 }
-    ensures line_of_an_exception { ThrowsAt (call_function examples.on_lines 0 [] 3 empty_world) Exception.DivideByZero f 4 }
+    ensures line_of_an_exception { ThrowsAt (call_function examples.on_lines 0 [] 3 empty_world)
+        Exception.DivideByZero f 4 }
 {}
 
 /// What functions do to objects of the embedding program.
@@ -101,7 +103,8 @@ pub fn worked_object_examples()
         Exception.IndexOutOfBounds (codes "g") }
     ensures index { Throws (call_function objects.in_an_array 2 (Word.Uint 0 ∷ []) 9 (loaded objects.in_an_array))
         Exception.IndexOutOfBounds (codes "h") }
-    ensures resized { Gives (call_function objects.resized 0 (Word.Uint 2 ∷ []) 9 (loaded objects.resized)) (Word.Int (pos 0)) }
+    ensures resized { Gives (call_function objects.resized 0 (Word.Uint 2 ∷ []) 9 (loaded objects.resized))
+        (Word.Int (pos 0)) }
     ensures too_long { Throws (call_function objects.resized 0 (Word.Uint 4097 ∷ []) 9 (loaded objects.resized))
         Exception.ArrayLimit f }
     ensures no_element { Throws (call_function objects.resized 0 (Word.Uint 0 ∷ []) 9 (loaded objects.resized))
@@ -132,7 +135,8 @@ pub fn worked_release_examples()
         (call_function releases.in_a_construction 0 [] 9 (counters 2 (started 2 1 ∷ started 3 2 ∷ [])))
         (Drew 2 ∷ Drew 3 ∷ Dropped 2 ∷ Dropped 3 ∷ []) }
     ensures refused_entry { Aborts (call_function releases.in_a_construction 0 [] 2 (counters 2 [])) (codes "A.A") }
-    ensures overwritten { HasEvents (call_function releases.overwritten 2 [] 9 (counters 2 (started 1 1 ∷ started 2 2 ∷ [])))
+    ensures overwritten { HasEvents (call_function releases.overwritten 2 [] 9
+        (counters 2 (started 1 1 ∷ started 2 2 ∷ [])))
         (Drew 1 ∷ Drew 2 ∷ Dropped 2 ∷ Dropped 1 ∷ []) }
     ensures read_before { HasEvents (call_function releases.read_before 1 [] 9 one_counter)
         (Called (Target.Object 1) 1 ∷ Dropped 1 ∷ []) }
