@@ -285,8 +285,8 @@ no_rule rules.ConstantOutOfRange at names e = cc
 no_rule rules.DuplicateCase at names e = cc
 
 cycle_in : (registered : List Call) (source : List ℕ) (tokens : List Lexeme) (names : List (List ℕ)) → Lexes source (Ok tokens) → ChecksTokens registered tokens (Err (refusals.CyclicType names)) → ReportsCycle registered source (refusals.CyclicType names)
-cycle_in registered source tokens names h (inl no) = absurd (no_syntax (fault_of (end_in tokens) no.halt) names (sym no.told))
-cycle_in registered source tokens names h (inr (inl no)) = absurd (no_rule no.fault.rule no.fault.at names (sym no.told))
+cycle_in registered source tokens names h (inl wrong) = absurd (no_syntax (fault_of (end_in tokens) wrong.halt) names (sym wrong.told))
+cycle_in registered source tokens names h (inr (inl wrong)) = absurd (no_rule wrong.fault.rule wrong.fault.at names (sym wrong.told))
 cycle_in registered source tokens names h (inr (inr script)) = record { tokens = tokens; lexed = h; script = script }
 
 cycle_by : (registered : List Call) (source : List ℕ) (names : List (List ℕ)) (checking : Checking) → checking ≡ Err (refusals.CyclicType names) → Checks registered source checking → ReportsCycle registered source (refusals.CyclicType names)

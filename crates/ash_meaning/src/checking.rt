@@ -97,7 +97,7 @@ pub fn check_source(alloc: Global, registry: &Registry, source: &[u8]) -> Result
 {
     match checked_script(alloc, registry, source) {
         Ok(_script) => Ok(()),
-        Err(refusal) => Err(refusal),
+        Err(why) => Err(why),
     }
 }
 

@@ -5,8 +5,8 @@ use Rattle.ash_meaning.specs.Refusals.{refusal_of}
 use Rattle.ash_meaning.proofs.CheckingLaws.{script_found, script_refused, fault_read}
 use Rattle.ash_meaning.proofs.checking.script_with.Goals as goal
 
-pub typed_script-requires-clause-nested : goal.typed_script-requires-clause-nested
-typed_script-requires-clause-nested c = derived_proper c.in-Ok.ensures.derived
+pub typed_script-requires : goal.typed_script-requires
+typed_script-requires c = record { nested = derived_proper c.in-Ok.ensures.derived }
 
 pub returns-in-Ok-clause-found : goal.returns-in-Ok-clause-found
 returns-in-Ok-clause-found c = script_found (registered c.args.registry.now) c.args.tokens.now (items_of c.in-Ok.script) c.in-Ok.ensures.derived c.typed_script.result c.typed_script.ensures.found
