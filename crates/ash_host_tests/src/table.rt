@@ -11,6 +11,7 @@ use ash_objects::{Body, MakeFault, Objects, Words};
 use std::alloc::Global;
 use std::cell::RefCell;
 use std::rc::Rc;
+use std::test::Fail;
 
 pub type Table = Objects<Reporter>;
 
@@ -88,15 +89,6 @@ pub fn is_array<B>(objects: &Objects<B>, number: u64) -> bool
     matches!(objects.body(number), Some(Body::Array(_)))
 }
 
-/// The count of an object. `None` where it does not live.
-pub fn count<B>(objects: &Objects<B>, number: u64) -> Option<u128> {
-    if lives(objects, number) {
-        Some(objects.count(number))
-    } else {
-        None
-    }
-}
-
 /// How many words an object holds.
 pub fn words_in<B>(objects: &Objects<B>, number: u64) -> usize {
     match objects.body(number) {
@@ -110,7 +102,7 @@ pub fn make(
     alloc: Global,
     objects: &mut Table,
     fields: usize,
-) -> Result<Result<u64, MakeFault>, NoMemory>
+) -> Result<Result<u64, MakeFault>, Fail>
     requires { fields ≤ 32 }
 {
     let mut words = Vec::new(alloc);
@@ -119,63 +111,63 @@ pub fn make(
 }
 
 /// Draws a counter and starts it with a number.
-pub fn draw(objects: &mut Table, start: i32, events: &mut Vec<Event>) -> Result<u64, MakeFault> {
+pub fn draw(objects: &mut Table, start: i32, events: &mut Vec<Event>) -> Result<u64, Fail> {
     let number = objects.draw(1, events)?;
     if !is_host(objects, number) {
-        return Err(MakeFault::PoolEmpty);
+        return Err("no host object was drawn")?;
     }
     objects.start(number, &[Word::Int(start)]);
     Ok(number)
 }
 
-/// Runs a method at one number. `None` where there is no such host object.
+/// Runs a method at one number.
 pub fn invoke(
     objects: &mut Table,
     number: u64,
     method: u16,
     argument: i32,
     events: &mut Vec<Event>,
-) -> Result<Option<HostAnswer>, NoMemory> {
+) -> Result<HostAnswer, Fail> {
     if !is_host(objects, number) {
-        return Ok(None);
+        return Err("no host object")?;
     }
-    let answer = objects.invoke(number, method, &[Word::Int(argument)], events)?;
-    Ok(Some(answer))
+    Ok(objects.invoke(number, method, &[Word::Int(argument)], events)?)
 }
 
-/// Writes a field, and returns whether it is there and what is written lives.
-pub fn set_field(objects: &mut Table, number: u64, place: usize, word: Word) -> bool {
-    if !has_field(objects, number, place) || !is_alive(objects, word) {
-        return false;
+/// Writes a field.
+pub fn set_field(objects: &mut Table, number: u64, place: usize, word: Word) -> Result<(), Fail> {
+    if !has_field(objects, number, place) {
+        return Err("no such field")?;
+    }
+    if !is_alive(objects, word) {
+        return Err("no such object")?;
     }
     objects.set_field(number, place, word);
-    true
+    Ok(())
 }
 
-/// Holds an object once more, and returns whether it lives and was not held too often.
-pub fn hold(objects: &mut Table, number: u64) -> bool {
-    if !lives(objects, number) || objects.count(number) > 4096 {
-        return false;
-    }
-    objects.hold(number);
-    true
-}
-
-/// Sweeps while an object is held, and returns whether it lives and was not held too often. It stays held where memory
-/// is refused.
-pub fn sweep_but(
-    objects: &mut Table,
-    number: u64,
-    events: &mut Vec<Event>,
-) -> Result<bool, NoMemory> {
+/// Holds an object once more.
+pub fn hold(objects: &mut Table, number: u64) -> Result<(), Fail> {
     if !lives(objects, number) {
-        return Ok(false);
+        return Err("no such object")?;
     }
     if objects.count(number) > 4096 {
-        return Ok(false);
+        return Err("held too often")?;
+    }
+    objects.hold(number);
+    Ok(())
+}
+
+/// Sweeps while an object is held.
+pub fn sweep_but(objects: &mut Table, number: u64, events: &mut Vec<Event>) -> Result<(), Fail> {
+    if !lives(objects, number) {
+        return Err("no such object")?;
+    }
+    if objects.count(number) > 4096 {
+        return Err("held too often")?;
     }
     objects.hold(number);
     objects.sweep(events)?;
     objects.unhold(number);
-    Ok(true)
+    Ok(())
 }
