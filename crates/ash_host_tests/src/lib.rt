@@ -3,7 +3,8 @@
 //!
 //! - `rows`: every operator on every type of integers at its extremes, worked out by hand.
 //! - `kinds`: what each kind of host objects answers to rows of calls, what it saves, and what it comes back from.
-//! - `table`, `reporter` and `steps`: a table whose boxes report that they are given up, and its calls as data.
+//! - `table`, `reporter` and `steps`: a table whose boxes report that they are given up, and its calls as data, with
+//!   memory that is ample or refused once.
 //! - `sequences`, `marks`, `arrays` and `limits`: sequences of calls with the events that they leave, what is named as
 //!   changed, arrays, and a table at its limits, with memory that is ample.
 //! - `restoring` and `pools`: tables from what a state holds, and the boxes that they take and give up.

@@ -4,200 +4,82 @@ ghost use Rattle.std.specs.Prelude.{◌≡◌, ◌<◌, length};
 
 use crate::pools::{self, Given, Service, has_reported_then};
 use crate::restoring::{Kept, objects as stored};
-use crate::table::{has_field, is_alive, is_array, is_host, lives, new_log, words_in};
+use crate::steps::{Memory, Sequence, Step, check, counts};
+use crate::table::new_log;
 use ash_host::{Counter, Event, HostAnswer, NoMemory, Target, Word};
-use ash_objects::{Element, LengthFault, MakeFault, Objects, TableFault, Words};
+use ash_objects::{Objects, TableFault};
 use std::alloc::Global;
 use std::process::Abort;
 use std::test::Fail;
 
+static CALLS: Sequence<'static> = Sequence {
+    counters: 1,
+    steps: &[
+        Step::Make(2, 1),
+        Step::Make(2, 2),
+        Step::Draw(3, 7),
+        Step::SetField(1, 0, Word::Object(2)),
+        Step::SetField(2, 0, Word::Object(3)),
+        Step::Hold(1),
+        Step::Touched(3, 0),
+        Step::Add(3, 1, 8),
+        Step::Sweep,
+        Step::Touched(1, 0),
+        Step::SetField(1, 0, Word::Null),
+        Step::Sweep,
+        Step::Touched(1, 2),
+    ],
+    events: &[
+        Event::Drew(3),
+        Event::Called(Target::Object(3), 1),
+        Event::Dropped(3),
+    ],
+    given_up: &[(1, 8)],
+    with_the_table: &[(1, 8)],
+};
+
+#[test]
+fn a_refused_call_changes_nothing(rt: HostRuntime) -> Result<(), Fail> {
+    check(&rt, rt.alloc(), &CALLS, Memory::RefusedOnce)
+}
+
+static ARRAYS: Sequence<'static> = Sequence {
+    counters: 1,
+    steps: &[
+        Step::Make(2, 1),
+        Step::MakeArray(3, 2),
+        Step::Insert(2, Word::Object(1)),
+        Step::Insert(2, Word::Object(1)),
+        Step::Resize(2, 40),
+        Step::Insert(2, Word::Object(1)),
+        Step::HasWords(2, 41),
+        Step::HasCount(1, 3),
+        Step::Remove(2),
+        Step::Resize(2, 4),
+        Step::HasWords(2, 4),
+        Step::HasCount(1, 1),
+        Step::MakeArray(0, 3),
+        Step::Resize(3, 1),
+        Step::Insert(3, Word::Object(2)),
+        Step::Hold(3),
+        Step::Sweep,
+        Step::HasCount(2, 1),
+        Step::Touched(3, 0),
+        Step::Resize(3, 0),
+        Step::Sweep,
+        Step::Touched(1, 2),
+    ],
+    events: &[],
+    given_up: &[],
+    with_the_table: &[(1, 0)],
+};
+
+#[test]
+fn an_array_refused_memory_stays_as_it_is(rt: HostRuntime) -> Result<(), Fail> {
+    check(&rt, rt.alloc(), &ARRAYS, Memory::RefusedOnce)
+}
+
 type Table = Objects<Counter>;
-
-// A call, with what it must come to.
-#[derive(Clone, Copy)]
-enum Call {
-    // An object of a class with two fields is made, and gets this number.
-    Make(u64),
-    // A counter is drawn, and gets this number.
-    Draw(u64),
-    // A counter is started with this value.
-    Start(u64, i32),
-    // A counter adds one, and returns this sum.
-    Add(u64, i32),
-    // A word is written to the first field of an object.
-    SetField(u64, Word),
-    Hold(u64),
-    // An array of so many elements is made, and gets this number.
-    MakeArray(u64, usize),
-    // An array gets so many elements.
-    Resize(u64, usize),
-    // An array gets one element more.
-    Insert(u64, Word),
-    // An array loses its last element.
-    Remove(u64),
-    Sweep,
-    // So many objects are named as made or changed, and so many as gone.
-    Touched(usize, usize),
-    // An object holds so many words.
-    HasWords(u64, usize),
-    // An object is held by so many.
-    HasCount(u64, u128),
-}
-
-fn made(answer: Result<u64, MakeFault>, number: u64) -> Result<bool, NoMemory> {
-    match answer {
-        Ok(found) => Ok(found == number),
-        Err(MakeFault::NoMemory) => Err(NoMemory),
-        Err(_) => Ok(false),
-    }
-}
-
-fn make(alloc: Global, objects: &mut Table, number: u64) -> Result<bool, NoMemory> {
-    let mut words = Vec::new(alloc);
-    words.resize(2, Word::Null)?;
-    made(objects.new_script(0, 0, Words::new(words)), number)
-}
-
-fn start(objects: &mut Table, number: u64, value: i32) -> bool {
-    if !is_host(objects, number) {
-        return false;
-    }
-    matches!(
-        objects.start(number, &[Word::Int(value)]),
-        HostAnswer::Nothing
-    )
-}
-
-fn add(
-    objects: &mut Table,
-    number: u64,
-    sum: i32,
-    events: &mut Vec<Event>,
-) -> Result<bool, NoMemory> {
-    if !is_host(objects, number) {
-        return Ok(false);
-    }
-    match objects.invoke(number, 1, &[Word::Int(1)], events)? {
-        HostAnswer::Value(Word::Int(found)) => Ok(found == sum),
-        _ => Ok(false),
-    }
-}
-
-fn set_field(objects: &mut Table, number: u64, word: Word) -> bool {
-    if !has_field(objects, number, 0) || !is_alive(objects, word) {
-        return false;
-    }
-    objects.set_field(number, 0, word);
-    true
-}
-
-fn hold(objects: &mut Table, number: u64) -> bool {
-    if !lives(objects, number) || objects.count(number) > 4096 {
-        return false;
-    }
-    objects.hold(number);
-    true
-}
-
-fn lengthened(answer: Result<(), LengthFault>) -> Result<bool, NoMemory> {
-    match answer {
-        Ok(()) => Ok(true),
-        Err(LengthFault::TooLong) => Ok(false),
-        Err(LengthFault::NoMemory) => Err(NoMemory),
-    }
-}
-
-fn resize(objects: &mut Table, number: u64, length: usize) -> Result<bool, NoMemory> {
-    if !is_array(objects, number) {
-        return Ok(false);
-    }
-    lengthened(objects.resize(number, length))
-}
-
-fn insert(objects: &mut Table, number: u64, word: Word) -> Result<bool, NoMemory> {
-    if !is_array(objects, number) || !is_alive(objects, word) {
-        return Ok(false);
-    }
-    lengthened(objects.insert_last(number, word))
-}
-
-fn remove(objects: &mut Table, number: u64) -> bool {
-    is_array(objects, number) && objects.remove_last(number).is_ok()
-}
-
-fn touches(objects: &mut Table, living: usize, gone: usize) -> Result<bool, NoMemory> {
-    let touched = objects.touched()?;
-    Ok(touched.living.len() == living && touched.gone.len() == gone)
-}
-
-// Makes a call, and returns whether it came to what it must.
-fn take(
-    alloc: Global,
-    objects: &mut Table,
-    call: Call,
-    events: &mut Vec<Event>,
-) -> Result<bool, NoMemory> {
-    match call {
-        Call::Make(number) => make(alloc, objects, number),
-        Call::Draw(number) => made(objects.draw(1, events), number),
-        Call::Start(number, value) => Ok(start(objects, number, value)),
-        Call::Add(number, sum) => add(objects, number, sum, events),
-        Call::SetField(number, word) => Ok(set_field(objects, number, word)),
-        Call::Hold(number) => Ok(hold(objects, number)),
-        Call::MakeArray(number, length) => {
-            made(objects.new_array(Element::Class(0, 0), length), number)
-        }
-        Call::Resize(number, length) => resize(objects, number, length),
-        Call::Insert(number, word) => insert(objects, number, word),
-        Call::Remove(number) => Ok(remove(objects, number)),
-        Call::Sweep => {
-            objects.sweep(events)?;
-            Ok(true)
-        }
-        Call::Touched(living, gone) => touches(objects, living, gone),
-        Call::HasWords(number, many) => Ok(words_in(objects, number) == many),
-        Call::HasCount(number, many) => Ok(count(objects, number) == Some(many)),
-    }
-}
-
-// The count of the object with a number; none where none lives.
-fn count(objects: &Table, number: u64) -> Option<u128> {
-    if lives(objects, number) {
-        Some(objects.count(number))
-    } else {
-        None
-    }
-}
-
-// The counts of the objects with the numbers from 1 to 4.
-fn counts(objects: &Table) -> [Option<u128>; 4] {
-    [
-        count(objects, 1),
-        count(objects, 2),
-        count(objects, 3),
-        count(objects, 4),
-    ]
-}
-
-// How many words the objects with the numbers from 1 to 4 hold.
-fn words(objects: &Table) -> [usize; 4] {
-    [
-        words_in(objects, 1),
-        words_in(objects, 2),
-        words_in(objects, 3),
-        words_in(objects, 4),
-    ]
-}
-
-// Makes a call, and once more where memory was refused and all was left as it was.
-fn take_again(alloc: Global, objects: &mut Table, call: Call, events: &mut Vec<Event>) -> bool {
-    let before = (counts(objects), words(objects), events.len());
-    if let Ok(is_met) = take(alloc, objects, call, events) {
-        return is_met;
-    }
-    let after = (counts(objects), words(objects), events.len());
-    before == after && take(alloc, objects, call, events) == Ok(true)
-}
 
 // So many counters.
 fn counters(alloc: Global, many: usize) -> Result<Vec<Counter>, NoMemory> {
@@ -213,83 +95,6 @@ fn counters_again(alloc: Global, many: usize) -> Result<Vec<Counter>, NoMemory> 
         return Ok(counters);
     }
     counters(alloc, many)
-}
-
-fn check(rt: &impl Abort, found: bool, what: &str, place: usize) {
-    assert!(rt; found, "{what} {place}");
-}
-
-fn check_calls(
-    rt: &impl Abort,
-    alloc: Global,
-    calls: &[Call],
-    expected: &[Event],
-) -> Result<(), NoMemory> {
-    let pool = counters_again(alloc, 1)?;
-    let mut objects = Objects::new(alloc, pool, Vec::new(alloc));
-    let mut events = Vec::new(alloc);
-    for (place, call) in calls.iter().enumerate() {
-        let is_met = take_again(alloc, &mut objects, *call, &mut events);
-        check(rt, is_met, "call", place);
-    }
-    check(rt, events.as_slice() == expected, "the events of", 0);
-    Ok(())
-}
-
-#[test]
-fn a_refused_call_changes_nothing(rt: HostRuntime) -> Result<(), Fail> {
-    let calls = [
-        Call::Make(1),
-        Call::Make(2),
-        Call::Draw(3),
-        Call::Start(3, 7),
-        Call::SetField(1, Word::Object(2)),
-        Call::SetField(2, Word::Object(3)),
-        Call::Hold(1),
-        Call::Touched(3, 0),
-        Call::Add(3, 8),
-        Call::Sweep,
-        Call::Touched(1, 0),
-        Call::SetField(1, Word::Null),
-        Call::Sweep,
-        Call::Touched(1, 2),
-    ];
-    let events = [
-        Event::Drew(3),
-        Event::Called(Target::Object(3), 1),
-        Event::Dropped(3),
-    ];
-    Ok(check_calls(&rt, rt.alloc(), &calls, &events)?)
-}
-
-#[test]
-fn an_array_refused_memory_stays_as_it_is(rt: HostRuntime) -> Result<(), Fail> {
-    let one = Word::Object(1);
-    let calls = [
-        Call::Make(1),
-        Call::MakeArray(2, 3),
-        Call::Insert(2, one),
-        Call::Insert(2, one),
-        Call::Resize(2, 40),
-        Call::Insert(2, one),
-        Call::HasWords(2, 41),
-        Call::HasCount(1, 3),
-        Call::Remove(2),
-        Call::Resize(2, 4),
-        Call::HasWords(2, 4),
-        Call::HasCount(1, 1),
-        Call::MakeArray(3, 0),
-        Call::Resize(3, 1),
-        Call::Insert(3, Word::Object(2)),
-        Call::Hold(3),
-        Call::Sweep,
-        Call::HasCount(2, 1),
-        Call::Touched(3, 0),
-        Call::Resize(3, 0),
-        Call::Sweep,
-        Call::Touched(1, 2),
-    ];
-    Ok(check_calls(&rt, rt.alloc(), &calls, &[])?)
 }
 
 // Has a service add one, and once more where memory was refused and no event was appended.

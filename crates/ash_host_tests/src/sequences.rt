@@ -1,6 +1,6 @@
 //! Sequences of calls, with the events that they leave.
 
-use crate::steps::{Sequence, Step, check};
+use crate::steps::{Memory, Sequence, Step, check};
 use crate::table::{draw, new_table, sweep_but};
 use ash_host::{Event, Target, Word};
 use std::test::Fail;
@@ -19,7 +19,7 @@ static LET_GO: Sequence<'static> = Sequence {
 
 #[test]
 fn an_object_that_is_let_go_is_dropped(rt: HostRuntime) -> Result<(), Fail> {
-    check(&rt, rt.alloc(), &LET_GO)
+    check(&rt, rt.alloc(), &LET_GO, Memory::Ample)
 }
 
 static EACH: Sequence<'static> = Sequence {
@@ -46,7 +46,7 @@ static EACH: Sequence<'static> = Sequence {
 
 #[test]
 fn each_is_dropped_where_it_is_let_go(rt: HostRuntime) -> Result<(), Fail> {
-    check(&rt, rt.alloc(), &EACH)
+    check(&rt, rt.alloc(), &EACH, Memory::Ample)
 }
 
 // The box that is never drawn is the pool's, and goes with the table.
@@ -77,7 +77,7 @@ static ASCENDING: Sequence<'static> = Sequence {
 
 #[test]
 fn boxes_are_given_up_by_ascending_number(rt: HostRuntime) -> Result<(), Fail> {
-    check(&rt, rt.alloc(), &ASCENDING)
+    check(&rt, rt.alloc(), &ASCENDING, Memory::Ample)
 }
 
 static CHAIN: Sequence<'static> = Sequence {
@@ -104,7 +104,7 @@ static CHAIN: Sequence<'static> = Sequence {
 
 #[test]
 fn a_chain_goes_at_once(rt: HostRuntime) -> Result<(), Fail> {
-    check(&rt, rt.alloc(), &CHAIN)
+    check(&rt, rt.alloc(), &CHAIN, Memory::Ample)
 }
 
 static ONCE: Sequence<'static> = Sequence {
@@ -122,7 +122,7 @@ static ONCE: Sequence<'static> = Sequence {
 
 #[test]
 fn a_box_is_drawn_once(rt: HostRuntime) -> Result<(), Fail> {
-    check(&rt, rt.alloc(), &ONCE)
+    check(&rt, rt.alloc(), &ONCE, Memory::Ample)
 }
 
 static RAISED: Sequence<'static> = Sequence {
@@ -139,7 +139,7 @@ static RAISED: Sequence<'static> = Sequence {
 
 #[test]
 fn an_object_that_raised_is_dropped(rt: HostRuntime) -> Result<(), Fail> {
-    check(&rt, rt.alloc(), &RAISED)
+    check(&rt, rt.alloc(), &RAISED, Memory::Ample)
 }
 
 #[test]
@@ -149,7 +149,7 @@ fn a_slot_is_used_again_and_a_number_is_not(rt: HostRuntime) -> Result<(), Fail>
     draw(&mut objects, 1, &mut events)?;
     let slot = objects.slot(1);
     draw(&mut objects, 2, &mut events)?;
-    sweep_but(&mut objects, 2, &mut events)?;
+    assert!(rt; sweep_but(&mut objects, 2, &mut events)?);
     assert_eq!(rt; objects.slot(1), None);
     draw(&mut objects, 3, &mut events)?;
     assert_eq!(rt; objects.slot(3), slot);
@@ -186,5 +186,5 @@ static OVER_ITSELF: Sequence<'static> = Sequence {
 
 #[test]
 fn a_handle_that_is_written_over_itself_stays(rt: HostRuntime) -> Result<(), Fail> {
-    check(&rt, rt.alloc(), &OVER_ITSELF)
+    check(&rt, rt.alloc(), &OVER_ITSELF, Memory::Ample)
 }

@@ -11,7 +11,6 @@ use ash_objects::{Body, MakeFault, Objects, Words};
 use std::alloc::Global;
 use std::cell::RefCell;
 use std::rc::Rc;
-use std::test::Fail;
 
 pub type Table = Objects<Reporter>;
 
@@ -89,6 +88,15 @@ pub fn is_array<B>(objects: &Objects<B>, number: u64) -> bool
     matches!(objects.body(number), Some(Body::Array(_)))
 }
 
+/// The count of an object. `None` where it does not live.
+pub fn count<B>(objects: &Objects<B>, number: u64) -> Option<u128> {
+    if lives(objects, number) {
+        Some(objects.count(number))
+    } else {
+        None
+    }
+}
+
 /// How many words an object holds.
 pub fn words_in<B>(objects: &Objects<B>, number: u64) -> usize {
     match objects.body(number) {
@@ -102,7 +110,7 @@ pub fn make(
     alloc: Global,
     objects: &mut Table,
     fields: usize,
-) -> Result<Result<u64, MakeFault>, Fail>
+) -> Result<Result<u64, MakeFault>, NoMemory>
     requires { fields ≤ 32 }
 {
     let mut words = Vec::new(alloc);
@@ -111,63 +119,63 @@ pub fn make(
 }
 
 /// Draws a counter and starts it with a number.
-pub fn draw(objects: &mut Table, start: i32, events: &mut Vec<Event>) -> Result<u64, Fail> {
+pub fn draw(objects: &mut Table, start: i32, events: &mut Vec<Event>) -> Result<u64, MakeFault> {
     let number = objects.draw(1, events)?;
     if !is_host(objects, number) {
-        return Err("no host object was drawn")?;
+        return Err(MakeFault::PoolEmpty);
     }
     objects.start(number, &[Word::Int(start)]);
     Ok(number)
 }
 
-/// Runs a method at one number.
+/// Runs a method at one number. `None` where there is no such host object.
 pub fn invoke(
     objects: &mut Table,
     number: u64,
     method: u16,
     argument: i32,
     events: &mut Vec<Event>,
-) -> Result<HostAnswer, Fail> {
+) -> Result<Option<HostAnswer>, NoMemory> {
     if !is_host(objects, number) {
-        return Err("no host object")?;
+        return Ok(None);
     }
-    Ok(objects.invoke(number, method, &[Word::Int(argument)], events)?)
+    let answer = objects.invoke(number, method, &[Word::Int(argument)], events)?;
+    Ok(Some(answer))
 }
 
-/// Writes a field.
-pub fn set_field(objects: &mut Table, number: u64, place: usize, word: Word) -> Result<(), Fail> {
-    if !has_field(objects, number, place) {
-        return Err("no such field")?;
-    }
-    if !is_alive(objects, word) {
-        return Err("no such object")?;
+/// Writes a field, and returns whether it is there and what is written lives.
+pub fn set_field(objects: &mut Table, number: u64, place: usize, word: Word) -> bool {
+    if !has_field(objects, number, place) || !is_alive(objects, word) {
+        return false;
     }
     objects.set_field(number, place, word);
-    Ok(())
+    true
 }
 
-/// Holds an object once more.
-pub fn hold(objects: &mut Table, number: u64) -> Result<(), Fail> {
-    if !lives(objects, number) {
-        return Err("no such object")?;
-    }
-    if objects.count(number) > 4096 {
-        return Err("held too often")?;
+/// Holds an object once more, and returns whether it lives and was not held too often.
+pub fn hold(objects: &mut Table, number: u64) -> bool {
+    if !lives(objects, number) || objects.count(number) > 4096 {
+        return false;
     }
     objects.hold(number);
-    Ok(())
+    true
 }
 
-/// Sweeps while an object is held.
-pub fn sweep_but(objects: &mut Table, number: u64, events: &mut Vec<Event>) -> Result<(), Fail> {
+/// Sweeps while an object is held, and returns whether it lives and was not held too often. It stays held where memory
+/// is refused.
+pub fn sweep_but(
+    objects: &mut Table,
+    number: u64,
+    events: &mut Vec<Event>,
+) -> Result<bool, NoMemory> {
     if !lives(objects, number) {
-        return Err("no such object")?;
+        return Ok(false);
     }
     if objects.count(number) > 4096 {
-        return Err("held too often")?;
+        return Ok(false);
     }
     objects.hold(number);
     objects.sweep(events)?;
     objects.unhold(number);
-    Ok(())
+    Ok(true)
 }

@@ -1,4 +1,6 @@
-//! The two ways in which a file is changed. Nothing else writes.
+//! How a file is changed: a gate is shut, or bytes are committed behind one that is shut. A repair and the replacing of
+//! what a file holds are made of these. Nothing else in the crate writes, but for `clear` in `creating`, which writes 0
+//! over the first gate of a file that is not open.
 ghost use Rattle.std.specs.Prelude.{◌≡◌, false, IsTrue, ◌+◌, ◌<◌, ◌^◌, ◌∷◌, ◌++◌, [], ℕ, List, length, drop, OnOk};
 ghost use Rattle.ash_disk.specs.Failures.{CountsFailure};
 ghost use Rattle.ash_disk.specs.Device.{IsDurable, Throughout};

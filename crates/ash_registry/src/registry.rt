@@ -12,7 +12,7 @@ use crate::Call;
 use ash_registrations::Registrations;
 use std::alloc::{AllocError, Global};
 
-/// What is registered, and room to read declarations in.
+/// What is registered, and the allocator with which declarations are read.
 #[derive(Drop)]
 pub struct Registry {
     pub(crate) alloc: Global,

@@ -40,7 +40,7 @@ abbrev mutual
 
   pub linked : Expr → link.Link → Expr
   linked e (links.Member member) = Read (Held e member)
-  linked e (links.Index index of) = Read (Indexed e (expr_of index) of)
+  linked e (links.Index' a index of) = Read (Indexed e (expr_of index) of)
   linked e (links.Invoke' method parameters shape row) = Invoke e method parameters.items (exprs_of row)
 
   pub chained_by : {n : _} → Expr → code.Row_of-Operand n → Expr

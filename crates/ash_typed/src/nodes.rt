@@ -1,6 +1,8 @@
 //! Nodes of typed trees.
 
-ghost use Rattle.std.specs.Prelude.{◌≡◌, [], ◌∷◌, ◌++◌, map, option_map, IfOk};
+ghost use Rattle.std.specs.Prelude.{◌≡◌, [], ◌∷◌, ◌++◌, map, option_map, IfOk, Box, box_value};
+ghost use Rattle.std.specs.declared.alloc.Global.{Global};
+ghost use Rattle.ash_typed.specs.declared.tree.expressions.Expr.{Expr as IndexExpr};
 ghost use Rattle.ash_typed.specs.Tree.{Read, Held, Indexed, Invoke, Cast, Alter, Lazily, Conditional, Assign, Update, Count, Call, exprs, place_in, converted};
 ghost use Rattle.ash_typed.specs.StatementTree.{Block, Repeat, For, repeated, Switch, labelled, cases};
 ghost use Rattle.ash_typed.specs.Views.{expr_of, place_of, linked, chained, all_linked, all_chained, all_lazies};
@@ -69,8 +71,10 @@ pub fn member(alloc: Global, object: Expr, member: Member) -> Result<Expr, Alloc
 pub fn element(alloc: Global, array: Expr, index: Expr, of: Element) -> Result<Expr, AllocError>
     ensures value { IfOk result (λ e. expr_of e ≡ Read (Indexed (expr_of array) (expr_of index) of)) }
     ensures same_base { IfOk result (λ e. base_of e ≡ base_of array) }
-    ensures one_path { IfOk result (λ e. links_of e ≡ links_of array ++ Link.Index index of ∷ []) }
+    ensures one_path { IfOk result (λ e. (boxed : Box IndexExpr Global) × (box_value boxed ≡ index) ×
+        (links_of e ≡ links_of array ++ Link.Index boxed of ∷ [])) }
 {
+    let index = Box::new(alloc, index)?;
     link(alloc, array, Link::Index { index, of })
 }
 
@@ -297,7 +301,6 @@ fn member_of(
         }
         Some(Link::Index { index, of }) => {
             let array = Box::new(alloc, Expr::Path { base, links })?;
-            let index = Box::new(alloc, index)?;
             Ok(Some(Place::Element { array, index, of }))
         }
         Some(Link::Invoke { .. }) => Ok(None),

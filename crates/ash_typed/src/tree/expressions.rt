@@ -108,7 +108,7 @@ pub enum Link {
     Member(Member),
     /// What an array has at an index of type `uint`.
     Index {
-        index: Expr,
+        index: Box<Expr>,
         of: Element,
     },
     /// What its method gives. The parameters are the types of the arguments, in order.
