@@ -30,7 +30,8 @@ JOBS_FOR_A_PROCESSOR = 2
 MEMORY_TAKEN = 0.3
 MEMORY_OF_A_JOB = 0.6
 MEMORY_GIVEN_OUT = 0.85
-# A chain is among the longest where it has at least this share of the lines of every other.
+# A chain is among the longest where it has at least this share of the lines of every other. Of a chain whose head is under
+# way, what comes after the head counts.
 NEAR = 0.7
 # How nice a task is to those of the longest chains, and an edit to all proofs.
 NICE, NICE_OF_EDITS = 10, 15
@@ -110,8 +111,9 @@ def in_lanes(tasks, processors, memory):
             most = processors + 1 if fills(key) else int(JOBS_FOR_A_PROCESSOR * processors)
             spare = most - sum(jobs for _, _, jobs in running.values())
             room = memory - sum(taken for _, taken, _ in running.values())
-            rivals = [it for it in [*ready, *(it for it, _, _ in running.values())] if it != key and not fills(it)]
-            is_near = not fills(key) and all(NEAR * order[it] <= order[key] for it in rivals)
+            rivals = [order[it] for it in ready if it != key and not fills(it)]
+            rivals += [order[it] - tasks[it][1] for it, _, _ in running.values() if not fills(it)]
+            is_near = not fills(key) and all(NEAR * it <= order[key] for it in rivals)
             if spare > (-processors if is_near else 0) and (needs <= room or not running):
                 least = processors if is_near else 1
                 others = sum(not fills(it) for it in ready[number:])
