@@ -41,6 +41,12 @@ pub record IsInterface (s : Signatures) (classes : ℕ) (i : Interface) : Type 0
   pub few : length i.methods ≤ 32
   pub methods : AllByRecursion (IsSignature s) i.methods
 
+-- Interfaces in the order of the source, of which the first has at least so many classes before it: none has more of them
+-- than a later one. So each interface and each class has a place of its own among all of a module.
+abbrev pub AreInOrder : ℕ → List Interface → Type 0
+AreInOrder least [] = Unit {0}
+AreInOrder least (i ∷ is) = (least ≤ i.classes_before) × AreInOrder i.classes_before is
+
 -- classes
 
 -- the method of this place has the name, the result and the parameters that an interface declares
@@ -92,6 +98,7 @@ pub record IsSound (host : Host) (m : Module) : Type 0 where
   pub functions_differ : IsDistinct bytes_eq (map name_of_function m.functions)
   pub globals_differ : IsDistinct bytes_eq (names_of_globals m.globals)
   pub interfaces : AllByRecursion (IsInterface (signatures_of host m) (length m.classes)) m.interfaces
+  pub interfaces_in_order : AreInOrder 0 m.interfaces
   pub classes : AreClasses (signatures_of host m) 0 m.classes
   pub functions : AllByRecursion (IsFunction (outside (signatures_of host m))) m.functions
   pub globals : AllByRecursion (AreVariables (outside (signatures_of host m))) m.globals

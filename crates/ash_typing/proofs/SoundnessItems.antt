@@ -9,6 +9,7 @@ use Rattle.ash_typed.specs.Returning.{AnyReturns}
 use Rattle.ash_typed.specs.Signatures as signatures
 use Rattle.ash_typed.specs.SoundStatements as sound_statements
 use Rattle.ash_typed.specs.SoundModules as sound
+use Rattle.ash_typed.specs.SoundModules.{AreInOrder}
 use Rattle.ash_typing.specs.declared.types.Ty.{Ty}
 use Rattle.ash_typing.specs.declared.types.Ty.TheVariants as ty
 use Rattle.ash_typing.specs.Types.{var_type, result_type}
@@ -27,7 +28,7 @@ use Rattle.ash_typing.proofs.TypedRoutines.{passed_known, passed_variable, types
 use Rattle.ash_typing.proofs.SoundnessVariables.{type_sound, declared_sound}
 use Rattle.ash_typing.proofs.SoundnessStatements.{stmts_sound}
 use Rattle.ash_typing.proofs.SoundnessReturning.{any_typed}
-use Rattle.ash_tree.specs.Items.{Routine, routine_of, classes_of, classes_before}
+use Rattle.ash_tree.specs.Items.{Routine, routine_of, classes_of, interfaces_of, classes_before}
 
 -- parameters and results
 
@@ -140,6 +141,18 @@ before_within count (written.AnInterface i ∷ is) = (omega arith, before_within
 before_within count (written.AClass c ∷ is) = let same : count + 1 + length (classes_of is) ≡ count + suc (length (classes_of is)) = omega arith in subst (λ most. AllByRecursion (λ n. n ≤ most) (classes_before (count + 1) is)) same (before_within (count + 1) is)
 before_within count (written.AFunction f ∷ is) = before_within count is
 before_within count (written.AGlobal v ∷ is) = before_within count is
+
+-- interfaces are in the order of the source
+pub interfaces_in_order : (env : Environment) (least count : ℕ) (is : List written.Item) (ts : List modules.Interface) → least ≤ count → AreInterfaces env (interfaces_of is) (classes_before count is) ts → AreInOrder least ts
+interfaces_in_order env least count [] [] few h = tt
+interfaces_in_order env least count [] (t ∷ ts) few h = absurd h
+interfaces_in_order env least count (written.AnInterface i ∷ is) [] few h = absurd h
+interfaces_in_order env least count (written.AnInterface i ∷ is) (t ∷ ts) few h =
+    let same : count ≡ t.classes_before = sym h.0.before in
+    (subst (λ n. least ≤ n) same few, subst (λ n. AreInOrder n ts) same (interfaces_in_order env count count is ts (omega arith) h.1))
+interfaces_in_order env least count (written.AClass c ∷ is) ts few h = interfaces_in_order env least (count + 1) is ts (omega arith) h
+interfaces_in_order env least count (written.AFunction f ∷ is) ts few h = interfaces_in_order env least count is ts few h
+interfaces_in_order env least count (written.AGlobal v ∷ is) ts few h = interfaces_in_order env least count is ts few h
 
 -- variables
 

@@ -18,7 +18,7 @@ use Rattle.ash_typing.proofs.TypedClasses.{count_names}
 use Rattle.ash_typing.proofs.ModuleLaws.{typed_known}
 use Rattle.ash_typing.proofs.SoundnessNames.{mapped}
 use Rattle.ash_typing.proofs.SoundnessSignatures.{same_signatures}
-use Rattle.ash_typing.proofs.SoundnessItems.{functions_sound, interfaces_sound, interfaces_length, before_within, globals_sound, zip_length}
+use Rattle.ash_typing.proofs.SoundnessItems.{functions_sound, interfaces_sound, interfaces_length, before_within, interfaces_in_order, globals_sound, zip_length}
 use Rattle.ash_typing.proofs.SoundnessNaming.{functions_differ, globals_differ}
 use Rattle.ash_typing.proofs.SoundnessClasses.{classes_sound, classes_length}
 
@@ -49,6 +49,7 @@ module_sound calls is m nest typed =
       functions_differ = functions_differ env is m.functions typed.differ typed.functions;
       globals_differ = globals_differ env is m.globals typed.differ typed.globals;
       interfaces = subst (λ s. AllByRecursion (sound.IsInterface s (length m.classes)) m.interfaces) same (interfaces_sound env (interfaces_of is) (classes_before 0 is) (length m.classes) m.interfaces (subst (λ k. AllByRecursion (λ n. n ≤ k) (classes_before 0 is)) most within) typed.interfaces);
+      interfaces_in_order = interfaces_in_order env 0 0 is m.interfaces (omega arith) typed.interfaces;
       classes = subst (λ s. sound.AreClasses s 0 m.classes) same (classes_sound env 0 (classes_of is) m.classes known (at m same) nest.classes typed.classes);
       functions = subst (λ s. AllByRecursion (sound.IsFunction (sound.outside s)) m.functions) same (functions_sound env (functions_of is) m.functions known nest.functions typed.functions);
       globals = subst (λ s. AllByRecursion (sound.AreVariables (sound.outside s)) m.globals) same (globals_sound env (globals_of is) m.globals known typed.globals);
