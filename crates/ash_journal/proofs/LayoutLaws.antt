@@ -39,36 +39,36 @@ bytes_low_first-shift : (i n x : ℕ) → bytes_low_first (suc i) n x ≡ bytes_
 bytes_low_first-shift i zero x = refl
 bytes_low_first-shift i (suc n) x = rw (byte_at-shift i x, bytes_low_first-shift (suc i) n x) refl
 
-bytes_back : (n : ℕ) (bytes : List ℕ) → length bytes ≡ n → AreBytes bytes → bytes_low_first 0 n (little_from 0 n bytes) ≡ bytes
-bytes_back zero [] len fits = refl
-bytes_back zero (b ∷ bytes) len fits = absurd (omega arith)
-bytes_back (suc n) [] len fits = absurd (omega arith)
-bytes_back (suc n) (b ∷ bytes) len fits =
+bytes_round_trip : (n : ℕ) (bytes : List ℕ) → length bytes ≡ n → AreBytes bytes → bytes_low_first 0 n (little_from 0 n bytes) ≡ bytes
+bytes_round_trip zero [] len fits = refl
+bytes_round_trip zero (b ∷ bytes) len fits = absurd (omega arith)
+bytes_round_trip (suc n) [] len fits = absurd (omega arith)
+bytes_round_trip (suc n) (b ∷ bytes) len fits =
     let high = little_from 0 n bytes in
     let x = b + 256 * high in
     let small : b < 256 = fits 0 in
     let is : little_from 0 (suc n) (b ∷ bytes) ≡ x = ap (λ (h : ℕ). b + 256 * h) (little_from-cons 0 n b bytes) in
     let low : x % 256 ≡ b = omega arith in
     let rest : x / 256 ≡ high = omega arith in
-    let more : bytes_low_first 1 n x ≡ bytes = bytes_low_first-shift 0 n x ∙ ap (bytes_low_first 0 n) rest ∙ bytes_back n bytes (omega arith) (λ i. fits (suc i)) in
+    let more : bytes_low_first 1 n x ≡ bytes = bytes_low_first-shift 0 n x ∙ ap (bytes_low_first 0 n) rest ∙ bytes_round_trip n bytes (omega arith) (λ i. fits (suc i)) in
     ap (bytes_low_first 0 (suc n)) is ∙ ap (λ (c : ℕ). c ∷ bytes_low_first 1 n x) low ∙ ap (λ (cs : List ℕ). b ∷ cs) more
 
-pub four_back : (bytes : List ℕ) → length bytes ≡ 4 → AreBytes bytes → four_bytes (little_number 4 bytes) ≡ bytes
+pub four_round_trip : (bytes : List ℕ) → length bytes ≡ 4 → AreBytes bytes → four_bytes (little_number 4 bytes) ≡ bytes
 unfolding four_bytes
-four_back bytes long fits = bytes_back 4 bytes long fits
+four_round_trip bytes long fits = bytes_round_trip 4 bytes long fits
 
-pub eight_back : (bytes : List ℕ) → length bytes ≡ 8 → AreBytes bytes → eight_bytes (little_number 8 bytes) ≡ bytes
+pub eight_round_trip : (bytes : List ℕ) → length bytes ≡ 8 → AreBytes bytes → eight_bytes (little_number 8 bytes) ≡ bytes
 unfolding eight_bytes
-eight_back bytes long fits = bytes_back 8 bytes long fits
+eight_round_trip bytes long fits = bytes_round_trip 8 bytes long fits
 
 -- ---- parts
 
 -- two lists of which the first parts are as long
 pub same_parts : (a b s t : List ℕ) → length a ≡ length b → a ++ s ≡ b ++ t → (a ≡ b) × (s ≡ t)
 same_parts a b s t long is =
-    let front : a ≡ b = sym (take_at a s (length b) long) ∙ ap (λ (l : List ℕ). take (length b) l) is ∙ take_at b t (length b) refl in
+    let prefix : a ≡ b = sym (take_at a s (length b) long) ∙ ap (λ (l : List ℕ). take (length b) l) is ∙ take_at b t (length b) refl in
     let rest : s ≡ t = sym (drop_at a s (length b) long) ∙ ap (λ (l : List ℕ). drop (length b) l) is ∙ drop_at b t (length b) refl in
-    (front, rest)
+    (prefix, rest)
 
 length-magic : length magic ≡ 8
 unfolding magic
@@ -122,19 +122,19 @@ abbrev tail_of : List ℕ → List ℕ
 tail_of [] = []
 tail_of (x ∷ xs) = xs
 
-heads : (x y : ℕ) (s t : List ℕ) → x ∷ s ≡ y ∷ t → (x ≡ y) × (s ≡ t)
-heads x y s t is = (ap head_or is, ap tail_of is)
+same_heads : (x y : ℕ) (s t : List ℕ) → x ∷ s ≡ y ∷ t → (x ≡ y) × (s ≡ t)
+same_heads x y s t is = (ap head_or is, ap tail_of is)
 
 pub records_same : (bodies others : List (List ℕ)) (k l : ℕ) (s t : List ℕ) → AreShort bodies → AreShort others → k ≢ 1 → l ≢ 1 → records bodies ++ k ∷ s ≡ records others ++ l ∷ t → (bodies ≡ others) × (k ≡ l) × (s ≡ t)
 records_same [] [] k l s t short_b short_o shut_k shut_l is =
     let plain : k ∷ s ≡ l ∷ t = sym (ap (λ (r : List ℕ). r ++ k ∷ s) records-nil) ∙ is ∙ ap (λ (r : List ℕ). r ++ l ∷ t) records-nil in
-    (refl, (heads k l s t plain).0, (heads k l s t plain).1)
+    (refl, (same_heads k l s t plain).0, (same_heads k l s t plain).1)
 records_same [] (other ∷ others) k l s t short_b short_o shut_k shut_l is =
     let plain : k ∷ s ≡ 1 ∷ (block other ++ (records others ++ l ∷ t)) = sym (ap (λ (r : List ℕ). r ++ k ∷ s) records-nil) ∙ is ∙ records_split other others (l ∷ t) in
-    absurd (shut_k (heads k 1 s (block other ++ (records others ++ l ∷ t)) plain).0)
+    absurd (shut_k (same_heads k 1 s (block other ++ (records others ++ l ∷ t)) plain).0)
 records_same (body ∷ bodies) [] k l s t short_b short_o shut_k shut_l is =
     let plain : l ∷ t ≡ 1 ∷ (block body ++ (records bodies ++ k ∷ s)) = sym (ap (λ (r : List ℕ). r ++ l ∷ t) records-nil) ∙ sym is ∙ records_split body bodies (k ∷ s) in
-    absurd (shut_l (heads l 1 t (block body ++ (records bodies ++ k ∷ s)) plain).0)
+    absurd (shut_l (same_heads l 1 t (block body ++ (records bodies ++ k ∷ s)) plain).0)
 records_same (body ∷ bodies) (other ∷ others) k l s t short_b short_o shut_k shut_l is =
     let plain : 1 ∷ (block body ++ (records bodies ++ k ∷ s)) ≡ 1 ∷ (block other ++ (records others ++ l ∷ t)) = sym (records_split body bodies (k ∷ s)) ∙ is ∙ records_split other others (l ∷ t) in
     let one = block_same body other (records bodies ++ k ∷ s) (records others ++ l ∷ t) short_b.0 short_o.0 (ap tail_of plain) in
@@ -211,6 +211,6 @@ pub mark_closed : (generation : ℕ) (file : List ℕ) → HasMark generation fi
 mark_closed generation file marked closed = open_closed file (mark_open generation file marked) closed
 
 -- a generation without records
-pub solid_alone : (generation : ℕ) (image rest : List ℕ) → solid generation image [] ++ rest ≡ 1 ∷ (mark generation ++ (block image ++ rest))
-solid_alone generation image rest =
+pub solid_no_records : (generation : ℕ) (image rest : List ℕ) → solid generation image [] ++ rest ≡ 1 ∷ (mark generation ++ (block image ++ rest))
+solid_no_records generation image rest =
     solid_split generation image [] rest ∙ ap (λ (r : List ℕ). 1 ∷ (mark generation ++ (block image ++ (r ++ rest)))) records-nil

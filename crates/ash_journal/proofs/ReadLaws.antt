@@ -12,7 +12,7 @@ use Rattle.ash_journal.specs.Writes.{IsIdle, AreIdle, HasRested, WhileStarted, W
 use Rattle.ash_disk.proofs.MomentLaws.{at_end, goes_on, weaker}
 use Rattle.ash_journal.specs.declared.record.Record.{Record}
 use Rattle.ash_journal.specs.Reading.{IsBlock, IsReadTo, AreAt, bodies_of}
-use Rattle.ash_journal.proofs.LayoutLaws.{AreBytes, eight_back, length-mark, length-block, length-solid, records-nil, records-cons, solid-push, solid_alone}
+use Rattle.ash_journal.proofs.LayoutLaws.{AreBytes, eight_round_trip, length-mark, length-block, length-solid, records-nil, records-cons, solid-push, solid_no_records}
 use Rattle.ash_journal.proofs.SettleLaws.{fits_push, grown}
 
 -- ---- tests of bytes
@@ -42,50 +42,50 @@ pub mark_read : (bytes : List ℕ) (n : ℕ) → length bytes ≡ 16 → AreByte
 unfolding mark
 mark_read bytes n long fits is_magic is_number =
     sym (take-append-drop 8 bytes) ∙ ap (λ (l : List ℕ). l ++ drop 8 bytes) is_magic
-    ∙ ap (λ (l : List ℕ). magic ++ l) (sym (eight_back (drop 8 bytes) (omega (arith, long, length-drop 8 bytes)) (are_bytes-drop 8 bytes fits)) ∙ ap eight_bytes (sym is_number))
+    ∙ ap (λ (l : List ℕ). magic ++ l) (sym (eight_round_trip (drop 8 bytes) (omega (arith, long, length-drop 8 bytes)) (are_bytes-drop 8 bytes fits)) ∙ ap eight_bytes (sym is_number))
 
 -- ---- the first bytes of a file
 
-pub marked_front : (file front : List ℕ) (g : ℕ) → front ≡ take 17 file → get_or front 0 0 ≡ 1 → 2 ≤ length front → take (length front - 1) (drop 1 front) ≡ mark g → g < 2 ^ 64 → HasMark g file
-marked_front file [] g is gate long marked fits = absurd (omega arith)
-marked_front file (first ∷ rest) g is gate long marked fits = record {
+pub marked_prefix : (file prefix : List ℕ) (g : ℕ) → prefix ≡ take 17 file → get_or prefix 0 0 ≡ 1 → 2 ≤ length prefix → take (length prefix - 1) (drop 1 prefix) ≡ mark g → g < 2 ^ 64 → HasMark g file
+marked_prefix file [] g is gate long marked fits = absurd (omega arith)
+marked_prefix file (first ∷ rest) g is gate long marked fits = record {
   rest = drop 17 file;
   bytes = sym (take-append-drop 17 file) ∙ ap (λ (l : List ℕ). l ++ drop 17 file) (sym is ∙ ap (λ (b : ℕ). b ∷ rest) gate ∙ ap (λ (l : List ℕ). 1 ∷ l) (sym (take_all (length (first ∷ rest) - 1) rest (omega arith)) ∙ marked));
   numbered = fits;
 }
 
-open_front : (file front : List ℕ) → front ≡ take 17 file → get_or front 0 0 ≡ 1 → 2 ≤ length front → IsOpen file
-open_front [] front is gate long = absurd (omega (arith, ap length is, long))
-open_front (x ∷ []) front is gate long = absurd (omega (arith, ap length is, long))
-open_front (x ∷ y ∷ rest) front is gate long = sym (ap (λ (l : List ℕ). get_or l 0 0) is) ∙ gate
+open_prefix : (file prefix : List ℕ) → prefix ≡ take 17 file → get_or prefix 0 0 ≡ 1 → 2 ≤ length prefix → IsOpen file
+open_prefix [] prefix is gate long = absurd (omega (arith, ap length is, long))
+open_prefix (x ∷ []) prefix is gate long = absurd (omega (arith, ap length is, long))
+open_prefix (x ∷ y ∷ rest) prefix is gate long = sym (ap (λ (l : List ℕ). get_or l 0 0) is) ∙ gate
 
-pub unmarked_front : (file front : List ℕ) → front ≡ take 17 file → get_or front 0 0 ≡ 1 → 2 ≤ length front → ((g : ℕ) → g < 2 ^ 64 → take (length front - 1) (drop 1 front) ≡ mark g → ⊥) → LacksMark file
-unmarked_front file front is gate long none = (open_front file front is gate long, λ g marked. none g marked.numbered (front_is g marked))
+pub unmarked_prefix : (file prefix : List ℕ) → prefix ≡ take 17 file → get_or prefix 0 0 ≡ 1 → 2 ≤ length prefix → ((g : ℕ) → g < 2 ^ 64 → take (length prefix - 1) (drop 1 prefix) ≡ mark g → ⊥) → LacksMark file
+unmarked_prefix file prefix is gate long none = (open_prefix file prefix is gate long, λ g marked. none g marked.numbered (prefix_is g marked))
   where
-    front_is : (g : ℕ) → HasMark g file → take (length front - 1) (drop 1 front) ≡ mark g
-    front_is g marked =
-        let whole : front ≡ 1 ∷ mark g = is ∙ ap (λ (l : List ℕ). take 17 l) marked.bytes ∙ ap (λ (l : List ℕ). 1 ∷ l) (take_at (mark g) marked.rest 16 (length-mark g)) in
+    prefix_is : (g : ℕ) → HasMark g file → take (length prefix - 1) (drop 1 prefix) ≡ mark g
+    prefix_is g marked =
+        let whole : prefix ≡ 1 ∷ mark g = is ∙ ap (λ (l : List ℕ). take 17 l) marked.bytes ∙ ap (λ (l : List ℕ). 1 ∷ l) (take_at (mark g) marked.rest 16 (length-mark g)) in
         ap (λ (l : List ℕ). take (length l - 1) (drop 1 l)) whole ∙ take_all (length (1 ∷ mark g) - 1) (mark g) (omega (arith, length-mark g))
 
 -- ---- a block
 
-size_front : (seen : List ℕ) (at n : ℕ) → four_bytes n ≡ bytes_at seen at 4 → drop at seen ≡ four_bytes n ++ drop 4 (drop at seen)
-size_front seen at n is =
+size_prefix : (seen : List ℕ) (at n : ℕ) → four_bytes n ≡ bytes_at seen at 4 → drop at seen ≡ four_bytes n ++ drop 4 (drop at seen)
+size_prefix seen at n is =
     sym (take-append-drop 4 (drop at seen)) ∙ ap (λ (l : List ℕ). l ++ drop 4 (drop at seen)) (sym is)
 
 pub cut_block : (seen : List ℕ) (at n : ℕ) → n < 2 ^ 32 → four_bytes n ≡ bytes_at seen at 4 → length seen - at - 4 ≤ n → IsCut (drop at seen)
 cut_block seen at n fits is short =
-    inr (n, drop 4 (drop at seen), fits, size_front seen at n is, omega (arith, short, length-drop 4 (drop at seen), length-drop at seen))
+    inr (n, drop 4 (drop at seen), fits, size_prefix seen at n is, omega (arith, short, length-drop 4 (drop at seen), length-drop at seen))
 
 pub whole_block : (seen : List ℕ) (at n : ℕ) (bytes body : List ℕ) (gate : ℕ) → n < 2 ^ 32 → four_bytes n ≡ bytes_at seen at 4 → bytes ≡ bytes_at seen (at + 4) (n + 1) → length bytes ≡ n + 1 → bytes ≡ body ++ gate ∷ [] → IsBlock body gate (drop at seen)
 unfolding block
 whole_block seen at n bytes body gate fits is read long parts =
     let body_long : length body ≡ n = omega (arith, long, ap length parts, length-append body (gate ∷ [])) in
     let more = drop (n + 1) (drop (at + 4) seen) in
-    let behind : drop 4 (drop at seen) ≡ body ++ gate ∷ more = drop-drop 4 at seen ∙ sym (take-append-drop (n + 1) (drop (at + 4) seen)) ∙ ap (λ (l : List ℕ). l ++ more) (sym read ∙ parts) ∙ append_assoc body (gate ∷ []) more in (
+    let suffix : drop 4 (drop at seen) ≡ body ++ gate ∷ more = drop-drop 4 at seen ∙ sym (take-append-drop (n + 1) (drop (at + 4) seen)) ∙ ap (λ (l : List ℕ). l ++ more) (sym read ∙ parts) ∙ append_assoc body (gate ∷ []) more in (
       omega (arith, body_long, fits),
       more,
-      size_front seen at n is ∙ ap (λ (m : ℕ). four_bytes m ++ drop 4 (drop at seen)) (sym body_long) ∙ ap (λ (l : List ℕ). four_bytes (length body) ++ l) behind
+      size_prefix seen at n is ∙ ap (λ (m : ℕ). four_bytes m ++ drop 4 (drop at seen)) (sym body_long) ∙ ap (λ (l : List ℕ). four_bytes (length body) ++ l) suffix
           ∙ sym (append_assoc (four_bytes (length body)) body (gate ∷ more)),
     )
 
@@ -103,9 +103,9 @@ pub read_start : (g : ℕ) (image rest file : List ℕ) (found : List Record) (a
 read_start g image rest file found at gate none fits is at_is =
     subst (λ (f : List Record). IsReadTo g image f at gate file) (sym none) (record { behind = rest; bytes = is; fits = fits; end_is = at_is; placed = tt })
 
-behind_gate : (front behind file : List ℕ) (at gate : ℕ) → file ≡ front ++ gate ∷ behind → at ≡ length front → drop (at + 1) file ≡ behind
-behind_gate front behind file at gate is at_is =
-    ap (λ (l : List ℕ). drop (at + 1) l) (is ∙ sym (append_assoc front (gate ∷ []) behind)) ∙ drop_at (front ++ gate ∷ []) behind (at + 1) (omega (arith, at_is, length-append front (gate ∷ [])))
+after_gate : (prefix suffix file : List ℕ) (at gate : ℕ) → file ≡ prefix ++ gate ∷ suffix → at ≡ length prefix → drop (at + 1) file ≡ suffix
+after_gate prefix suffix file at gate is at_is =
+    ap (λ (l : List ℕ). drop (at + 1) l) (is ∙ sym (append_assoc prefix (gate ∷ []) suffix)) ∙ drop_at (prefix ++ gate ∷ []) suffix (at + 1) (omega (arith, at_is, length-append prefix (gate ∷ [])))
 
 -- an open gate with nothing whole behind it
 pub read_cut : (g : ℕ) (image file : List ℕ) (found : List Record) (at gate : ℕ) → gate ≡ 1 → IsReadTo g image found at gate file → IsCut (drop (at + 1) file) → IsCutAt at file
@@ -117,7 +117,7 @@ read_cut g image file found at gate is_open so_far cut =
       so_far.behind,
       so_far.fits,
       so_far.bytes ∙ ap (λ (b : ℕ). solid g image (bodies_of found) ++ b ∷ so_far.behind) is_open,
-      subst IsCut (behind_gate (solid g image (bodies_of found)) so_far.behind file at gate so_far.bytes so_far.end_is) cut,
+      subst IsCut (after_gate (solid g image (bodies_of found)) so_far.behind file at gate so_far.bytes so_far.end_is) cut,
       so_far.end_is,
     )
 
@@ -125,34 +125,34 @@ read_cut g image file found at gate is_open so_far cut =
 pub read_more : (g : ℕ) (image file : List ℕ) (found : List Record) (r : Record) (at gate next end : ℕ) → gate ≡ 1 → IsReadTo g image found at gate file → IsBlock r.body.items next (drop (at + 1) file) → r.gate ≡ at → end ≡ at + (5 + length r.body.items) → IsReadTo g image (found ++ r ∷ []) end next file
 read_more g image file found r at gate next end is_open so_far is_block gate_is end_is = record {
   behind = is_block.1;
-  bytes = so_far.bytes ∙ ap (λ (b : ℕ). front ++ b ∷ so_far.behind) is_open ∙ ap (λ (l : List ℕ). front ++ 1 ∷ l) (sym (behind_gate front so_far.behind file at gate so_far.bytes so_far.end_is) ∙ is_block.2)
+  bytes = so_far.bytes ∙ ap (λ (b : ℕ). prefix ++ b ∷ so_far.behind) is_open ∙ ap (λ (l : List ℕ). prefix ++ 1 ∷ l) (sym (after_gate prefix so_far.behind file at gate so_far.bytes so_far.end_is) ∙ is_block.2)
       ∙ grown g image (bodies_of found) r.body.items (next ∷ is_block.1) ∙ ap (λ (bs : List (List ℕ)). solid g image bs ++ next ∷ is_block.1) (sym pushed);
   fits = subst (λ (bs : List (List ℕ)). Fits g image bs) (sym pushed) (fits_push g image (bodies_of found) r.body.items so_far.fits is_block.0);
-  end_is = omega (arith, end_is, so_far.end_is, ap length (ap (solid g image) pushed ∙ solid-push g image (bodies_of found) r.body.items), length-append front (1 ∷ block r.body.items), length-block r.body.items);
+  end_is = omega (arith, end_is, so_far.end_is, ap length (ap (solid g image) pushed ∙ solid-push g image (bodies_of found) r.body.items), length-append prefix (1 ∷ block r.body.items), length-block r.body.items);
   placed = placed_push (21 + length image) found r so_far.placed (omega (arith, gate_is, so_far.end_is, length-solid g image (bodies_of found)));
 }
   where
-    front : List ℕ
-    front = solid g image (bodies_of found)
+    prefix : List ℕ
+    prefix = solid g image (bodies_of found)
 
     pushed : bodies_of (found ++ r ∷ []) ≡ bodies_of found ++ r.body.items ∷ []
     pushed = map_push (λ (q : Record). q.body.items) found r
 
 -- ---- a generation
 
-behind_mark : (g : ℕ) (file : List ℕ) (marked : HasMark g file) → drop 17 file ≡ marked.rest
-behind_mark g file marked =
+after_mark : (g : ℕ) (file : List ℕ) (marked : HasMark g file) → drop 17 file ≡ marked.rest
+after_mark g file marked =
     ap (λ (l : List ℕ). drop 17 l) marked.bytes ∙ drop_at (1 ∷ mark g) marked.rest 17 (omega (arith, length-mark g))
 
 pub image_cut : (g : ℕ) (file : List ℕ) → HasMark g file → IsCut (drop 17 file) → IsCutAt 0 file
-image_cut g file marked cut = inl (g, marked.rest, marked.bytes, subst IsCut (behind_mark g file marked) cut, refl)
+image_cut g file marked cut = inl (g, marked.rest, marked.bytes, subst IsCut (after_mark g file marked) cut, refl)
 
 -- the image behind a mark, and the first gate behind it
 pub image_read : (g : ℕ) (file image : List ℕ) (gate : ℕ) → HasMark g file → IsBlock image gate (drop 17 file) → Fits g image [] × (rest : List ℕ) × (file ≡ solid g image [] ++ gate ∷ rest)
 image_read g file image gate marked is_block = (
   record { numbered = marked.numbered; image_short = is_block.0; bodies_short = tt },
   is_block.1,
-  marked.bytes ∙ ap (λ (l : List ℕ). 1 ∷ (mark g ++ l)) (sym (behind_mark g file marked) ∙ is_block.2) ∙ sym (solid_alone g image (gate ∷ is_block.1)),
+  marked.bytes ∙ ap (λ (l : List ℕ). 1 ∷ (mark g ++ l)) (sym (after_mark g file marked) ∙ is_block.2) ∙ sym (solid_no_records g image (gate ∷ is_block.1)),
 )
 
 pub length-alone : (g : ℕ) (image : List ℕ) → length (solid g image []) ≡ 21 + length image
@@ -191,8 +191,8 @@ since_rested device since a b P rested so call time image from to left = elim (c
 ]
 
 -- reading, and then what leaves images with P
-pub idle_goes_on : {D : Type 0} (device : Device D) (a b c : D) (P : List ℕ → Type 0) → IsTrue (device.honest a) → IsOnlyRead device a b → AreIdle (device.leaves a (device.clock a)) → ((image : List ℕ) → IsIdle image → P image) → Throughout device b c P → Throughout device a c P
-idle_goes_on device a b c P is read idle so call =
+pub idle_throughout : {D : Type 0} (device : Device D) (a b c : D) (P : List ℕ → Type 0) → IsTrue (device.honest a) → IsOnlyRead device a b → AreIdle (device.leaves a (device.clock a)) → ((image : List ℕ) → IsIdle image → P image) → Throughout device b c P → Throughout device a c P
+idle_throughout device a b c P is read idle so call =
     goes_on (device.clock a) (device.clock b) (device.clock c) (device.leaves a) (device.leaves b) (device.leaves c) P
     (weaker (device.clock a) (device.clock b) (device.leaves a) (device.leaves b) (device.leaves a (device.clock a)) P (λ image left. so image (one_idle (device.leaves a (device.clock a)) idle image left)) (read.moments is)) call
 

@@ -7,7 +7,7 @@ use Rattle.ash_disk.specs.Moments.{During}
 use Rattle.ash_disk.proofs.MomentLaws.{at_start, every_moment}
 use Rattle.ash_journal.specs.Current.{Contents, Either, Represent, SettleOn, SettleFurther}
 use Rattle.ash_journal.specs.Runs.{Run, Extends, Nothing}
-use Rattle.ash_journal.specs.Beside.{first_of, second_of}
+use Rattle.ash_journal.specs.OtherState.{first_of, second_of}
 use Rattle.ash_journal.proofs.SettleLaws.{Said, settle_turned, further, further_same, further_turned, represent_once}
 
 -- what is left now is left at the last moment before a later one

@@ -47,11 +47,11 @@ pub record EndReopens (current other after : List ℕ) : Type 0 where
   pub gate : ℕ
   pub behind : List ℕ
   pub fits : Fits generation image bodies
-  pub bytes : current ≡ solid generation image bodies ++ gate ∷ behind
+  pub bytes : current ≡ solid generation image bodies ++ gate ∷ suffix
   pub not_open : gate ≢ 1
   pub not_shut : gate ≢ 0
   pub older : IsBehind generation other
-  pub opened : after ≡ solid generation image bodies ++ 1 ∷ behind
+  pub opened : after ≡ solid generation image bodies ++ 1 ∷ suffix
 
 -- The first file is current, and 1 is put for the first gate of the other, which a repair would write over since the
 -- other is closed and this gate isn't 0.

@@ -2,11 +2,11 @@
 use Rattle.std.specs.Prelude.{◌≡◌, ◌≢◌, ℕ, Bool, true, false, IsTrue, List, [], ◌∷◌, ◌++◌, length}
 use Rattle.ash_disk.specs.Device.{Device, IsDurable}
 use Rattle.ash_journal.specs.declared.journal.Journal.{Journal}
-use Rattle.ash_journal.specs.declared.beside.Beside.{Beside}
-use Rattle.ash_journal.specs.declared.beside.Beside.TheVariants.{Shut, Older}
+use Rattle.ash_journal.specs.declared.other_state.OtherState.{OtherState}
+use Rattle.ash_journal.specs.declared.other_state.OtherState.TheVariants.{Shut, Older}
 use Rattle.ash_journal.specs.Layout.{solid, records, Fits}
 use Rattle.ash_journal.specs.Current.{Is}
-use Rattle.ash_journal.specs.Beside.{first_of, second_of, is_stray, OtherIs}
+use Rattle.ash_journal.specs.OtherState.{first_of, second_of, is_stray, OtherIs}
 use Rattle.ash_journal.specs.Runs.{Run}
 use Rattle.ash_journal.specs.Writes.{WritesByte}
 
@@ -46,36 +46,36 @@ EndIs false gate = gate ≡ 0
 EndIs true gate = gate ≢ 0
 
 -- nothing is to be written over
-abbrev pub NothingIsOwed : Bool → Beside → Type 0
-NothingIsOwed false Shut = Unit {0}
-NothingIsOwed false Older = Unit {0}
-NothingIsOwed _ _ = ⊥
+abbrev pub NeedsNoRepair : Bool → OtherState → Type 0
+NeedsNoRepair false Shut = Unit {0}
+NeedsNoRepair false Older = Unit {0}
+NeedsNoRepair _ _ = ⊥
 
 -- Two honest disks hold this image and these records, all of it on the devices, and a journal knows what it needs of
 -- them.
-pub record FilesAre {D : Type 0} (device : Device D) (number end size : ℕ) (stray : Bool) (beside : Beside) (current other : D) (image : List ℕ) (bodies : List (List ℕ)) : Type 0 where
+pub record FilesAre {D : Type 0} (device : Device D) (number end size : ℕ) (stray : Bool) (other_state : OtherState) (current other : D) (image : List ℕ) (bodies : List (List ℕ)) : Type 0 where
   pub current_honest : IsTrue (device.honest current)
   pub other_honest : IsTrue (device.honest other)
   pub gate : ℕ
   pub behind : List ℕ
   pub shut : gate ≢ 1
-  pub bytes : device.seen current ≡ solid number image bodies ++ gate ∷ behind
+  pub bytes : device.seen current ≡ solid number image bodies ++ gate ∷ suffix
   pub fits : Fits number image bodies
   pub end_is : end ≡ length (solid number image bodies)
   pub size_is : size ≡ length (records bodies)
-  pub owed : EndIs stray gate
-  pub other_is : OtherIs beside number (device.seen other)
+  pub gate_is : EndIs stray gate
+  pub other_is : OtherIs other_state number (device.seen other)
   pub current_durable : IsDurable device current
   pub other_durable : IsDurable device other
 
 -- The files hold this image and these records, as `open` finds them: gates may be owed a repair.
 abbrev pub Finds : {D : Type 0} → Device D → Journal D → List ℕ → List (List ℕ) → Type 0
 Finds device j image bodies =
-    FilesAre device j.generation j.end j.record_bytes j.stray j.beside j.current j.other image bodies
+    FilesAre device j.generation j.end j.record_bytes j.stray j.other_state j.current j.other image bodies
 
 -- nothing is to be written over in a journal's files
 abbrev pub IsRepaired : {D : Type 0} → Journal D → Type 0
-IsRepaired j = NothingIsOwed j.stray j.beside
+IsRepaired j = NeedsNoRepair j.stray j.other_state
 
 -- a device failed in a call of the journal: it is to be opened again
 abbrev pub HasFailed : {D : Type 0} → Journal D → Type 0
@@ -102,7 +102,7 @@ KeepsOther old new = KeepsOtherOf old.swapped (first_disk old) (second_disk old)
 
 -- a disk of which no gate is to be written over stays as it was
 abbrev pub KeepsUnowed : {D : Type 0} → Journal D → Journal D → Type 0
-KeepsUnowed old new = (old.stray ≡ false → KeepsOne old new) × (is_stray old.beside ≡ false → KeepsOther old new)
+KeepsUnowed old new = (old.stray ≡ false → KeepsOne old new) × (is_stray old.other_state ≡ false → KeepsOther old new)
 
 -- Nothing was written to a journal's disks but the gates that a repair writes over: of the current file the one behind its
 -- last open record, and of the other its first.

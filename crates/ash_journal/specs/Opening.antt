@@ -4,13 +4,13 @@ use Rattle.ash_journal.specs.declared.error.OpenFault.{OpenFault}
 use Rattle.ash_journal.specs.declared.error.OpenFault.TheVariants.{DeviceFailed, NoGeneration, Damaged, NoMemory}
 use Rattle.ash_journal.specs.declared.error.CreateFault.{CreateFault}
 use Rattle.ash_journal.specs.declared.error.CreateFault.TheVariants as reasons
-use Rattle.ash_journal.specs.declared.opening.Choice.{Choice}
-use Rattle.ash_journal.specs.declared.opening.Looks.{Looks}
-use Rattle.ash_journal.specs.declared.reading.Reading.{Reading}
-use Rattle.ash_journal.specs.Beside.{first_of, second_of, OtherIs}
+use Rattle.ash_journal.specs.declared.two_files.Choice.{Choice}
+use Rattle.ash_journal.specs.declared.two_files.Headers.{Headers}
+use Rattle.ash_journal.specs.declared.one_file.CurrentFile.{CurrentFile}
+use Rattle.ash_journal.specs.OtherState.{first_of, second_of, OtherIs}
 use Rattle.ash_journal.specs.Current.{Is, IsBehind, SettleOn}
 use Rattle.ash_journal.specs.Layout.{IsOpen, IsClosed, IsCutAt, HasMark, LacksMark}
-use Rattle.ash_journal.specs.Reading.{StandingIs, IsRead}
+use Rattle.ash_journal.specs.Reading.{HeaderIs, IsRead}
 
 -- two files of which one is open and no generation, or both are open with one number
 abbrev pub IsUnsound : List ℕ → List ℕ → Type 0
@@ -39,20 +39,20 @@ FaultIs (Damaged at) first second =
 abbrev pub ChoiceIs : Choice → List ℕ → List ℕ → Type 0
 ChoiceIs choice first second =
     HasMark choice.generation (first_of choice.swapped first second)
-    × OtherIs choice.beside choice.generation (second_of choice.swapped first second)
+    × OtherIs choice.other_state choice.generation (second_of choice.swapped first second)
 
 -- the current of two files as it was read, and the other
-abbrev pub ContentsAre : Choice → Reading → List ℕ → List ℕ → Type 0
-ContentsAre choice reading first second =
-    IsRead choice.generation reading.image.items reading.tail.records.items reading.tail.end reading.tail.gate (first_of choice.swapped first second)
-    × OtherIs choice.beside choice.generation (second_of choice.swapped first second)
+abbrev pub ContentsAre : Choice → CurrentFile → List ℕ → List ℕ → Type 0
+ContentsAre choice current_file first second =
+    IsRead choice.generation current_file.image.items current_file.tail.records.items current_file.tail.end current_file.tail.gate (first_of choice.swapped first second)
+    × OtherIs choice.other_state choice.generation (second_of choice.swapped first second)
 
 -- how two files stand, and their lengths
-pub record LooksAre (looks : Looks) (first second : List ℕ) : Type 0 where
-  pub first_stands : StandingIs looks.first first
-  pub second_stands : StandingIs looks.second second
-  pub first_len : looks.first_len ≡ length first
-  pub second_len : looks.second_len ≡ length second
+pub record HeadersAre (headers : Headers) (first second : List ℕ) : Type 0 where
+  pub first_header : HeaderIs headers.first first
+  pub second_header : HeaderIs headers.second second
+  pub first_len : headers.first_len ≡ length first
+  pub second_len : headers.second_len ≡ length second
 
 -- What makes a fault that is reported where a journal was to be created, and what it leaves: a file was open, or none
 -- was and memory ran out; but for a failure of the device, nothing is written.

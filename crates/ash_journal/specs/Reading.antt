@@ -1,8 +1,8 @@
 -- What is read of a file.
 use Rattle.std.specs.Prelude.{◌≡◌, ◌≢◌, ℕ, ◌+◌, ◌<◌, ◌≤◌, ◌^◌, Bool, true, false, List, [], ◌∷◌, ◌++◌, length, map, Result, IfErr}
 use Rattle.ash_disk.specs.Failures.{Rose}
-use Rattle.ash_journal.specs.declared.reading.Standing.{Standing}
-use Rattle.ash_journal.specs.declared.reading.Standing.TheVariants.{Closed, Unmarked, Marked}
+use Rattle.ash_journal.specs.declared.one_file.FileHeader.{FileHeader}
+use Rattle.ash_journal.specs.declared.one_file.FileHeader.TheVariants.{Closed, Unmarked, Marked}
 use Rattle.ash_journal.specs.declared.record.Record.{Record}
 use Rattle.ash_journal.specs.declared.error.OpenFault.{OpenFault}
 use Rattle.ash_journal.specs.declared.error.OpenFault.TheVariants.{DeviceFailed, NoGeneration, Damaged, NoMemory}
@@ -14,15 +14,15 @@ ShutIs true file = IsShut file
 ShutIs false file = IsShut file → ⊥
 
 -- how a file stands
-abbrev pub StandingIs : Standing → List ℕ → Type 0
-StandingIs (Closed shut) file = IsClosed file × ShutIs shut file
-StandingIs Unmarked file = LacksMark file
-StandingIs (Marked generation) file = HasMark generation file
+abbrev pub HeaderIs : FileHeader → List ℕ → Type 0
+HeaderIs (Closed shut) file = IsClosed file × ShutIs shut file
+HeaderIs Unmarked file = LacksMark file
+HeaderIs (Marked generation) file = HasMark generation file
 
 -- A device's count doesn't fall. Where the answer is that it failed, it rose; where it is another, it didn't.
 pub record Counts (failed : Type 0) (before after : ℕ) : Type 0 where
   pub never_falls : before ≤ after
-  pub told : failed → Rose before after
+  pub reported : failed → Rose before after
   pub none : (failed → ⊥) → after ≡ before
 
 -- a block stands here, with this gate behind it
@@ -41,7 +41,7 @@ AreAt at (r ∷ found) = (r.gate ≡ at) × AreAt (at + 5 + length r.body.items)
 -- A generation up to a gate: its records from the first gate behind its image on, and that gate.
 pub record IsReadTo (generation : ℕ) (image : List ℕ) (found : List Record) (end : ℕ) (gate : ℕ) (file : List ℕ) : Type 0 where
   pub behind : List ℕ
-  pub bytes : file ≡ solid generation image (bodies_of found) ++ gate ∷ behind
+  pub bytes : file ≡ solid generation image (bodies_of found) ++ gate ∷ suffix
   pub fits : Fits generation image (bodies_of found)
   pub end_is : end ≡ length (solid generation image (bodies_of found))
   pub placed : AreAt (21 + length image) found

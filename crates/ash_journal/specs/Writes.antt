@@ -5,10 +5,10 @@ use Rattle.ash_disk.specs.Image.{Torn}
 use Rattle.ash_journal.specs.Layout.{mark, block, IsShut}
 
 -- An honest disk whose file is all on the device, and has these bytes before an offset and these from it on.
-pub record IsSplit {D : Type 0} (device : Device D) (disk : D) (at : ℕ) (front behind : List ℕ) : Type 0 where
+pub record IsSplit {D : Type 0} (device : Device D) (disk : D) (at : ℕ) (prefix suffix : List ℕ) : Type 0 where
   pub honest_disk : IsTrue (device.honest disk)
-  pub long : length front ≡ at
-  pub bytes : device.seen disk ≡ front ++ behind
+  pub long : length prefix ≡ at
+  pub bytes : device.seen disk ≡ prefix ++ suffix
   pub durable : IsDurable device disk
 
 -- the disk's file is these bytes, and all of it is on the device
@@ -24,24 +24,24 @@ pub record WritesByte {D : Type 0} (device : Device D) (at : ℕ) (old new : D) 
 
 -- what a crash may leave while 0 is written over a gate
 abbrev pub WhileShut : List ℕ → List ℕ → List ℕ → Type 0
-WhileShut front behind image = (image ≡ front ++ behind) ⊎ ((gate : ℕ) × (image ≡ front ++ gate ∷ drop 1 behind))
+WhileShut prefix suffix image = (image ≡ prefix ++ suffix) ⊎ ((gate : ℕ) × (image ≡ prefix ++ gate ∷ drop 1 suffix))
 
 -- What a crash may leave while bytes are written behind a gate that is 0, and then 1 over the gate: until the bytes
 -- are on the device the gate is 0, and while the gate is written they stand whole behind it.
 abbrev pub WhileCommitted : List ℕ → List ℕ → List ℕ → List ℕ → Type 0
-WhileCommitted front bytes behind image =
-    ((rest : List ℕ) × (image ≡ front ++ 0 ∷ rest))
-    ⊎ ((gate : ℕ) × (image ≡ front ++ gate ∷ (bytes ++ drop (length bytes) behind)))
+WhileCommitted prefix bytes suffix image =
+    ((rest : List ℕ) × (image ≡ prefix ++ 0 ∷ rest))
+    ⊎ ((gate : ℕ) × (image ≡ prefix ++ gate ∷ (bytes ++ drop (length bytes) suffix)))
 
 -- with 0 for the first of these bytes, where that is owed
 abbrev pub repaired : Bool → List ℕ → List ℕ
-repaired true behind = 0 ∷ drop 1 behind
-repaired false behind = behind
+repaired true suffix = 0 ∷ drop 1 suffix
+repaired false suffix = suffix
 
 -- what a crash may leave while a gate is repaired, where that is owed
 abbrev pub WhileRepaired : Bool → List ℕ → List ℕ → List ℕ → Type 0
-WhileRepaired owed front behind image =
-    (image ≡ front ++ behind) ⊎ ((owed ≡ true) × (gate : ℕ) × (image ≡ front ++ gate ∷ drop 1 behind))
+WhileRepaired stray prefix suffix image =
+    (image ≡ prefix ++ suffix) ⊎ ((stray ≡ true) × (gate : ℕ) × (image ≡ prefix ++ gate ∷ drop 1 suffix))
 
 -- what a crash may leave while bytes take the place of a file's
 abbrev pub WhileReplaced : Bool → List ℕ → List ℕ → List ℕ → Type 0

@@ -11,15 +11,15 @@ use ash_disk::{DeviceFailed, Disk, write_durably};
 
 /// Writes 0 over a gate, and syncs.
 pub(crate) fn shut_gate<D: Disk>(disk: &mut D, gate: u64) -> Result<(), DeviceFailed>
-    ensures shut { OnOk result ((front behind : List ℕ)
-        → IsSplit D.Disk disk.old gate front behind
-        → IsOn D.Disk disk.new (front ++ 0 ∷ drop 1 behind)) }
-    ensures moments { (front behind : List ℕ)
-        → IsSplit D.Disk disk.old gate front behind
+    ensures shut { OnOk result ((prefix suffix : List ℕ)
+        → IsSplit D.Disk disk.old gate prefix suffix
+        → IsOn D.Disk disk.new (prefix ++ 0 ∷ drop 1 suffix)) }
+    ensures moments { (prefix suffix : List ℕ)
+        → IsSplit D.Disk disk.old gate prefix suffix
         → Throughout D.Disk disk.old disk.new
-        (WhileShut front behind) }
-    ensures only_gate { (front behind : List ℕ)
-        → IsSplit D.Disk disk.old gate front behind
+        (WhileShut prefix suffix) }
+    ensures only_gate { (prefix suffix : List ℕ)
+        → IsSplit D.Disk disk.old gate prefix suffix
         → WritesByte D.Disk gate disk.old disk.new }
     ensures honesty { D.honest disk.new ≡ D.honest disk.old }
     ensures cause { CountsFailure result (D.failures disk.old) (D.failures disk.new) }
@@ -31,14 +31,14 @@ pub(crate) fn shut_gate<D: Disk>(disk: &mut D, gate: u64) -> Result<(), DeviceFa
 /// the bytes count, and a crash on the way leaves them whole or not at all.
 pub(crate) fn commit<D: Disk>(disk: &mut D, gate: u64, bytes: &[u8]) -> Result<(), DeviceFailed>
     requires { gate + 1 < 2 ^ 64 }
-    ensures committed { OnOk result ((front behind : List ℕ)
-        → IsSplit D.Disk disk.old gate front (0 ∷ behind)
+    ensures committed { OnOk result ((prefix suffix : List ℕ)
+        → IsSplit D.Disk disk.old gate prefix (0 ∷ suffix)
         → IsOn D.Disk disk.new
-        (front ++ 1 ∷ (bytes.now ++ drop (length bytes.now) behind))) }
-    ensures moments { (front behind : List ℕ)
-        → IsSplit D.Disk disk.old gate front (0 ∷ behind)
+        (prefix ++ 1 ∷ (bytes.now ++ drop (length bytes.now) suffix))) }
+    ensures moments { (prefix suffix : List ℕ)
+        → IsSplit D.Disk disk.old gate prefix (0 ∷ suffix)
         → Throughout D.Disk disk.old disk.new
-        (WhileCommitted front bytes.now behind) }
+        (WhileCommitted prefix bytes.now suffix) }
     ensures honesty { D.honest disk.new ≡ D.honest disk.old }
     ensures cause { CountsFailure result (D.failures disk.old) (D.failures disk.new) }
 {
@@ -48,22 +48,22 @@ pub(crate) fn commit<D: Disk>(disk: &mut D, gate: u64, bytes: &[u8]) -> Result<(
 
 /// Writes 0 over a gate where it is owed, and syncs.
 #[tactic(auto, using(crate::proofs::GateLaws::unwritten))]
-pub(crate) fn repair<D: Disk>(disk: &mut D, owed: bool, gate: u64) -> Result<(), DeviceFailed>
-    ensures repaired { OnOk result ((front behind : List ℕ)
-        → IsSplit D.Disk disk.old gate front behind
-        → IsOn D.Disk disk.new (front ++ repaired owed behind)) }
-    ensures moments { (front behind : List ℕ)
-        → IsSplit D.Disk disk.old gate front behind
+pub(crate) fn repair<D: Disk>(disk: &mut D, stray: bool, gate: u64) -> Result<(), DeviceFailed>
+    ensures repaired { OnOk result ((prefix suffix : List ℕ)
+        → IsSplit D.Disk disk.old gate prefix suffix
+        → IsOn D.Disk disk.new (prefix ++ repaired stray suffix)) }
+    ensures moments { (prefix suffix : List ℕ)
+        → IsSplit D.Disk disk.old gate prefix suffix
         → Throughout D.Disk disk.old disk.new
-        (WhileRepaired owed front behind) }
-    ensures only_gate { (front behind : List ℕ)
-        → IsSplit D.Disk disk.old gate front behind
+        (WhileRepaired stray prefix suffix) }
+    ensures only_gate { (prefix suffix : List ℕ)
+        → IsSplit D.Disk disk.old gate prefix suffix
         → WritesByte D.Disk gate disk.old disk.new }
-    ensures only_owed { owed ≡ false → disk.new ≡ disk.old }
+    ensures only_stray { stray ≡ false → disk.new ≡ disk.old }
     ensures honesty { D.honest disk.new ≡ D.honest disk.old }
     ensures cause { CountsFailure result (D.failures disk.old) (D.failures disk.new) }
 {
-    if owed {
+    if stray {
         return shut_gate(disk, gate);
     }
     Ok(())

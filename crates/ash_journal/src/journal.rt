@@ -1,12 +1,12 @@
 //! The journal.
 ghost use Rattle.std.specs.Prelude.{◌≡◌, ◌≤◌, ◌+◌, ◌^◌};
 
-use crate::beside::{Beside, place};
+use crate::other_state::{OtherState, swap_if};
 use crate::bytes::{generation_bytes, record_bytes};
-use crate::creating::create_both;
+use crate::creation::create_both;
 use crate::error::{AppendError, CreateFault, InstallError, OpenFault};
 use crate::gate::{commit, repair, replace};
-use crate::opening::{Contents, read_both};
+use crate::two_files::{Contents, read_both};
 use crate::record::Record;
 use ash_disk::{DeviceFailed, Disk};
 use std::alloc::Global;
@@ -26,7 +26,7 @@ pub struct Journal<D> {
     record_bytes: u64,
     /// Whether that gate is still to be written over.
     stray: bool,
-    beside: Beside,
+    other_state: OtherState,
     /// Whether a device failed in a call: the journal is to be opened again.
     failed: bool,
     ghost within: { end ≤ record_bytes + 2 ^ 33 },
@@ -127,7 +127,7 @@ impl<D: Disk> Journal<D> {
                 end: 21 + image.len() as u64,
                 record_bytes: 0,
                 stray: false,
-                beside: Beside::Shut,
+                other_state: OtherState::Shut,
                 failed: false,
             }),
             Err(fault) => Err(CreateRefused {
@@ -182,24 +182,24 @@ impl<D: Disk> Journal<D> {
                 });
             }
         };
-        let Contents { choice, reading } = contents;
-        let (current, other) = place(choice.swapped, one, two);
+        let Contents { choice, current_file } = contents;
+        let (current, other) = swap_if(choice.swapped, one, two);
         let journal = Journal {
             alloc,
             current,
             other,
             swapped: choice.swapped,
             generation: choice.generation,
-            end: reading.tail.end,
-            record_bytes: reading.tail.end - 21 - reading.image.len() as u64,
-            stray: reading.tail.gate != 0,
-            beside: choice.beside,
+            end: current_file.tail.end,
+            record_bytes: current_file.tail.end - 21 - current_file.image.len() as u64,
+            stray: current_file.tail.gate != 0,
+            other_state: choice.other_state,
             failed: false,
         };
         Ok(Opened {
             journal,
-            image: reading.image,
-            records: reading.tail.records,
+            image: current_file.image,
+            records: current_file.tail.records,
         })
     }
 
@@ -215,7 +215,7 @@ impl<D: Disk> Journal<D> {
     pub fn is_ready(&self) -> bool
         ensures { IsTrue result ↔ IsReady self.now }
     {
-        !self.failed && !self.stray && !self.beside.is_stray()
+        !self.failed && !self.stray && !self.other_state.is_stray()
     }
 
     /// Adds a record to the current generation, on a journal that is ready. At `Ok` the record is acknowledged, and
@@ -287,10 +287,10 @@ impl<D: Disk> Journal<D> {
             end: _,
             record_bytes: _,
             stray: _,
-            beside: _,
+            other_state: _,
             failed: _,
         } = self;
-        place(swapped, current, other)
+        swap_if(swapped, current, other)
     }
 
     /// Writes 0 over the gates that a crash left with another value: the one behind the last open record, and the first
@@ -309,7 +309,7 @@ impl<D: Disk> Journal<D> {
         ensures ready { OnOk result ((HasFailed self.old → ⊥) → IsReady self.new) }
         ensures failed { IsErr result → HasFailed self.new }
         ensures still_failed { HasFailed self.old → HasFailed self.new }
-        ensures only_owed { IsRepaired self.old
+        ensures only_stray { IsRepaired self.old
             → (first_disk self.new ≡ first_disk self.old) × (second_disk self.new ≡ second_disk self.old) }
         ensures each_owed { KeepsUnowed self.old self.new }
         ensures gates { (image : List ℕ) (bodies : List (List ℕ))
@@ -330,8 +330,8 @@ impl<D: Disk> Journal<D> {
                 return Err(failure);
             }
         }
-        match repair(&mut self.other, self.beside.is_stray(), 0) {
-            Ok(()) => self.beside = self.beside.repaired(),
+        match repair(&mut self.other, self.other_state.is_stray(), 0) {
+            Ok(()) => self.other_state = self.other_state.repaired(),
             Err(failure) => {
                 self.failed = true;
                 return Err(failure);
@@ -382,7 +382,7 @@ impl<D: Disk> Journal<D> {
             Ok(bytes) => bytes,
             Err(_) => return Err(InstallError::NoMemory),
         };
-        match replace(&mut self.other, self.beside.is_older(), &bytes) {
+        match replace(&mut self.other, self.other_state.is_older(), &bytes) {
             Ok(()) => {}
             Err(_) => {
                 self.failed = true;
@@ -395,7 +395,7 @@ impl<D: Disk> Journal<D> {
         self.end = 21 + image.len() as u64;
         self.record_bytes = 0;
         self.stray = false;
-        self.beside = Beside::Older;
+        self.other_state = OtherState::Older;
         Ok(())
     }
 }

@@ -35,18 +35,18 @@
 //! `specs/Journal` (what a journal holds) and `specs/Opening` (faults).
 #![tactic(auto)]
 
-mod beside;
 mod bytes;
-mod creating;
+mod creation;
 mod error;
+mod first_append;
 mod gate;
 mod journal;
-mod opening;
-mod reading;
+mod one_file;
+mod other_state;
 mod record;
-mod resuming;
+mod two_files;
 
 pub use error::{AppendError, CreateFault, InstallError, OpenFault};
+pub use first_append::append_first;
 pub use journal::{CreateRefused, Journal, OpenRefused, Opened};
 pub use record::Record;
-pub use resuming::append_first;

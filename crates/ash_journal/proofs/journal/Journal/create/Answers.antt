@@ -1,5 +1,5 @@
 use Rattle.std.proofs.Common.{inl, ◌+◌, ◌∷◌, ◌++◌, [], IsTrue, false, length, drop, refl, sym, subst, arith}
-use Rattle.ash_journal.specs.declared.beside.Beside.TheVariants.{Shut}
+use Rattle.ash_journal.specs.declared.second_cleared.OtherState.TheVariants.{Shut}
 use Rattle.ash_journal.specs.Layout.{mark, block, IsShut}
 use Rattle.ash_journal.specs.Writes.{IsIdle, WhileCreated}
 use Rattle.ash_journal.proofs.FilesLaws.{create_files, ready_run}
@@ -14,10 +14,10 @@ returns-in-Ok-clause-created g c honest_first honest_second =
     let one = c.create_both.new.first in
     let two = c.create_both.new.second in
     let on = c.in-Ok.ensures.created honest_first honest_second in
-    let beside = c.in-Ok.ensures.beside honest_first honest_second in
+    let second_cleared = c.in-Ok.ensures.second_cleared honest_first honest_second in
     let rest = drop (length (mark 1 ++ (block image ++ 0 ∷ []))) (drop 1 (d.seen c.args.first)) in
     let files = create_files d one two image rest (21 + length image) refl c.requires
-    (subst IsTrue (sym c.in-Ok.ensures.honesty_first) honest_first) (subst IsTrue (sym c.in-Ok.ensures.honesty_second) honest_second) on (subst IsShut (sym beside.bytes) refl) beside.durable in
+    (subst IsTrue (sym c.in-Ok.ensures.honesty_first) honest_first) (subst IsTrue (sym c.in-Ok.ensures.honesty_second) honest_second) on (subst IsShut (sym second_cleared.bytes) refl) second_cleared.durable in
     record { files = files; repaired = tt; run = ready_run d 1 (21 + length image) 0 false Shut false one two image [] files tt }
 
 pub returns-in-Ok-clause-moments : goal.returns-in-Ok-clause-moments

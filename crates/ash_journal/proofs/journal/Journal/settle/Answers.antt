@@ -3,8 +3,8 @@ use Rattle.ash_disk.specs.Device.{Throughout}
 use Rattle.ash_disk.proofs.MomentLaws.{at_start}
 use Rattle.ash_journal.specs.Layout.{solid}
 use Rattle.ash_journal.specs.Writes.{IsOn, WhileRepaired, repaired}
-use Rattle.ash_journal.specs.Beside.{is_stray}
-use Rattle.ash_journal.specs.Journal.{FilesAre, NothingIsOwed}
+use Rattle.ash_journal.specs.OtherState.{is_stray}
+use Rattle.ash_journal.specs.Journal.{FilesAre, NeedsNoRepair}
 use Rattle.ash_journal.proofs.FilesLaws.{repaired_ready, settle_files, settle_extends, ready_run}
 use Rattle.ash_journal.proofs.GateLaws.{none_written, both_written}
 use Rattle.ash_journal.proofs.journal.Journal.settle.Goals as goal
@@ -14,9 +14,9 @@ returns-in-Err-clause-extends g c image bodies f =
     let d = g.D.Disk in
     let j = c.args.self.now in
     let one = c.repair.ensures.moments (solid j.generation image bodies) (f.gate ∷ f.behind) (record { honest_disk = f.current_honest; long = sym f.end_is; bytes = f.bytes; durable = f.current_durable }) in
-    settle_extends d j.generation j.end j.record_bytes j.stray j.beside j.current c.repair.new.disk j.other j.other image bodies f j.swapped
+    settle_extends d j.generation j.end j.record_bytes j.stray j.other_state j.current c.repair.new.disk j.other j.other image bodies f j.swapped
     (g.met.D.Disk.seen_may_stay j.current f.current_honest) (g.met.D.Disk.seen_may_stay j.other f.other_honest) one
-    (at_start (d.clock j.other) (d.leaves j.other) (WhileRepaired (is_stray j.beside) [] (d.seen j.other)) (λ y left. inl (f.other_durable y left)))
+    (at_start (d.clock j.other) (d.leaves j.other) (WhileRepaired (is_stray j.other_state) [] (d.seen j.other)) (λ y left. inl (f.other_durable y left)))
 
 pub returns-in-Err-repair-clause-extends : goal.returns-in-Err-repair-clause-extends
 returns-in-Err-repair-clause-extends g c image bodies f =
@@ -24,9 +24,9 @@ returns-in-Err-repair-clause-extends g c image bodies f =
     let j = c.args.self.now in
     let one = c.repair.ensures.moments (solid j.generation image bodies) (f.gate ∷ f.behind) (record { honest_disk = f.current_honest; long = sym f.end_is; bytes = f.bytes; durable = f.current_durable }) in
     let two = c.repair-2.ensures.moments [] (d.seen j.other) (record { honest_disk = f.other_honest; long = refl; bytes = refl; durable = f.other_durable }) in
-    settle_extends d j.generation j.end j.record_bytes j.stray j.beside j.current c.repair.new.disk j.other c.repair-2.new.disk image bodies f j.swapped
+    settle_extends d j.generation j.end j.record_bytes j.stray j.other_state j.current c.repair.new.disk j.other c.repair-2.new.disk image bodies f j.swapped
     (g.met.D.Disk.seen_may_stay j.current f.current_honest) (g.met.D.Disk.seen_may_stay j.other f.other_honest) one
-    (subst (λ owed. Throughout d j.other c.repair-2.new.disk (WhileRepaired owed [] (d.seen j.other))) c.is_stray.ensures two)
+    (subst (λ stray. Throughout d j.other c.repair-2.new.disk (WhileRepaired stray [] (d.seen j.other))) c.is_stray.ensures two)
 
 pub returns-clause-settled : goal.returns-clause-settled
 returns-clause-settled g c image bodies f =
@@ -34,10 +34,10 @@ returns-clause-settled g c image bodies f =
     let j = c.args.self.now in
     let on_c = c.in-Ok.ensures.repaired (solid j.generation image bodies) (f.gate ∷ f.behind) (record { honest_disk = f.current_honest; long = sym f.end_is; bytes = f.bytes; durable = f.current_durable }) in
     let on_o = c.in-Ok-repair.ensures.repaired [] (d.seen j.other) (record { honest_disk = f.other_honest; long = refl; bytes = refl; durable = f.other_durable }) in
-    let on_o' = subst (λ owed. IsOn d c.repair-2.new.disk (repaired owed (d.seen j.other))) c.is_stray.ensures on_o in
-    let files = settle_files d j.generation j.end j.record_bytes j.stray j.beside j.current c.repair.new.disk j.other c.repair-2.new.disk image bodies f c.repair.ensures.honesty c.repair-2.ensures.honesty on_c on_o' in
-    let files' = subst (λ beside. FilesAre d j.generation j.end j.record_bytes false beside c.repair.new.disk c.repair-2.new.disk image bodies) (sym c.repaired-self.ensures) files in
-    let ready = subst (λ beside. NothingIsOwed false beside) (sym c.repaired-self.ensures) (repaired_ready j.beside) in
+    let on_o' = subst (λ stray. IsOn d c.repair-2.new.disk (repaired stray (d.seen j.other))) c.is_stray.ensures on_o in
+    let files = settle_files d j.generation j.end j.record_bytes j.stray j.other_state j.current c.repair.new.disk j.other c.repair-2.new.disk image bodies f c.repair.ensures.honesty c.repair-2.ensures.honesty on_c on_o' in
+    let files' = subst (λ other_state. FilesAre d j.generation j.end j.record_bytes false other_state c.repair.new.disk c.repair-2.new.disk image bodies) (sym c.repaired-self.ensures) files in
+    let ready = subst (λ other_state. NeedsNoRepair false other_state) (sym c.repaired-self.ensures) (repaired_ready j.other_state) in
     record {
       files = files';
       repaired = ready;
@@ -50,9 +50,9 @@ returns-clause-extends g c image bodies f =
     let j = c.args.self.now in
     let one = c.repair.ensures.moments (solid j.generation image bodies) (f.gate ∷ f.behind) (record { honest_disk = f.current_honest; long = sym f.end_is; bytes = f.bytes; durable = f.current_durable }) in
     let two = c.repair-2.ensures.moments [] (d.seen j.other) (record { honest_disk = f.other_honest; long = refl; bytes = refl; durable = f.other_durable }) in
-    settle_extends d j.generation j.end j.record_bytes j.stray j.beside j.current c.repair.new.disk j.other c.repair-2.new.disk image bodies f j.swapped
+    settle_extends d j.generation j.end j.record_bytes j.stray j.other_state j.current c.repair.new.disk j.other c.repair-2.new.disk image bodies f j.swapped
     (g.met.D.Disk.seen_may_stay j.current f.current_honest) (g.met.D.Disk.seen_may_stay j.other f.other_honest) one
-    (subst (λ owed. Throughout d j.other c.repair-2.new.disk (WhileRepaired owed [] (d.seen j.other))) c.is_stray.ensures two)
+    (subst (λ stray. Throughout d j.other c.repair-2.new.disk (WhileRepaired stray [] (d.seen j.other))) c.is_stray.ensures two)
 
 pub returns-in-Err-clause-gates : goal.returns-in-Err-clause-gates
 returns-in-Err-clause-gates g c image bodies f =

@@ -1,0 +1,50 @@
+//! Which of two disks holds the current file, and how the other stands.
+ghost use Rattle.std.specs.Prelude.{◌≡◌};
+ghost use Rattle.ash_journal.specs.OtherState.{is_older, is_stray, repaired, first_of, second_of};
+
+/// How the other file stands beside the current one.
+#[derive(Clone, Copy)]
+pub(crate) enum OtherState {
+    /// Its first gate is 0.
+    Shut,
+    /// It is an open, older generation.
+    Older,
+    /// It is closed, and its first gate is still to be written over.
+    Stray,
+}
+
+impl OtherState {
+    pub(crate) fn is_older(self) -> bool
+        ensures { result ≡ is_older self }
+    {
+        matches!(self, OtherState::Older)
+    }
+
+    pub(crate) fn is_stray(self) -> bool
+        ensures { result ≡ is_stray self }
+    {
+        matches!(self, OtherState::Stray)
+    }
+
+    /// How it stands once a gate that is owed is written over.
+    pub(crate) fn repaired(self) -> OtherState
+        ensures { result ≡ repaired self }
+    {
+        match self {
+            OtherState::Shut | OtherState::Stray => OtherState::Shut,
+            OtherState::Older => OtherState::Older,
+        }
+    }
+}
+
+/// Two disks by which of them is current.
+pub(crate) fn swap_if<D>(swapped: bool, first: D, second: D) -> (D, D)
+    ensures current { result.0 ≡ first_of swapped first second }
+    ensures other { result.1 ≡ second_of swapped first second }
+{
+    if swapped {
+        (second, first)
+    } else {
+        (first, second)
+    }
+}
