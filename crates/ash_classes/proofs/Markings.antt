@@ -12,7 +12,7 @@ use Rattle.ash_classes.specs.Marking.{IsAt, Marks}
 pub marks_none : (These : ℕ → Type 0) (distance : ℕ) (marks : List (Option ℕ)) (found : List ℕ) → ((p : ℕ) → These p → ⊥) → Marks These distance marks marks found found
 marks_none These distance marks found none = record {
   long = refl;
-  kept = λ p at h. h;
+  unchanged = λ p at h. h;
   marked = λ p t. absurd (none p t);
   added = λ p at h. inl h;
   known = λ p h. h;
@@ -24,7 +24,7 @@ marks_none These distance marks found none = record {
 pub marks_same : (These Those : ℕ → Type 0) (distance : ℕ) (old new : List (Option ℕ)) (before found : List ℕ) → ((p : ℕ) → These p → Those p) → ((p : ℕ) → Those p → These p) → Marks These distance old new before found → Marks Those distance old new before found
 marks_same These Those distance old new before found there back m = record {
   long = m.long;
-  kept = m.kept;
+  unchanged = m.unchanged;
   marked = λ p t. m.marked p (back p t);
   added = λ p at h. elim (m.added p at h) [ inl was ↦ inl was | inr now ↦ inr (now.0, there p now.1, now.2) ];
   known = m.known;
@@ -36,14 +36,14 @@ marks_same These Those distance old new before found there back m = record {
 pub marks_then : (These Those : ℕ → Type 0) (distance : ℕ) (old mid new : List (Option ℕ)) (before between found : List ℕ) → Marks These distance old mid before between → Marks Those distance mid new between found → Marks (λ p. These p ⊎ Those p) distance old new before found
 marks_then These Those distance old mid new before between found m n = record {
   long = n.long ∙ m.long;
-  kept = λ p at h. n.kept p at (m.kept p at h);
-  marked = λ p t. elim t [ inl these ↦ (let h = m.marked p these in (h.0, n.kept p h.0 h.1)) | inr those ↦ n.marked p those ];
+  unchanged = λ p at h. n.unchanged p at (m.unchanged p at h);
+  marked = λ p t. elim t [ inl these ↦ (let h = m.marked p these in (h.0, n.unchanged p h.0 h.1)) | inr those ↦ n.marked p those ];
   added = λ p at h. elim (n.added p at h) [
     | inl was ↦ elim (m.added p at was) [ inl first ↦ inl first | inr now ↦ inr (now.0, inl now.1, n.known p now.2) ]
     | inr now ↦ inr (now.0, inr now.1, now.2)
   ];
   known = λ p h. n.known p (m.known p h);
-  listed = λ p h. elim (n.listed p h) [ inl was ↦ elim (m.listed p was) [ inl first ↦ inl first | inr now ↦ inr (n.kept p distance now) ] | inr now ↦ inr now ];
+  listed = λ p h. elim (n.listed p h) [ inl was ↦ elim (m.listed p was) [ inl first ↦ inl first | inr now ↦ inr (n.unchanged p distance now) ] | inr now ↦ inr now ];
   counted = omega (arith, m.counted, n.counted);
 }
 
@@ -51,7 +51,7 @@ marks_then These Those distance old mid new before between found m n = record {
 pub marks_known : (place at distance : ℕ) (marks : List (Option ℕ)) (found : List ℕ) → IsAt marks place at → Marks (λ p. p ≡ place) distance marks marks found found
 marks_known place at distance marks found h = record {
   long = refl;
-  kept = λ p i k. k;
+  unchanged = λ p i k. k;
   marked = λ p e. (at, ap (λ q. get_or marks q None) e ∙ h);
   added = λ p i k. inl k;
   known = λ p k. k;
@@ -65,7 +65,7 @@ marks_new place distance marks found within none =
     let here : IsAt (set marks place (Some distance)) place distance = get_or-set_same marks place (Some distance) None within in
     record {
       long = length-set marks place (Some distance);
-      kept = λ p at h. elim (cases_eq p place) [
+      unchanged = λ p at h. elim (cases_eq p place) [
         | inl e ↦ absurd (none-some at (sym none ∙ ap (λ q. get_or marks q None) (sym e) ∙ h))
         | inr ne ↦ get_or-set_other marks place p (Some distance) None ne ∙ h
       ];

@@ -88,8 +88,8 @@ earliest_of R places first ranks h other round = elim (cases_lt other first) [ i
 greater_of : (R : ℕ → ℕ → Type 0) (places from to high low : ℕ) → from < places → R from to → IsRank R places from high → IsRank R places to low → low < high
 greater_of R places from to high low within step f t =
     let covered : IsCovered f.marks t.marks = λ place at h.
-    let led = f.distances.led place at h in
-    let near = t.distances.least place (led.0 ++ from ∷ []) (way_further R place from to led.0 led.2 step) in
+    let reached = f.distances.reached place at h in
+    let near = t.distances.least place (reached.0 ++ from ∷ []) (way_further R place from to reached.0 reached.2 step) in
     (near.0, near.1) in
     let near = t.distances.least from [] step in
     let less : unmarked t.marks < unmarked f.marks = fewer f.marks t.marks from near.0 (f.distances.long ∙ sym t.distances.long) covered (omega (arith, within, f.distances.long)) f.alone near.1 in

@@ -47,12 +47,12 @@ marks_level_end rows level i distance old new before found past m = subst (λ (x
 -- all distances up to a level are marked, and those at it are found
 pub record IsSearched (R : ℕ → ℕ → Type 0) (places to level : ℕ) (marks : List (Option ℕ)) (found : List ℕ) : Type 0 where
   pub long : length marks ≡ places
-  pub led : (from distance : ℕ) → IsAt marks from distance → (between : List ℕ) × (length between ≡ distance) × IsWay R from between to
+  pub reached : (from distance : ℕ) → IsAt marks from distance → (between : List ℕ) × (length between ≡ distance) × IsWay R from between to
   pub low : (from distance : ℕ) → IsAt marks from distance → distance ≤ level
   pub near : (from : ℕ) → R from to → IsNear marks from 0
   pub done : (from mid distance : ℕ) → R from mid → IsAt marks mid distance → distance < level → IsNear marks from (distance + 1)
-  pub front : (mid : ℕ) → IsAt marks mid level → Contains found mid
-  pub at_front : (mid : ℕ) → Contains found mid → IsAt marks mid level
+  pub frontier : (mid : ℕ) → IsAt marks mid level → Contains found mid
+  pub at_frontier : (mid : ℕ) → Contains found mid → IsAt marks mid level
   pub room : level + unmarked marks + min 1 (length found) ≤ places
 
 same_everywhere : (o : Option ℕ) (n place : ℕ) → get_or (replicate n o) place o ≡ o
@@ -74,39 +74,39 @@ first_search R places to row marks found there back m =
     let new : (p at : ℕ) → IsAt marks p at → (at ≡ 0) × Contains row p × Contains found p = λ p at h. elim (m.added p at h) [ inl was ↦ absurd (none-some at (sym (same_everywhere None places p) ∙ was)) | inr now ↦ now ] in
     record {
       long = m.long ∙ length-replicate places None;
-      led = λ p at h. ([], sym (new p at h).0, back p (new p at h).1);
+      reached = λ p at h. ([], sym (new p at h).0, back p (new p at h).1);
       low = λ p at h. let e = (new p at h).0 in omega (arith, e);
       near = λ p r. let h = m.marked p (there p r) in (h.0, h.1, omega (arith, (new p h.0 h.1).0));
       done = λ p mid at r h less. absurd (omega (arith, less));
-      front = λ mid h. (new mid 0 h).2;
-      at_front = λ mid h. elim (m.listed mid h) [ inl was ↦ absurd (none_in mid was) | inr now ↦ now ];
+      frontier = λ mid h. (new mid 0 h).2;
+      at_frontier = λ mid h. elim (m.listed mid h) [ inl was ↦ absurd (none_in mid was) | inr now ↦ now ];
       room = omega (arith, m.counted, all_unmarked places);
     }
 
 pub next_search : (R : ℕ → ℕ → Type 0) (places to level : ℕ) (marks later : List (Option ℕ)) (found more : List ℕ) → 0 < length found → IsSearched R places to level marks found → Marks (GoesToOne R found) (level + 1) marks later [] more → IsSearched R places to (level + 1) later more
 next_search R places to level marks later found more some s m = record {
   long = m.long ∙ s.long;
-  led = λ p at h. elim (m.added p at h) [
-    | inl was ↦ s.led p at was
+  reached = λ p at h. elim (m.added p at h) [
+    | inl was ↦ s.reached p at was
     | inr now ↦
         let mid = now.1.0 in
-        let way = s.led mid level (s.at_front mid now.1.1) in
+        let way = s.reached mid level (s.at_frontier mid now.1.1) in
         (mid ∷ way.0, omega (arith, way.1, now.0), (now.1.2, way.2))
   ];
   low = λ p at h. elim (m.added p at h) [ inl was ↦ omega (arith, s.low p at was) | inr now ↦ omega (arith, now.0) ];
-  near = λ p r. let h = s.near p r in (h.0, m.kept p h.0 h.1, h.2);
+  near = λ p r. let h = s.near p r in (h.0, m.unchanged p h.0 h.1, h.2);
   done = λ p mid at r h less. elim (m.added mid at h) [
     | inl was ↦ elim (cases_lt at level) [
-      | inl lower ↦ (let n = s.done p mid at r was lower in (n.0, m.kept p n.0 n.1, n.2))
+      | inl lower ↦ (let n = s.done p mid at r was lower in (n.0, m.unchanged p n.0 n.1, n.2))
       | inr higher ↦
           let e : at ≡ level = omega (arith, s.low mid at was) in
-          let n = m.marked p (mid, s.front mid (subst (λ (k : ℕ). IsAt marks mid k) e was), r) in
+          let n = m.marked p (mid, s.frontier mid (subst (λ (k : ℕ). IsAt marks mid k) e was), r) in
           (n.0, n.1, elim (m.added p n.0 n.1) [ inl before ↦ omega (arith, s.low p n.0 before) | inr now ↦ omega (arith, now.0) ])
     ]
     | inr now ↦ absurd (omega (arith, now.0, less))
   ];
-  front = λ mid h. elim (m.added mid (level + 1) h) [ inl was ↦ absurd (let low : level + 1 ≤ level = s.low mid (level + 1) was in omega (arith, low)) | inr now ↦ now.2 ];
-  at_front = λ mid h. elim (m.listed mid h) [ inl was ↦ absurd (none_in mid was) | inr now ↦ now ];
+  frontier = λ mid h. elim (m.added mid (level + 1) h) [ inl was ↦ absurd (let low : level + 1 ≤ level = s.low mid (level + 1) was in omega (arith, low)) | inr now ↦ now.2 ];
+  at_frontier = λ mid h. elim (m.listed mid h) [ inl was ↦ absurd (none_in mid was) | inr now ↦ now ];
   room = omega (arith, s.room, m.counted, some);
 }
 
@@ -116,11 +116,11 @@ end_search R places to level marks found none s =
       | inl lower ↦ lower
       | inr higher ↦
           let e : at ≡ level = omega (arith, s.low mid at h) in
-          let in_front : Contains found mid = s.front mid (subst (λ (k : ℕ). IsAt marks mid k) e h) in
-          let w : in_front.0 < length found = in_front.1 in
+          let in_frontier : Contains found mid = s.frontier mid (subst (λ (k : ℕ). IsAt marks mid k) e h) in
+          let w : in_frontier.0 < length found = in_frontier.1 in
           absurd (omega (arith, w, none))
     ] in
-    record { long = s.long; led = s.led; least = least_of R places to level marks found s below }
+    record { long = s.long; reached = s.reached; least = least_of R places to level marks found s below }
   where
     least_of : (R : ℕ → ℕ → Type 0) (places to level : ℕ) (marks : List (Option ℕ)) (found : List ℕ) → IsSearched R places to level marks found → ((mid at : ℕ) → IsAt marks mid at → at < level) → (from : ℕ) (between : List ℕ) → IsWay R from between to → IsNear marks from (length between)
     least_of R places to level marks found s below from [] way = s.near from way
@@ -138,5 +138,5 @@ pub found_within : (R : ℕ → ℕ → Type 0) (places to level : ℕ) (marks :
 found_within R places to level marks found s =
     All-from_get_or (λ p. p < places) found 0 (λ i lt.
     let mid : ℕ = get_or found i 0 in
-    let less : mid < length marks = at_within marks mid level (s.at_front mid (Contains-get_or found i 0 lt)) in
+    let less : mid < length marks = at_within marks mid level (s.at_frontier mid (Contains-get_or found i 0 lt)) in
     omega (arith, less, s.long))

@@ -11,7 +11,7 @@ use Rattle.ash_tree.specs.Tree.{Element, PrimElement, HandleElement, Named, Prim
 use Rattle.ash_classes.specs.Ways.{IsWay, Reaches, IsNoLater, IsForemost, IsTold}
 use Rattle.ash_classes.specs.References.{IsOf, ElementNames, Names, Holds, RefersTo, Refers}
 use Rattle.ash_classes.specs.ToldCycle.{is_of, element_names, names, holds, refers_to, refers, refers_at, first_below, foremost, shortest_back, first_round, told_cycle}
-use Rattle.ash_classes.proofs.ToldLaws.{only_told}
+use Rattle.ash_classes.proofs.CycleLaws.{only_cycle}
 use Rattle.ash_classes.proofs.Shortcuts.{end_within, short_round}
 
 -- options
@@ -46,20 +46,20 @@ none_or_some (Some x) = inr (x, refl)
 
 -- the first of the numbers below one that gives anything
 
-below_none : {A : Type 0} (given : ℕ → Option A) (n : ℕ) → first_below given n ≡ None → (k : ℕ) → k < n → given k ≡ None
-below_none given zero h k less = absurd (omega (arith, less))
-below_none given (suc n) h k less =
-    let both = or_none (first_below given n) (given n) h in
+below_none : {A : Type 0} (value_at : ℕ → Option A) (n : ℕ) → first_below value_at n ≡ None → (k : ℕ) → k < n → value_at k ≡ None
+below_none value_at zero h k less = absurd (omega (arith, less))
+below_none value_at (suc n) h k less =
+    let both = or_none (first_below value_at n) (value_at n) h in
     elim (cases_lt k n) [
-      | inl lower ↦ below_none given n both.0 k lower
-      | inr higher ↦ (let e : k ≡ n = omega (arith, less, higher) in ap given e ∙ both.1)
+      | inl lower ↦ below_none value_at n both.0 k lower
+      | inr higher ↦ (let e : k ≡ n = omega (arith, less, higher) in ap value_at e ∙ both.1)
     ]
 
-below_some : {A : Type 0} (given : ℕ → Option A) (n : ℕ) (x : A) → first_below given n ≡ Some x → (k : ℕ) × (k < n) × (given k ≡ Some x) × ((j : ℕ) → j < k → given j ≡ None)
-below_some given zero x h = absurd (none-some x h)
-below_some given (suc n) x h = elim (or_some (first_below given n) (given n) x h) [
-  | inl before ↦ (let r = below_some given n x before in (r.0, omega (arith, r.1), r.2, r.3))
-  | inr last ↦ (n, omega arith, last.1, below_none given n last.0)
+below_some : {A : Type 0} (value_at : ℕ → Option A) (n : ℕ) (x : A) → first_below value_at n ≡ Some x → (k : ℕ) × (k < n) × (value_at k ≡ Some x) × ((j : ℕ) → j < k → value_at j ≡ None)
+below_some value_at zero x h = absurd (none-some x h)
+below_some value_at (suc n) x h = elim (or_some (first_below value_at n) (value_at n) x h) [
+  | inl before ↦ (let r = below_some value_at n x before in (r.0, omega (arith, r.1), r.2, r.3))
+  | inr last ↦ (n, omega arith, last.1, below_none value_at n last.0)
 ]
 
 -- places, of which a test decides whether one goes from one to another
@@ -198,28 +198,28 @@ place_within classes from to h = slice_get_within classes to h.0 h.1
 
 -- what the search answers is what is told
 
-pub told_if_some : (classes : List Class) (first : ℕ) (others : List ℕ) → told_cycle classes ≡ Some (first, others) → IsTold (Refers classes) first others
-told_if_some classes = round_some (Refers classes) (refers_at classes) (length classes) (refers_at-Decides classes) (place_within classes)
+pub cycle_if_some : (classes : List Class) (first : ℕ) (others : List ℕ) → told_cycle classes ≡ Some (first, others) → IsTold (Refers classes) first others
+cycle_if_some classes = round_some (Refers classes) (refers_at classes) (length classes) (refers_at-Decides classes) (place_within classes)
 
 pub acyclic_if_none : (classes : List Class) → told_cycle classes ≡ None → (class : ℕ) → Reaches (Refers classes) class class → ⊥
 acyclic_if_none classes = round_none (Refers classes) (refers_at classes) (length classes) (refers_at-Decides classes) (place_within classes)
 
-pub some_if_told : (classes : List Class) (first : ℕ) (others : List ℕ) → IsTold (Refers classes) first others → told_cycle classes ≡ Some (first, others)
-some_if_told classes first others told = elim (none_or_some (told_cycle classes)) [
+pub some_if_cycle : (classes : List Class) (first : ℕ) (others : List ℕ) → IsTold (Refers classes) first others → told_cycle classes ≡ Some (first, others)
+some_if_cycle classes first others told = elim (none_or_some (told_cycle classes)) [
   | inl none ↦ absurd (acyclic_if_none classes none first (others, told.round.way))
   | inr some ↦
-      let same = only_told (Refers classes) first others told some.0.0 some.0.1 (told_if_some classes some.0.0 some.0.1 some.1) in
+      let same = only_cycle (Refers classes) first others told some.0.0 some.0.1 (cycle_if_some classes some.0.0 some.0.1 some.1) in
       some.1 ∙ ap (λ (n : ℕ). Some (n, some.0.1)) same.0 ∙ ap (λ (ns : List ℕ). Some (first, ns)) same.1
 ]
 
 pub none_if_acyclic : (classes : List Class) → ((class : ℕ) → Reaches (Refers classes) class class → ⊥) → told_cycle classes ≡ None
 none_if_acyclic classes acyclic = elim (none_or_some (told_cycle classes)) [
   | inl none ↦ none
-  | inr some ↦ absurd (acyclic some.0.0 (some.0.1, (told_if_some classes some.0.0 some.0.1 some.1).round.way))
+  | inr some ↦ absurd (acyclic some.0.0 (some.0.1, (cycle_if_some classes some.0.0 some.0.1 some.1).round.way))
 ]
 
 pub told_is : (classes : List Class) (first : ℕ) (others : List ℕ) → (told_cycle classes ≡ Some (first, others)) ↔ IsTold (Refers classes) first others
-told_is classes first others = (told_if_some classes first others, some_if_told classes first others)
+told_is classes first others = (cycle_if_some classes first others, some_if_cycle classes first others)
 
 pub none_is_told : (classes : List Class) → (told_cycle classes ≡ None) ↔ ((class : ℕ) → Reaches (Refers classes) class class → ⊥)
 none_is_told classes = (acyclic_if_none classes, none_if_acyclic classes)

@@ -20,14 +20,14 @@ no_shorter R places to marks d from k at between way =
 one_nearer : (R : ℕ → ℕ → Type 0) (places to : ℕ) (marks : List (Option ℕ)) → AreDistances R places to marks → (from k next : ℕ) (between : List ℕ) → IsAt marks from (k + 1) → R from next → IsWay R next between to → length between ≤ k → IsAt marks next k
 one_nearer R places to marks d from k next between at step way short =
     let near = d.least next between way in
-    let led = d.led next near.0 near.1 in
-    let long : k + 1 ≤ suc (length led.0) = no_shorter R places to marks d from (k + 1) at (next ∷ led.0) (step, led.2) in
-    let e : near.0 ≡ k = omega (arith, near.2, led.1, long, short) in
+    let reached = d.reached next near.0 near.1 in
+    let long : k + 1 ≤ suc (length reached.0) = no_shorter R places to marks d from (k + 1) at (next ∷ reached.0) (step, reached.2) in
+    let e : near.0 ≡ k = omega (arith, near.2, reached.1, long, short) in
     subst (λ (j : ℕ). IsAt marks next j) e near.1
 
 -- from a place that is not at distance 0 one goes to a nearer one
 pub next_exists : (R : ℕ → ℕ → Type 0) (places to : ℕ) (marks : List (Option ℕ)) → AreDistances R places to marks → (from k : ℕ) → IsAt marks from (k + 1) → (next : ℕ) × R from next × IsAt marks next k
-next_exists R places to marks d from k at = let led = d.led from (k + 1) at in go led.0 led.1 led.2
+next_exists R places to marks d from k at = let reached = d.reached from (k + 1) at in go reached.0 reached.1 reached.2
   where
     go : (between : List ℕ) → length between ≡ k + 1 → IsWay R from between to → (next : ℕ) × R from next × IsAt marks next k
     go [] long way = absurd (omega (arith, long))
@@ -36,8 +36,8 @@ next_exists R places to marks d from k at = let led = d.led from (k + 1) at in g
 -- the nearest place, and the foremost way from there
 pub step_foremost : (R : ℕ → ℕ → Type 0) (places to : ℕ) (marks : List (Option ℕ)) → AreDistances R places to marks → (from k next : ℕ) → IsAt marks from (k + 1) → IsNearest R marks from k (Some next) → (rest : List ℕ) → IsForemost R next rest to → IsForemost R from (next ∷ rest) to
 step_foremost R places to marks d from k next at nearest rest f =
-    let led = d.led next k nearest.1 in
-    let short : length rest ≤ k = omega (arith, f.shortest led.0 led.2, led.1) in
+    let reached = d.reached next k nearest.1 in
+    let short : length rest ≤ k = omega (arith, f.shortest reached.0 reached.2, reached.1) in
     record {
       way = (nearest.0, f.way);
       shortest = λ other way. omega (arith, no_shorter R places to marks d from (k + 1) at other way, short);
@@ -58,19 +58,19 @@ step_foremost R places to marks d from k next at nearest rest f =
 
 -- where one goes straight to the end, no place is between
 pub end_foremost : (R : ℕ → ℕ → Type 0) (places to : ℕ) (marks : List (Option ℕ)) → AreDistances R places to marks → (from : ℕ) → IsAt marks from 0 → IsForemost R from [] to
-end_foremost R places to marks d from at = let led = d.led from 0 at in record { way = straight led.0 led.1 led.2; shortest = λ other way. omega arith; foremost = λ other way long. tt }
+end_foremost R places to marks d from at = let reached = d.reached from 0 at in record { way = straight reached.0 reached.1 reached.2; shortest = λ other way. omega arith; foremost = λ other way long. tt }
   where
     straight : (between : List ℕ) → length between ≡ 0 → IsWay R from between to → R from to
     straight [] long way = way
     straight (next ∷ between) long way = absurd (omega (arith, long))
 
 -- a foremost way from the place that was reached goes on the way so far
-pub record IsOnWay (R : ℕ → ℕ → Type 0) (first to at left : ℕ) (marks : List (Option ℕ)) (way : List ℕ) : Type 0 where
-  pub here : IsAt marks at left
+pub record IsOnWay (R : ℕ → ℕ → Type 0) (first to at remaining : ℕ) (marks : List (Option ℕ)) (way : List ℕ) : Type 0 where
+  pub here : IsAt marks at remaining
   pub rest : (rest : List ℕ) → IsForemost R at rest to → IsForemost R first (way ++ rest) to
 
-pub start_way : (R : ℕ → ℕ → Type 0) (first to left : ℕ) (marks : List (Option ℕ)) → IsAt marks first left → IsOnWay R first to first left marks []
-start_way R first to left marks at = record { here = at; rest = λ rest f. f }
+pub start_way : (R : ℕ → ℕ → Type 0) (first to remaining : ℕ) (marks : List (Option ℕ)) → IsAt marks first remaining → IsOnWay R first to first remaining marks []
+start_way R first to remaining marks at = record { here = at; rest = λ rest f. f }
 
 pub step_way : (R : ℕ → ℕ → Type 0) (places first to at k next : ℕ) (marks : List (Option ℕ)) (way : List ℕ) → AreDistances R places to marks → IsOnWay R first to at (k + 1) marks way → IsNearest R marks at k (Some next) → IsOnWay R first to next k marks (way ++ next ∷ [])
 step_way R places first to at k next marks way d on nearest = record {

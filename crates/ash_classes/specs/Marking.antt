@@ -42,7 +42,7 @@ unmarked distances = count_by is_none distances
 -- these places are marked with a distance where they had none, and found thereby
 pub record Marks (These : ℕ → Type 0) (distance : ℕ) (old new : List (Option ℕ)) (before found : List ℕ) : Type 0 where
   pub long : length new ≡ length old
-  pub kept : (place at : ℕ) → IsAt old place at → IsAt new place at
+  pub unchanged : (place at : ℕ) → IsAt old place at → IsAt new place at
   pub marked : (place : ℕ) → These place → (at : ℕ) × IsAt new place at
   pub added : (place at : ℕ) → IsAt new place at → IsAt old place at ⊎ ((at ≡ distance) × These place × Contains found place)
   pub known : (place : ℕ) → Contains before place → Contains found place
@@ -52,5 +52,5 @@ pub record Marks (These : ℕ → Type 0) (distance : ℕ) (old new : List (Opti
 -- the fewest places between each place and one that is led to; none where no way leads there
 pub record AreDistances (Goes : ℕ → ℕ → Type 0) (places to : ℕ) (distances : List (Option ℕ)) : Type 0 where
   pub long : length distances ≡ places
-  pub led : (from distance : ℕ) → IsAt distances from distance → (between : List ℕ) × (length between ≡ distance) × IsWay Goes from between to
+  pub reached : (from distance : ℕ) → IsAt distances from distance → (between : List ℕ) × (length between ≡ distance) × IsWay Goes from between to
   pub least : (from : ℕ) (between : List ℕ) → IsWay Goes from between to → IsNear distances from (length between)

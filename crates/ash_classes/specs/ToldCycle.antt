@@ -45,8 +45,8 @@ refers_at classes from to = refers (slice_get classes from) (slice_get classes t
 
 -- what the first of the numbers below one gives that gives anything
 abbrev pub first_below : {A : Type 0} → (ℕ → Option A) → ℕ → Option A
-first_below given zero = None
-first_below given (suc n) = option_or (first_below given n) (given n)
+first_below value_at zero = None
+first_below value_at (suc n) = option_or (first_below value_at n) (value_at n)
 
 -- the places in between on the first way with so many of them: from place to place, to the first from which a way goes on
 abbrev pub foremost : (ℕ → ℕ → Bool) → (places count from to : ℕ) → Option (List ℕ)

@@ -46,10 +46,10 @@ fn way_back(
 {
     let mut way = Vec::new(alloc);
     let mut at = first;
-    let mut left = between;
-    'steps: while left > 0 {
-        left -= 1;
-        let Some(next) = nearest(referrers, distances, at, left) else {
+    let mut remaining = between;
+    'steps: while remaining > 0 {
+        remaining -= 1;
+        let Some(next) = nearest(referrers, distances, at, remaining) else {
             unreachable!();
         };
         way.push(next)?;

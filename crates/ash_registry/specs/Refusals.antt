@@ -9,7 +9,7 @@ use Rattle.ash_registry.specs.declared.fault.RegistryFault.{RegistryFault}
 use Rattle.ash_registry.specs.declared.fault.RegistryFault.TheVariants.{UnknownType, NoService, BadDeclaration, ReservedName, NotPrimitive, NameTaken, FactoryTaken, TooMany, NoMemory}
 use Rattle.ash_tree.specs.Tree.{Element, PrimElement, HandleElement, Named, Prim, Object, Handle, Array, ArrayHandle, Signature, Property, Declaration, ASignature}
 use Rattle.ash_tree.specs.Tree as tree
-use Rattle.ash_registry.specs.Texts.{Spelling, AName, AReserved, ANoName}
+use Rattle.ash_registry.specs.Texts.{NameClass, AName, AReserved, ANoName}
 use Rattle.ash_registrations.specs.Calls.{Operation, Call, AType, AFactory, AMethod, AProperty, AService, AFunction, is_type, names_type, takes_kind, takes_name, is_factory_of, is_member_of, takes_member, takes_method, takes_property, takes_function, is_service, is_function}
 use Rattle.ash_registrations.specs.Added.{is_too_long}
 use Rattle.ash_registrations.specs.declared.adding.AddFault.{AddFault}
@@ -76,11 +76,11 @@ pub record RegisteredIf {A : Type 0} (refusal : Option RegistryFault) (call : Li
   pub unchanged : OnErr result (new ≡ old)
 
 -- Where the first test of a call speaks against it that is told, whether memory is there or not.
-abbrev pub TellsAtOnce : {A : Type 0} → Bool → RegistryFault → Result A RegistryFault → Type 0
-TellsAtOnce test fault result = test ≡ true → result ≡ Err fault
+abbrev pub RefusedWithoutAllocating : {A : Type 0} → Bool → RegistryFault → Result A RegistryFault → Type 0
+RefusedWithoutAllocating test fault result = test ≡ true → result ≡ Err fault
 
 -- A type has a name and a kind of its own, and there are at most 256.
-abbrev pub refusal_of_type : List Call → List ℕ → Spelling → ℕ → Option RegistryFault
+abbrev pub refusal_of_type : List Call → List ℕ → NameClass → ℕ → Option RegistryFault
 refusal_of_type calls name ANoName kind = Some BadDeclaration
 refusal_of_type calls name AReserved kind = Some ReservedName
 refusal_of_type calls name AName kind =

@@ -10,7 +10,7 @@ use Rattle.ash_tree.specs.Grammar.{Declares}
 -- the tokens of a text of at most 65,536 bytes
 pub record IsCutInto (text : List ℕ) (tokens : List Lexeme) : Type 0 where
   pub short : length text ≤ 65536
-  pub spelled : Spells text tokens
+  pub lexed : Spells text tokens
 
 -- the tokens of a text, or none where it is too long or has a lexical fault
 abbrev pub IsCut : List ℕ → Option (List Lexeme) → Type 0
@@ -18,10 +18,10 @@ IsCut text (Some tokens) = IsCutInto text tokens
 IsCut text None = (tokens : List Lexeme) → ¬ IsCutInto text tokens
 
 -- what a text is as a name
-pub data Spelling : Type 0 where
-  AName : Spelling
-  AReserved : Spelling
-  ANoName : Spelling
+pub data NameClass : Type 0 where
+  AName : NameClass
+  AReserved : NameClass
+  ANoName : NameClass
 
 -- the text is one token of this meaning, from its first byte to its last
 abbrev pub IsWord : List ℕ → Meaning → Type 0
@@ -32,10 +32,10 @@ abbrev pub IsNoNameWord : List ℕ → Type 0
 IsNoNameWord text = ((w : ReservedWord) × IsWord text (reserved w)) ⊎ ((w : UnsupportedWord) × IsWord text (unsupported w))
 
 -- a name: a letter or `_`, then letters, digits and `_`, and no word of the language
-abbrev pub IsSpelled : List ℕ → Spelling → Type 0
-IsSpelled text AName = IsWord text (name text)
-IsSpelled text AReserved = IsNoNameWord text
-IsSpelled text ANoName = (¬ IsWord text (name text)) × (¬ IsNoNameWord text)
+abbrev pub HasNameClass : List ℕ → NameClass → Type 0
+HasNameClass text AName = IsWord text (name text)
+HasNameClass text AReserved = IsNoNameWord text
+HasNameClass text ANoName = (¬ IsWord text (name text)) × (¬ IsNoNameWord text)
 
 -- a token of a text as the grammar sees it
 abbrev pub placed_lexeme : Lexeme → Meaning × Place

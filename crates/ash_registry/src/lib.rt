@@ -9,12 +9,12 @@
 #![tactic(auto)]
 
 mod fault;
-mod reading;
 mod registration;
 mod registry;
 mod signatures;
+mod texts;
 
 pub use ash_registrations::{Call, Operation};
 pub use fault::RegistryFault;
-pub use reading::one_meaning;
 pub use registry::Registry;
+pub use texts::one_meaning;

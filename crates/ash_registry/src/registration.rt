@@ -8,11 +8,11 @@ ghost use Rattle.ash_registrations.specs.Calls.{call_of, AType, AFactory, AMetho
 ghost use Rattle.std.specs.Str.{bytes_eq};
 ghost use Rattle.ash_registry.specs.declared.fault.RegistryFault.TheVariants.{BadDeclaration, NameTaken, NoService, UnknownType, NotPrimitive};
 ghost use Rattle.ash_registry.specs.Registered.{registered};
-ghost use Rattle.ash_registry.specs.Refusals.{RegisteredIf, TellsAtOnce, cause, cause_of_many, refusal_of_type, refusal_of_service, refusal_of_method, refusal_of_declared_method, refusal_of_signature, refusal_of_property, refusal_of_declared_property, refusal_of_primitive, refusal_of_value, is_known, primitive_of, value_call, is_unknown, refusal_of_factory, refusal_of_declared_factory, refusal_of_constructor, refusal_of_function, refusal_of_declared_function, refusal_of_operation, gives_handle_of, primitive_operation, method_call, property_call, factory_call, function_call};
-ghost use Rattle.ash_registry.specs.Spelled.{spelling_of};
-ghost use Rattle.ash_registry.specs.Texts.{Spelling, AName, IsSpelled, IsDeclared};
+ghost use Rattle.ash_registry.specs.Refusals.{RegisteredIf, RefusedWithoutAllocating, cause, cause_of_many, refusal_of_type, refusal_of_service, refusal_of_method, refusal_of_declared_method, refusal_of_signature, refusal_of_property, refusal_of_declared_property, refusal_of_primitive, refusal_of_value, is_known, primitive_of, value_call, is_unknown, refusal_of_factory, refusal_of_declared_factory, refusal_of_constructor, refusal_of_function, refusal_of_declared_function, refusal_of_operation, gives_handle_of, primitive_operation, method_call, property_call, factory_call, function_call};
+ghost use Rattle.ash_registry.specs.NameClasses.{name_class_of};
+ghost use Rattle.ash_registry.specs.Texts.{NameClass, AName, HasNameClass, IsDeclared};
 
-use crate::reading::{Spelled, read_declaration, read_name};
+use crate::texts::{NameKind, read_declaration, read_name};
 use crate::signatures::{gives_handle, has_object, names_object, operation, primitives};
 use crate::{Call, Registry, RegistryFault};
 use ash_tree::{Declaration, Primitive, Property, Signature, Type, TypeKind};
@@ -32,22 +32,22 @@ const MAX_SERVICES: usize = 16;
 impl Registry {
     /// Registers a type of host objects by its name and the number of its kind.
     pub fn object_type(&mut self, name: &str, kind: u16) -> Result<(), RegistryFault>
-        ensures { (spelling : Spelling) → IsSpelled name.now spelling
-            → RegisteredIf (refusal_of_type (registered self.old) name.now spelling kind)
+        ensures { (name_class : NameClass) → HasNameClass name.now name_class
+            → RegisteredIf (refusal_of_type (registered self.old) name.now name_class kind)
             (AType name.now kind ∷ []) result (registered self.old) (registered self.new) }
     {
-        let spelled = read_name(self.alloc, name)?;
-        self.spelled_type(name, spelled, kind)
+        let name_kind = read_name(self.alloc, name)?;
+        self.classified_type(name, name_kind, kind)
     }
 
-    fn spelled_type(&mut self, name: &str, spelled: Spelled, kind: u16) -> Result<(), RegistryFault>
-        ensures { RegisteredIf (refusal_of_type (registered self.old) name.now (spelling_of spelled) kind)
+    fn classified_type(&mut self, name: &str, name_kind: NameKind, kind: u16) -> Result<(), RegistryFault>
+        ensures { RegisteredIf (refusal_of_type (registered self.old) name.now (name_class_of name_kind) kind)
             (AType name.now kind ∷ []) result (registered self.old) (registered self.new) }
     {
-        match spelled {
-            Spelled::Name => self.named_type(name, kind),
-            Spelled::Reserved => Err(RegistryFault::ReservedName),
-            Spelled::Other => Err(RegistryFault::BadDeclaration),
+        match name_kind {
+            NameKind::Name => self.named_type(name, kind),
+            NameKind::Reserved => Err(RegistryFault::ReservedName),
+            NameKind::Other => Err(RegistryFault::BadDeclaration),
         }
     }
 
@@ -69,7 +69,7 @@ impl Registry {
         ensures index { IfOk result (λ index. index ≡ count_by is_service (registered self.old)) }
         ensures registers { RegisteredIf (refusal_of_service (registered self.old) kind)
             (AService kind ∷ []) result (registered self.old) (registered self.new) }
-        ensures at_once { TellsAtOnce (list_any (takes_kind kind) (registered self.old)) NameTaken result }
+        ensures without_allocating { RefusedWithoutAllocating (list_any (takes_kind kind) (registered self.old)) NameTaken result }
     {
         if self.table.takes_kind(kind) {
             return Err(RegistryFault::NameTaken);
@@ -84,16 +84,16 @@ impl Registry {
         ensures registers { (declared : Option DeclarationTree) → IsDeclared decl.now declared
             → RegisteredIf (refusal_of_method (registered self.old) of.now id declared)
             (method_call of.now id declared) result (registered self.old) (registered self.new) }
-        ensures at_once { TellsAtOnce (not (is_known (registered self.old) of.now)) UnknownType result }
+        ensures without_allocating { RefusedWithoutAllocating (not (is_known (registered self.old) of.now)) UnknownType result }
     {
         if !self.table.knows(of) {
             return Err(RegistryFault::UnknownType);
         }
         let declared = read_declaration(self.alloc, decl)?;
-        self.declared_method(of, declared, id)
+        self.method_of_declaration(of, declared, id)
     }
 
-    fn declared_method(
+    fn method_of_declaration(
         &mut self,
         of: &str,
         declared: Option<Declaration>,
@@ -105,12 +105,12 @@ impl Registry {
             result (registered self.old) (registered self.new) }
     {
         match declared {
-            Some(Declaration::Function(signature)) => self.signed_method(of, signature, id),
+            Some(Declaration::Function(signature)) => self.method_of_signature(of, signature, id),
             _ => Err(RegistryFault::BadDeclaration),
         }
     }
 
-    fn signed_method(
+    fn method_of_signature(
         &mut self,
         of: &str,
         signature: Signature,
@@ -154,16 +154,16 @@ impl Registry {
         ensures registers { (declared : Option DeclarationTree) → IsDeclared decl.now declared
             → RegisteredIf (refusal_of_property (registered self.old) of.now id declared)
             (property_call of.now id declared) result (registered self.old) (registered self.new) }
-        ensures at_once { TellsAtOnce (not (is_known (registered self.old) of.now)) UnknownType result }
+        ensures without_allocating { RefusedWithoutAllocating (not (is_known (registered self.old) of.now)) UnknownType result }
     {
         if !self.table.knows(of) {
             return Err(RegistryFault::UnknownType);
         }
         let declared = read_declaration(self.alloc, decl)?;
-        self.declared_property(of, declared, id)
+        self.property_of_declaration(of, declared, id)
     }
 
-    fn declared_property(
+    fn property_of_declaration(
         &mut self,
         of: &str,
         declared: Option<Declaration>,
@@ -175,12 +175,12 @@ impl Registry {
             result (registered self.old) (registered self.new) }
     {
         match declared {
-            Some(Declaration::Property(property)) => self.valued_property(of, property, id),
+            Some(Declaration::Property(property)) => self.property_of_type(of, property, id),
             _ => Err(RegistryFault::BadDeclaration),
         }
     }
 
-    fn valued_property(
+    fn property_of_type(
         &mut self,
         of: &str,
         property: Property,
@@ -206,7 +206,7 @@ impl Registry {
     fn fault_of_object(&self, of: &Type) -> RegistryFault
         ensures { Some result ≡ cause (is_unknown (registered self.now) (type_of of.now)) UnknownType (Some NotPrimitive) }
     {
-        if self.misses(of) {
+        if self.is_unknown(of) {
             RegistryFault::UnknownType
         } else {
             RegistryFault::NotPrimitive
@@ -246,16 +246,16 @@ impl Registry {
         ensures registers { (declared : Option DeclarationTree) → IsDeclared decl.now declared
             → RegisteredIf (refusal_of_factory (registered self.old) of.now declared)
             (factory_call of.now declared) result (registered self.old) (registered self.new) }
-        ensures at_once { TellsAtOnce (not (is_known (registered self.old) of.now)) UnknownType result }
+        ensures without_allocating { RefusedWithoutAllocating (not (is_known (registered self.old) of.now)) UnknownType result }
     {
         if !self.table.knows(of) {
             return Err(RegistryFault::UnknownType);
         }
         let declared = read_declaration(self.alloc, decl)?;
-        self.declared_factory(of, declared)
+        self.factory_of_declaration(of, declared)
     }
 
-    fn declared_factory(
+    fn factory_of_declaration(
         &mut self,
         of: &str,
         declared: Option<Declaration>,
@@ -266,12 +266,12 @@ impl Registry {
             result (registered self.old) (registered self.new) }
     {
         match declared {
-            Some(Declaration::Function(signature)) => self.signed_factory(of, signature),
+            Some(Declaration::Function(signature)) => self.factory_of_signature(of, signature),
             _ => Err(RegistryFault::BadDeclaration),
         }
     }
 
-    fn signed_factory(&mut self, of: &str, signature: Signature) -> Result<(), RegistryFault>
+    fn factory_of_signature(&mut self, of: &str, signature: Signature) -> Result<(), RegistryFault>
         ensures { RegisteredIf
             (cause (not (gives_handle_of of.now (signature_of signature).result)) BadDeclaration
             (refusal_of_constructor (registered self.old) of.now (signature_of signature).parameters))
@@ -291,7 +291,7 @@ impl Registry {
             (AFactory of.now (filter_map primitive_of (map type_of parameters.now)) ∷ [])
             result (registered self.old) (registered self.new) }
     {
-        if self.misses_one(parameters) {
+        if self.any_unknown(parameters) {
             return Err(RegistryFault::UnknownType);
         }
         if has_object(parameters) {
@@ -310,16 +310,16 @@ impl Registry {
         ensures registers { (declared : Option DeclarationTree) → IsDeclared decl.now declared
             → RegisteredIf (refusal_of_function (registered self.old) service id declared)
             (function_call service id declared) result (registered self.old) (registered self.new) }
-        ensures at_once { TellsAtOnce (nat_le (count_by is_service (registered self.old)) service) NoService result }
+        ensures without_allocating { RefusedWithoutAllocating (nat_le (count_by is_service (registered self.old)) service) NoService result }
     {
         if self.table.services() <= service as usize {
             return Err(RegistryFault::NoService);
         }
         let declared = read_declaration(self.alloc, decl)?;
-        self.declared_function(service, declared, id)
+        self.function_of_declaration(service, declared, id)
     }
 
-    fn declared_function(
+    fn function_of_declaration(
         &mut self,
         service: u16,
         declared: Option<Declaration>,
@@ -331,7 +331,7 @@ impl Registry {
             result (registered self.old) (registered self.new) }
     {
         match declared {
-            Some(Declaration::Function(signature)) => self.signed_function(service, signature, id),
+            Some(Declaration::Function(signature)) => self.function_of_signature(service, signature, id),
             _ => Err(RegistryFault::BadDeclaration),
         }
     }
@@ -344,7 +344,7 @@ impl Registry {
         self.table.takes_name(name) || self.table.takes_function(service, id)
     }
 
-    fn signed_function(
+    fn function_of_signature(
         &mut self,
         service: u16,
         signature: Signature,

@@ -7,7 +7,7 @@ use Rattle.ash_typed.specs.declared.tree.operations.Target.{Target}
 use Rattle.ash_typed.specs.declared.tree.operations.Change.{Change}
 use Rattle.ash_typed.specs.declared.types.ObjectType.{ObjectType}
 use Rattle.ash_typed.specs.Tree.{Expr, Place}
-use Rattle.ash_typed.specs.TypeOf.{ValueType, value, kept, given, type_of, type_of_place, type_of_member, result_of_method, result_of_target, altered_type, chosen_type}
+use Rattle.ash_typed.specs.TypeOf.{ValueType, value, as_value, value_of_result, type_of, type_of_place, type_of_member, result_of_method, result_of_target, altered_type, chosen_type}
 use Rattle.ash_typed.specs.Signatures.{Signatures}
 use Rattle.ash_typed.specs.SoundOperations.{IsMember, field, property, IsMethod, of_class, of_interface, of_host, of_array, IsTarget, function, service, class, host, empty_array, sized_array, IsChange, negate, complement, not}
 use Rattle.ash_typed.specs.SoundExpressions.{Environment, IsWellTyped, number, truth, null, this, read, invoke, convert, cast, alter, calculate, shift, compare, lazily, choose, choose_or_null, null_or_choose, assign, update, update_by_shift, count, call, HasPlace, local, global, member, element}
@@ -46,8 +46,8 @@ type_is (number h) = refl
 type_is truth = refl
 type_is null = refl
 type_is (this h) = refl
-type_is (read h) = ap (λ (of : VarType). value (kept of)) (place_type h)
-type_is (invoke h i args) = ap given (method_result i)
+type_is (read h) = ap (λ (of : VarType). value (as_value of)) (place_type h)
+type_is (invoke h i args) = ap value_of_result (method_result i)
 type_is (convert h) = refl
 type_is (cast h i) = refl
 type_is (alter h i) = ap value (change_type h)
@@ -58,11 +58,11 @@ type_is (lazily h i) = refl
 type_is (choose h i k) = rw (type_is i) refl
 type_is (choose_or_null h i k) = rw (type_is i) refl
 type_is (null_or_choose h i k) = rw (type_is i, type_is k) refl
-type_is (assign h i k) = ap (λ (of : VarType). value (kept of)) (place_type h)
+type_is (assign h i k) = ap (λ (of : VarType). value (as_value of)) (place_type h)
 type_is (update h i) = refl
 type_is (update_by_shift h i k) = refl
 type_is (count h) = refl
-type_is (call h args) = ap given (target_result h)
+type_is (call h args) = ap value_of_result (target_result h)
 
 pub one_type : {env : Environment} {e : Expr} {one other : ValueType} → IsWellTyped env e one → IsWellTyped env e other → one ≡ other
 one_type h k = sym (type_is h) ∙ type_is k

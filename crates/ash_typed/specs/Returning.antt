@@ -44,4 +44,4 @@ mutual
   -- one of the statements behind the last label returns
   pub data LastReturns : Cases → Type 0 where
     last_case : {l : Label} {ss : Stmts} → AnyReturns ss → LastReturns (next_case (labelled l ss) no_case)
-    behind_case : {c : Case} {cs : Cases} → LastReturns cs → LastReturns (next_case c cs)
+    not_last_case : {c : Case} {cs : Cases} → LastReturns cs → LastReturns (next_case c cs)

@@ -23,7 +23,7 @@ use Rattle.ash_typed.specs.declared.tree.operations.Lazy.{Lazy}
 use Rattle.ash_typed.specs.declared.tree.operations.Change.{Change}
 use Rattle.ash_typed.specs.declared.tree.operations.Step.{Step}
 use Rattle.ash_typed.specs.Tree.{Expr, Number, Truth, Null, This, Read, Invoke, Convert, Cast, Alter, Operate, Lazily, Conditional, Assign, Update, Count, Call, Place, Stored, Held, Indexed, Exprs, no_expr, expr}
-use Rattle.ash_typed.specs.TypeOf.{ValueType, null_value, value, kept, given, type_of_element}
+use Rattle.ash_typed.specs.TypeOf.{ValueType, null_value, value, as_value, given, type_of_element}
 use Rattle.ash_typed.specs.Signatures.{Signatures, IsSubtype}
 use Rattle.ash_typed.specs.SoundOperations.{IsWithin, IsMember, IsMethod, IsTarget, IsShift, Compares, IsOperand, IsChange, IsCastType, IsAssigned}
 
@@ -43,7 +43,7 @@ mutual
         → IsWellTyped env (This class) (value (vars.Handle (objects.Class class)))
     read : {place : Place} {of : VarType}
         → HasPlace env place of
-        → IsWellTyped env (Read place) (value (kept of))
+        → IsWellTyped env (Read place) (value (as_value of))
     invoke : {object : Expr} {o : ObjectType} {method : Method} {parameters : List VarType} {result : Option VarType} {es : Exprs}
         → IsWellTyped env object (value (vars.Handle o))
         → IsMethod env.signatures o method parameters result
@@ -100,7 +100,7 @@ mutual
         → HasPlace env place of
         → IsAssigned of
         → Fits env of e
-        → IsWellTyped env (Assign place e) (value (kept of))
+        → IsWellTyped env (Assign place e) (value (as_value of))
     update : {place : Place} {kind of : Kind} {operator : Calculator} {e : Expr}
         → HasPlace env place (vars.Integer kind)
         → IsWellTyped env e (value (vars.Integer of))
@@ -139,7 +139,7 @@ mutual
   pub data Fits (env : Environment) : VarType → Expr → Type 0 where
     fits : {of : VarType} {given : ValueType} {e : Expr}
         → IsWellTyped env e given
-        → IsSubtype env.signatures given (value (kept of))
+        → IsSubtype env.signatures given (value (as_value of))
         → Fits env of e
 
   -- as many arguments as parameters, each of which fits its parameter

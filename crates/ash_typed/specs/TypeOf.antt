@@ -77,14 +77,14 @@ pub data ValueType : Type 0 where
   value : VarType → ValueType
 
 -- the type of what is given of a type: an object is given by its handle
-abbrev pub kept : VarType → VarType
-kept (vars.Object o) = vars.Handle o
-kept of = of
+abbrev pub as_value : VarType → VarType
+as_value (vars.Object o) = vars.Handle o
+as_value of = of
 
 -- what a function gives
-abbrev pub given : Option VarType → ValueType
-given None = no_value
-given (Some of) = value (kept of)
+abbrev pub value_of_result : Option VarType → ValueType
+value_of_result None = no_value
+value_of_result (Some of) = value (as_value of)
 
 abbrev pub altered_type : Change → VarType
 altered_type (changes.Negate kind) = vars.Integer kind
@@ -101,15 +101,15 @@ type_of (Number kind n) = value (vars.Integer kind)
 type_of (Truth b) = value vars.Bool
 type_of Null = null_value
 type_of (This class) = value (vars.Handle (objects.Class class))
-type_of (Read place) = value (kept (type_of_place place))
-type_of (Invoke object method parameters es) = given (result_of_method method)
+type_of (Read place) = value (as_value (type_of_place place))
+type_of (Invoke object method parameters es) = value_of_result (result_of_method method)
 type_of (Convert conversion e) = value (vars.Integer conversion.to)
 type_of (Cast to e) = value (vars.Handle to)
 type_of (Alter change e) = value (altered_type change)
 type_of (Operate operation a b) = value (result_of_operation operation)
 type_of (Lazily operator a b) = value vars.Bool
 type_of (Conditional c a b) = chosen_type (type_of a) (type_of b)
-type_of (Assign place e) = value (kept (type_of_place place))
+type_of (Assign place e) = value (as_value (type_of_place place))
 type_of (Update place kind calculation e) = value (vars.Integer kind)
 type_of (Count place kind step) = value (vars.Integer kind)
-type_of (Call target parameters es) = given (result_of_target target)
+type_of (Call target parameters es) = value_of_result (result_of_target target)

@@ -166,7 +166,7 @@ pub fn lazily(alloc: Global, operator: Lazy, first: Expr, next: Expr) -> Result<
 #[tactic(auto, using(crate::proofs::Rows::lazy_is, crate::proofs::Rows::all_lazies_append))]
 fn first_lazily(alloc: Global, operator: Lazy, first: Expr, next: Expr) -> Result<Expr, AllocError>
     ensures value { IfOk result (λ e. expr_of e ≡ Lazily operator (expr_of first) (expr_of next)) }
-    ensures alone { IfOk result (λ e. others_of operator e ≡ next ∷ []) }
+    ensures one_other { IfOk result (λ e. others_of operator e ≡ next ∷ []) }
 {
     let mut others = Vec::with_capacity(alloc, 1)?;
     others.push(next)?;

@@ -16,7 +16,7 @@ use Rattle.ash_typing.specs.Heads.{heads, object_named, ty_named, ty_in}
 use Rattle.ash_typing.specs.Declarations.{at_type, at_type_name}
 use Rattle.ash_typing.specs.declared.types.Ty.TheVariants.{Object}
 use Rattle.ash_typing.specs.FaultPlaces.{is_return, begins_expression, breaks_at}
-use Rattle.ash_typing.specs.Phrases.{Phrase, Stands}
+use Rattle.ash_typing.specs.Phrases.{Phrase, Occurs}
 use Rattle.ash_typing.specs.Mismatches.{Mismatches}
 use Rattle.ash_typing.specs.FaultMeaning as meaning
 use Rattle.ash_typing.specs.FaultMeaning.{IsWrong, Naming, named_by, TypeUse, written_by, is_misplaced}
@@ -28,8 +28,8 @@ pub record Script : Type 0 where
   pub calls : List Call
   pub items : List Item
 
-abbrev pub StandsIn : Script → Phrase → Type 0
-StandsIn script x = Stands script.calls script.items x
+abbrev pub OccursIn : Script → Phrase → Type 0
+OccursIn script x = Occurs script.calls script.items x
 
 abbrev pub Wrong : Script → Rule → ℕ → Meaning → Type 0
 Wrong script rule at m = IsWrong script.calls script.items rule at m
@@ -71,7 +71,7 @@ pub no_place : {script : Script} {A : Type 0} {Q : A → Type 0} {at : ℕ} → 
 no_place h w = faulty (h.0, h.1, h.2, w h.0)
 
 -- a name that a phrase declares, and that is taken
-pub name_taken : {script : Script} {A : Type 0} {Q : A → Type 0} {x : Phrase} (n : Naming) → StandsIn script x → named_by x ≡ Some n → HasToken script.tokens (name n.text) n.at → n.is_refused ≡ true → Answers script Q (broken rules.NameTaken n.at)
+pub name_taken : {script : Script} {A : Type 0} {Q : A → Type 0} {x : Phrase} (n : Naming) → OccursIn script x → named_by x ≡ Some n → HasToken script.tokens (name n.text) n.at → n.is_refused ≡ true → Answers script Q (broken rules.NameTaken n.at)
 name_taken n r e h b = faulty (name n.text, h, refl, meaning.taken r e b)
 
 pub bind : {script : Script} {A B : Type 0} {Q : A → Type 0} {S : B → Type 0} {r : Checking A} {f : A → Checking B} → Answers script Q r → ((x : A) → Q x → Answers script S (f x)) → Answers script S (r >>= f)
@@ -131,7 +131,7 @@ pub record Miswritten (script : Script) (env : Environment) (used : TypeUse) : T
   pub unknown : (text : List ℕ) → type_named env text ≡ None → Wrong script rules.UnknownType (at_type_name used.of) (name text)
   pub misplaced : (o : ObjectType) (m : Meaning) → ty_in env used.of ≡ Object o → is_misplaced used o ≡ true → Wrong script rules.Misplaced (at_type used.of) m
 
-pub miswritten : (script : Script) (env : Environment) (x : Phrase) (used : TypeUse) → IsOf script env → StandsIn script x → written_by x ≡ Some used → Miswritten script env used
+pub miswritten : (script : Script) (env : Environment) (x : Phrase) (used : TypeUse) → IsOf script env → OccursIn script x → written_by x ≡ Some used → Miswritten script env used
 miswritten script env x used see r e = record {
   unknown = λ text n. meaning.no_type r e (unnamed script env text see n);
   misplaced = λ o m t b. meaning.misplaced_type r e (subst (λ u. u ≡ Object o) (same_types script env used.of see) t) b;

@@ -45,8 +45,8 @@ use Rattle.ash_typing.specs.Phrases as phrases
 use Rattle.ash_typing.specs.Mismatches as mismatches
 use Rattle.ash_typing.specs.Mismatches.{may_be_integer, may_be_bool, may_be_object, is_array_object, may_be_array, is_cast_type, takes_operand, converts, IsUnfit}
 use Rattle.ash_typing.specs.FaultMeaning as meaning
-use Rattle.ash_typing.specs.FaultMeaning.{given, takes_value, counts}
-use Rattle.ash_typing.proofs.FaultAnswers.{Script, StandsIn, Wrong, Mismatch, same_named, Answers, fine, faulty, Fine, At, mismatch, no_place, bind, bind_by, either, choose_start, type_named, unnamed}
+use Rattle.ash_typing.specs.FaultMeaning.{argument_count, takes_value, counts}
+use Rattle.ash_typing.proofs.FaultAnswers.{Script, OccursIn, Wrong, Mismatch, same_named, Answers, fine, faulty, Fine, At, mismatch, no_place, bind, bind_by, either, choose_start, type_named, unnamed}
 use Rattle.ash_typing.proofs.FaultPhrases.{sees}
 
 -- typed expressions, each at a token
@@ -198,27 +198,27 @@ unfolding called
 called_in script classes at text callee ts None h k w = faulty (name text, h, refl, w.none refl)
 called_in script classes at text callee ts (Some ps) h k w = called_with_in script classes at (name text) callee ts ps h refl refl k (w.other ps refl) (w.unfit ps refl)
 
-callee_at_in : (script : Script) (env : Environment) (p : place.Place) (text : List ℕ) (es : written.Exprs) (found : Option Callee) → HasToken script.tokens (name text) p.at → StandsIn script (phrases.Expression env (written.Call p text es)) → callee_in env text ≡ found → Answers script (λ (callee : Callee). callee_in env text ≡ Some callee) (callee_at p.at found)
+callee_at_in : (script : Script) (env : Environment) (p : place.Place) (text : List ℕ) (es : written.Exprs) (found : Option Callee) → HasToken script.tokens (name text) p.at → OccursIn script (phrases.Expression env (written.Call p text es)) → callee_in env text ≡ found → Answers script (λ (callee : Callee). callee_in env text ≡ Some callee) (callee_at p.at found)
 callee_at_in script env p text es None h r e = faulty (name text, h, refl, meaning.no_callee r e)
 callee_at_in script env p text es (Some callee) h r e = fine e
 
-miscalled : (script : Script) (env : Environment) (p : place.Place) (text : List ℕ) (es : written.Exprs) (callee : Callee) (ts : List Typed) → StandsIn script (phrases.Expression env (written.Call p text es)) → callee_in env text ≡ Some callee → length ts ≡ given es → all_typed env es ≡ Ok ts → Miscalls script env.heads.classes p.at (name text) callee.parameters ts
+miscalled : (script : Script) (env : Environment) (p : place.Place) (text : List ℕ) (es : written.Exprs) (callee : Callee) (ts : List Typed) → OccursIn script (phrases.Expression env (written.Call p text es)) → callee_in env text ≡ Some callee → length ts ≡ argument_count es → all_typed env es ≡ Ok ts → Miscalls script env.heads.classes p.at (name text) callee.parameters ts
 miscalled script env p text es callee ts r e c a = record {
   none = λ n. meaning.call_factory r e n;
   other = λ ps q b. meaning.call_count r e q (subst (λ k. nat_eq (length ps) k ≡ false) c b);
   unfit = λ ps q at b. mismatches.of_call r e q a b;
 }
 
-call_in : (script : Script) (env : Environment) (p : place.Place) (text : List ℕ) (es : written.Exprs) → HasToken script.tokens (name text) p.at → StandsIn script (phrases.Expression env (written.Call p text es)) → ListAt script (given es) (all_typed env es) → At script (call_typed env p.at text (all_typed env es))
+call_in : (script : Script) (env : Environment) (p : place.Place) (text : List ℕ) (es : written.Exprs) → HasToken script.tokens (name text) p.at → OccursIn script (phrases.Expression env (written.Call p text es)) → ListAt script (argument_count es) (all_typed env es) → At script (call_typed env p.at text (all_typed env es))
 call_in script env p text es h r k = bind (callee_at_in script env p text es (callee_in env text) h r refl) (λ callee e. bind_by k (λ ts a all. called_in script env.heads.classes p.at text callee ts callee.parameters h all.0 (miscalled script env p text es callee ts r e all.1 a)))
 
 -- names
 
-known_in : (script : Script) (env : Environment) (p : place.Place) (text : List ℕ) (found : Option Known) → HasToken script.tokens (name text) p.at → StandsIn script (phrases.Expression env (written.Name p text)) → variable_in env text ≡ found → At script (known_at p.at found)
+known_in : (script : Script) (env : Environment) (p : place.Place) (text : List ℕ) (found : Option Known) → HasToken script.tokens (name text) p.at → OccursIn script (phrases.Expression env (written.Name p text)) → variable_in env text ≡ found → At script (known_at p.at found)
 known_in script env p text None h r e = faulty (name text, h, refl, meaning.no_variable r e)
 known_in script env p text (Some known) h r e = fine (name text, h, refl)
 
-this_in : (script : Script) (env : Environment) (p : place.Place) (class : Option ℕ) → HasToken script.tokens (reserved words.This) p.at → StandsIn script (phrases.Expression env (written.This p)) → env.this ≡ class → At script (this_at p.at class)
+this_in : (script : Script) (env : Environment) (p : place.Place) (class : Option ℕ) → HasToken script.tokens (reserved words.This) p.at → OccursIn script (phrases.Expression env (written.This p)) → env.this ≡ class → At script (this_at p.at class)
 this_in script env p None h r e = faulty (reserved words.This, h, refl, meaning.no_object r e)
 this_in script env p (Some class) h r e = fine (reserved words.This, h, refl)
 
@@ -226,10 +226,10 @@ this_in script env p (Some class) h r e = fine (reserved words.This, h, refl)
 
 -- a field and a method behind what is typed so
 abbrev pub AtField : Script → Environment → Typed → place.Place → List ℕ → written.Suffixes → Type 0
-AtField script env t p text ss = StandsIn script (phrases.Suffixes env t (written.suffix (written.Field p text) ss))
+AtField script env t p text ss = OccursIn script (phrases.Suffixes env t (written.suffix (written.Field p text) ss))
 
 abbrev pub AtMethod : Script → Environment → Typed → place.Place → List ℕ → written.Exprs → written.Suffixes → Type 0
-AtMethod script env t p text es ss = StandsIn script (phrases.Suffixes env t (written.suffix (written.Method p text es) ss))
+AtMethod script env t p text es ss = OccursIn script (phrases.Suffixes env t (written.suffix (written.Method p text es) ss))
 
 member_at_in : (script : Script) (env : Environment) (t : Typed) (p : place.Place) (text : List ℕ) (ss : written.Suffixes) (o : ObjectType) (found : Option (Member × Ty)) → HasToken script.tokens (name text) p.at → HasStart script.tokens t.at → AtField script env t p text ss → object_of t.ty ≡ Some o → member_in env o text ≡ found → At script (member_at t p.at found)
 member_at_in script env t p text ss o None h k r q e = faulty (name text, h, refl, meaning.no_member r q e)
@@ -258,12 +258,12 @@ method_of_in script env t (ty.Handle o) p text es ss h k r q = invoked_at_in scr
 method_of_in script env t ty.Unknown p text es ss h k r q = fine tt
 method_of_in script env t _ p text es ss h k r q = mismatch k (mismatches.no_object r refl (ap may_be_object q))
 
-invoked_in : (script : Script) (env : Environment) (t : Typed) (p : place.Place) (text : List ℕ) (es : written.Exprs) (ss : written.Suffixes) (ts : List Typed) (m : Option Invoked) → HasToken script.tokens (name text) p.at → HasStart script.tokens t.at → AtMethod script env t p text es ss → AllAt script.tokens ts → length ts ≡ given es → all_typed env es ≡ Ok ts → IsInvoked env t text m → At script (invoked env.heads.classes t p.at ts m)
+invoked_in : (script : Script) (env : Environment) (t : Typed) (p : place.Place) (text : List ℕ) (es : written.Exprs) (ss : written.Suffixes) (ts : List Typed) (m : Option Invoked) → HasToken script.tokens (name text) p.at → HasStart script.tokens t.at → AtMethod script env t p text es ss → AllAt script.tokens ts → length ts ≡ argument_count es → all_typed env es ≡ Ok ts → IsInvoked env t text m → At script (invoked env.heads.classes t p.at ts m)
 unfolding invoked
 invoked_in script env t p text es ss ts None h k r all c a q = fine k
 invoked_in script env t p text es ss ts (Some m) h k r all c a q = bind (arguments_in script env.heads.classes p.at (name text) m.parameters ts h refl all (λ b. meaning.method_count r q.1 q.2 (subst (λ n. nat_eq (length m.parameters) n ≡ false) c b)) (λ at b. mismatches.of_method r q.1 q.2 a b)) (λ trees u. fine k)
 
-invocation_in : (script : Script) (env : Environment) (t : Typed) (p : place.Place) (text : List ℕ) (es : written.Exprs) (ss : written.Suffixes) → HasToken script.tokens (name text) p.at → HasStart script.tokens t.at → AtMethod script env t p text es ss → ListAt script (given es) (all_typed env es) → At script (invocation_typed env t p.at text (all_typed env es))
+invocation_in : (script : Script) (env : Environment) (t : Typed) (p : place.Place) (text : List ℕ) (es : written.Exprs) (ss : written.Suffixes) → HasToken script.tokens (name text) p.at → HasStart script.tokens t.at → AtMethod script env t p text es ss → ListAt script (argument_count es) (all_typed env es) → At script (invocation_typed env t p.at text (all_typed env es))
 invocation_in script env t p text es ss h k r all = bind (method_of_in script env t t.ty p text es ss h k r refl) (λ m q. bind_by all (λ ts a each. invoked_in script env t p text es ss ts m h k r each.0 each.1 a q))
 
 -- arrays and handles
@@ -289,12 +289,12 @@ element_by_in : (script : Script) (env : Environment) (at : ℕ) (text : List �
 element_by_in script env at text None h e w = faulty (name text, h, refl, w (element_unnamed env text e))
 element_by_in script env at text (Some x) h e w = fine tt
 
-known_element_in : (script : Script) (env : Environment) (p : place.Place) (of : written.Element) (es : written.Exprs) → ElementIn script.tokens of → StandsIn script (phrases.Expression env (written.NewArray p of es)) → Fine script (known_element (at_element of) (element_named env.registered env.heads of))
+known_element_in : (script : Script) (env : Environment) (p : place.Place) (of : written.Element) (es : written.Exprs) → ElementIn script.tokens of → OccursIn script (phrases.Expression env (written.NewArray p of es)) → Fine script (known_element (at_element of) (element_named env.registered env.heads of))
 unfolding element_named
 known_element_in script env p (written.PrimElement at k) es h r = fine tt
 known_element_in script env p (written.HandleElement at text) es h r = element_by_in script env at.at text (option_and_then element_by (type_named env text)) h refl (λ n. meaning.no_element_type r (unnamed script env text (sees r) n))
 
-array_in : (script : Script) (env : Environment) (p : place.Place) (of : written.Element) (es : written.Exprs) → HasToken script.tokens (reserved words.Array) p.at → ElementIn script.tokens of → StandsIn script (phrases.Expression env (written.NewArray p of es)) → ListAt script (given es) (all_typed env es) → At script (array_typed env p.at of (all_typed env es))
+array_in : (script : Script) (env : Environment) (p : place.Place) (of : written.Element) (es : written.Exprs) → HasToken script.tokens (reserved words.Array) p.at → ElementIn script.tokens of → OccursIn script (phrases.Expression env (written.NewArray p of es)) → ListAt script (argument_count es) (all_typed env es) → At script (array_typed env p.at of (all_typed env es))
 array_in script env p of es h e r k = bind (known_element_in script env p of es e r) (λ x u. bind_by k (λ ts a all. called_with_in script env.heads.classes p.at (reserved words.Array) (array_built x (length ts)) ts (array_parameters (length ts)) h refl refl all.0 (λ b. meaning.array_count r (subst (λ n. nat_eq (length (array_parameters n)) n ≡ false) all.1 b)) (λ at b. mismatches.of_array r a b)))
 
 cast_type_in : (script : Script) (env : Environment) (at : ℕ) (text : List ℕ) (found : Option ObjectType) → HasToken script.tokens (name text) at → (found ≡ None → Wrong script rules.UnknownType at (name text)) → ((o : ObjectType) → found ≡ Some o → is_cast_type o ≡ false → Mismatch script at) → Fine script (cast_type at found)
@@ -331,7 +331,7 @@ one_more : (a b : ℕ) → a ≡ b → suc a ≡ b + 1
 one_more a b h = omega (arith, h)
 
 -- what is wrong with an assignment
-unassigned : (script : Script) (env : Environment) (p : place.Place) (e : written.Expr) (op : AssignOp) (v : written.Expr) (t u : Typed) → StandsIn script (phrases.Expression env (written.Assign p e op v)) → typed env (is_assign op) e ≡ Ok t → typed env false v ≡ Ok u → Unassigned script env.heads.classes t u (operator_of op)
+unassigned : (script : Script) (env : Environment) (p : place.Place) (e : written.Expr) (op : AssignOp) (v : written.Expr) (t u : Typed) → OccursIn script (phrases.Expression env (written.Assign p e op v)) → typed env (is_assign op) e ≡ Ok t → typed env false v ≡ Ok u → Unassigned script env.heads.classes t u (operator_of op)
 unassigned script env p e op v t u r q w = record {
   unfit = λ o b. mismatches.assigned r q w o b;
   unmet = λ by o at b. mismatches.updated r q w o b;
@@ -339,7 +339,7 @@ unassigned script env p e op v t u r q w = record {
 }
 
 mutual
-  pub typed_in : (script : Script) (env : Environment) (left : Bool) (e : written.Expr) → ExprIn script.tokens e → StandsIn script (phrases.Expression env e) → At script (typed env left e)
+  pub typed_in : (script : Script) (env : Environment) (left : Bool) (e : written.Expr) → ExprIn script.tokens e → OccursIn script (phrases.Expression env e) → At script (typed env left e)
   typed_in script env left (written.Number p n) h r = fine (number n, h, refl)
   typed_in script env left (written.Truth p b) h r = fine h
   typed_in script env left (written.Null p) h r = fine h
@@ -356,19 +356,19 @@ mutual
   typed_in script env left (written.Conditional p c a b) h r = bind_by (typed_in script env false c h.1 (phrases.condition r)) (λ t o k. bind_by (typed_in script env false a h.2 (phrases.chosen r)) (λ x q l. bind_by (typed_in script env false b h.3 (phrases.otherwise r)) (λ y w m. choice_in script t x y k l m (λ n. mismatches.choice_condition r o n) (λ n. mismatches.branches r q w n))))
   typed_in script env left (written.Assign p e op v) h r = bind_by (typed_in script env (is_assign op) e h.1 (phrases.target r)) (λ t q k. bind_by (typed_in script env false v h.2 (phrases.value r)) (λ u w l. assigned_in script env.heads.classes t op u k l (λ b m. meaning.takes_none r q b) (unassigned script env p e op v t u r q w)))
 
-  pub all_in : (script : Script) (env : Environment) (es : written.Exprs) → ExprsIn script.tokens es → StandsIn script (phrases.Arguments env es) → ListAt script (given es) (all_typed env es)
+  pub all_in : (script : Script) (env : Environment) (es : written.Exprs) → ExprsIn script.tokens es → OccursIn script (phrases.Arguments env es) → ListAt script (argument_count es) (all_typed env es)
   all_in script env written.no_expr h r = fine (tt, refl)
-  all_in script env (written.expr e es) h r = bind (typed_in script env false e h.0 (phrases.argument r)) (λ t k. bind (all_in script env es h.1 (phrases.other_arguments r)) (λ ts l. fine ((k, l.0), one_more (length ts) (given es) l.1)))
+  all_in script env (written.expr e es) h r = bind (typed_in script env false e h.0 (phrases.argument r)) (λ t k. bind (all_in script env es h.1 (phrases.other_arguments r)) (λ ts l. fine ((k, l.0), one_more (length ts) (argument_count es) l.1)))
 
-  links_in : (script : Script) (env : Environment) (t : Typed) (ls : written.Links) → LinksIn script.tokens ls → HasStart script.tokens t.at → StandsIn script (phrases.Links env t ls) → At script (links_typed env t ls)
+  links_in : (script : Script) (env : Environment) (t : Typed) (ls : written.Links) → LinksIn script.tokens ls → HasStart script.tokens t.at → OccursIn script (phrases.Links env t ls) → At script (links_typed env t ls)
   links_in script env t written.no_link h k r = fine k
   links_in script env t (written.link op e ls) h k r = bind_by (typed_in script env false e h.0 (phrases.linked r)) (λ u q l. bind_by (operate_in script op t u k l (λ at b. mismatches.operands r q b)) (λ both w m. links_in script env both ls h.1 m (phrases.other_links r q w)))
 
-  suffixes_in : (script : Script) (env : Environment) (t : Typed) (ss : written.Suffixes) → SuffixesIn script.tokens ss → HasStart script.tokens t.at → StandsIn script (phrases.Suffixes env t ss) → At script (suffixes_typed env t ss)
+  suffixes_in : (script : Script) (env : Environment) (t : Typed) (ss : written.Suffixes) → SuffixesIn script.tokens ss → HasStart script.tokens t.at → OccursIn script (phrases.Suffixes env t ss) → At script (suffixes_typed env t ss)
   suffixes_in script env t written.no_suffix h k r = fine k
   suffixes_in script env t (written.suffix s ss) h k r = bind_by (suffix_in script env t s ss h.0 k r) (λ next q l. suffixes_in script env next ss h.1 l (phrases.other_suffixes r q))
 
-  suffix_in : (script : Script) (env : Environment) (t : Typed) (s : written.Suffix) (ss : written.Suffixes) → SuffixIn script.tokens s → HasStart script.tokens t.at → StandsIn script (phrases.Suffixes env t (written.suffix s ss)) → At script (suffix_typed env t s)
+  suffix_in : (script : Script) (env : Environment) (t : Typed) (s : written.Suffix) (ss : written.Suffixes) → SuffixIn script.tokens s → HasStart script.tokens t.at → OccursIn script (phrases.Suffixes env t (written.suffix s ss)) → At script (suffix_typed env t s)
   suffix_in script env t (written.Field p text) ss h k r = field_in script env t t.ty p text ss h k r refl
   suffix_in script env t (written.Method p text es) ss h k r = invocation_in script env t p text es ss h.0 k r (all_in script env es h.1 (phrases.method_arguments r))
   suffix_in script env t (written.Index e) ss h k r = bind_by (typed_in script env false e h (phrases.index r)) (λ i q l. indexed_in script t t.ty i k l refl (λ b. mismatches.no_index r q b) (λ b. mismatches.no_array r b))

@@ -41,8 +41,8 @@ use Rattle.ash_typing.specs.Phrases as phrases
 use Rattle.ash_typing.specs.Mismatches as mismatches
 use Rattle.ash_typing.specs.Mismatches.{may_be_bool, IsUnfit}
 use Rattle.ash_typing.specs.FaultMeaning as meaning
-use Rattle.ash_typing.specs.FaultMeaning.{given, given_first, is_constructible, kept}
-use Rattle.ash_typing.proofs.FaultAnswers.{Script, StandsIn, Wrong, Mismatch, Answers, fine, faulty, Fine, At, name_taken, bind, bind_by, bind_to, either, type_named, Miswritten, miswritten}
+use Rattle.ash_typing.specs.FaultMeaning.{argument_count, initial_count, is_constructible, stored_use}
+use Rattle.ash_typing.proofs.FaultAnswers.{Script, OccursIn, Wrong, Mismatch, Answers, fine, faulty, Fine, At, name_taken, bind, bind_by, bind_to, either, type_named, Miswritten, miswritten}
 use Rattle.ash_typing.proofs.FaultPhrases.{sees}
 use Rattle.ash_typing.proofs.FaultExpressions.{AllAt, ListAt, Miscalls, Unfit, element_unnamed, fitted_in, integer_in, bool_in, called_with_in, called_in, typed_in, all_in}
 
@@ -155,7 +155,7 @@ known_ty_in script of (ty.Handle o) n w m = fine w
 known_ty_in script of ty.Null n w m = fine w
 
 -- the type of variables
-pub variables_ty_in : (script : Script) (env : Environment) (of : written.Named) → NamedIn script.tokens of → Miswritten script env (kept of) → Answers script (λ (t : Ty). IsWrittenAt script t (at_type of)) (known_ty of (ty_in env of))
+pub variables_ty_in : (script : Script) (env : Environment) (of : written.Named) → NamedIn script.tokens of → Miswritten script env (stored_use of) → Answers script (λ (t : Ty). IsWrittenAt script t (at_type of)) (known_ty of (ty_in env of))
 variables_ty_in script env of h w = known_ty_in script of (ty_in env of) (named_at script env of h w.unknown) (written_at script env of h) (λ i m e. w.misplaced (objects.Interface i) m e refl)
 
 -- variables
@@ -170,7 +170,7 @@ pub record Misbuilds (script : Script) (classes : List Class) (at : ℕ) (found 
 abbrev pub Unbuilt : Script → Environment → ObjectType → List Typed → Type 0
 Unbuilt script env o ts = (callee : Callee) (parameters : List Ty) → construction env o (length ts) ≡ Some callee → callee.parameters ≡ Some parameters → Unfit script env.heads.classes parameters ts
 
-misbuilds : (script : Script) (env : Environment) (of_at at : ℕ) (o : ObjectType) (i : written.Initializer) (ts : List Typed) → StandsIn script (phrases.Initializer env of_at at (ty.Object o) i) → length ts ≡ given_first i → Unbuilt script env o ts → Misbuilds script env.heads.classes of_at (construction env o (length ts)) ts
+misbuilds : (script : Script) (env : Environment) (of_at at : ℕ) (o : ObjectType) (i : written.Initializer) (ts : List Typed) → OccursIn script (phrases.Initializer env of_at at (ty.Object o) i) → length ts ≡ initial_count i → Unbuilt script env o ts → Misbuilds script env.heads.classes of_at (construction env o (length ts)) ts
 misbuilds script env of_at at o i ts r c z = record {
   none = λ m b. meaning.variable_factory r (subst (λ n. is_constructible (construction env o n) ≡ false) c b);
   other = λ m callee parameters e q b. meaning.variable_count r (subst (λ n. construction env o n ≡ Some callee) c e) q (subst (λ n. nat_eq (length parameters) n ≡ false) c b);
@@ -210,7 +210,7 @@ unfit_one classes [] (t ∷ ts) at b = tt
 unfit_one classes [] [] at b = elim b [ ]
 unfit_one classes (p ∷ ps) [] at b = elim b [ ]
 
-begun_in : (script : Script) (env : Environment) (of_at at : ℕ) (of : Ty) → IsWrittenAt script of of_at → StandsIn script (phrases.Initializer env of_at at of written.Default) → Fine script (begun env of_at of)
+begun_in : (script : Script) (env : Environment) (of_at at : ℕ) (of : Ty) → IsWrittenAt script of of_at → OccursIn script (phrases.Initializer env of_at at of written.Default) → Fine script (begun env of_at of)
 unfolding begun
 begun_in script env of_at at (ty.Object o) h r = object_in script env of_at o [] h tt (misbuilds script env of_at at o written.Default [] r refl (λ callee parameters e q x b. absurd (unfit_one env.heads.classes parameters [] x b)))
 begun_in script env of_at at _ h r = fine tt
@@ -232,37 +232,37 @@ begun_by_one_in script classes at text of [] h k y z = faulty (name text, h, ref
 begun_by_one_in script classes at text of (t ∷ []) h k y z = stored_first_in script classes of t k.0 (z t refl)
 begun_by_one_in script classes at text of (t ∷ u ∷ ts) h k y z = faulty (name text, h, refl, meaning.mismatch (y (not_one (length ts))))
 
-begun_by_in : (script : Script) (env : Environment) (of_at at : ℕ) (text : List ℕ) (of : Ty) (es : List written.Expr) (ts : List Typed) → IsWrittenAt script of of_at → HasToken script.tokens (name text) at → AllAt script.tokens ts → length ts ≡ given (written.exprs es) → all_typed env (written.exprs es) ≡ Ok ts → StandsIn script (phrases.Initializer env of_at at of (written.Arguments es)) → Fine script (begun_by env of_at at of ts)
+begun_by_in : (script : Script) (env : Environment) (of_at at : ℕ) (text : List ℕ) (of : Ty) (es : List written.Expr) (ts : List Typed) → IsWrittenAt script of of_at → HasToken script.tokens (name text) at → AllAt script.tokens ts → length ts ≡ argument_count (written.exprs es) → all_typed env (written.exprs es) ≡ Ok ts → OccursIn script (phrases.Initializer env of_at at of (written.Arguments es)) → Fine script (begun_by env of_at at of ts)
 unfolding begun_by
 begun_by_in script env of_at at text (ty.Object o) es ts w h k c a r = object_in script env of_at o ts w k (misbuilds script env of_at at o (written.Arguments es) ts r c (λ callee parameters e q x b. mismatches.of_variable r a e q b))
 begun_by_in script env of_at at text (ty.Handle o) es ts w h k c a r = faulty (name text, h, refl, meaning.mismatch (mismatches.handle_brackets r))
 begun_by_in script env of_at at text of es ts w h k c a r = begun_by_one_in script env.heads.classes at text of ts h k (λ b. mismatches.brackets r refl a b) (λ t e b. mismatches.initial_argument r (a ∙ ap (λ (us : List Typed). Ok us) e) b)
 
-initialized_in : (script : Script) (env : Environment) (of_at at : ℕ) (text : List ℕ) (of : Ty) (i : written.Initializer) → IsWrittenAt script of of_at → HasToken script.tokens (name text) at → InitializerIn script.tokens i → StandsIn script (phrases.Initializer env of_at at of i) → Fine script (initialized env of_at at of i)
+initialized_in : (script : Script) (env : Environment) (of_at at : ℕ) (text : List ℕ) (of : Ty) (i : written.Initializer) → IsWrittenAt script of of_at → HasToken script.tokens (name text) at → InitializerIn script.tokens i → OccursIn script (phrases.Initializer env of_at at of i) → Fine script (initialized env of_at at of i)
 unfolding initialized
 initialized_in script env of_at at text of written.Default w h k r = begun_in script env of_at at of w r
-initialized_in script env of_at at text of (written.Value e) w h k r = bind_by (typed_in script env false e k (phrases.initial_value r)) (λ t a l. begun_with_in script env.heads.classes at text of t h l (λ o q. meaning.object_assigned (subst (λ u. StandsIn script (phrases.Initializer env of_at at u (written.Value e))) q r)) (λ b. mismatches.initial_value r a b))
+initialized_in script env of_at at text of (written.Value e) w h k r = bind_by (typed_in script env false e k (phrases.initial_value r)) (λ t a l. begun_with_in script env.heads.classes at text of t h l (λ o q. meaning.object_assigned (subst (λ u. OccursIn script (phrases.Initializer env of_at at u (written.Value e))) q r)) (λ b. mismatches.initial_value r a b))
 initialized_in script env of_at at text of (written.Arguments es) w h k r = bind_by (all_in script env (written.exprs es) k (phrases.initial_arguments r)) (λ ts a l. begun_by_in script env of_at at text of es ts w h l.0 l.1 a r)
 
-pub decl_in : (script : Script) (env : Environment) (at : ℕ) (of : Ty) (d : written.Decl) → IsWrittenAt script of at → DeclIn script.tokens d → StandsIn script (phrases.Initializer env at d.place.at of d.initializer) → Fine script (decl_typed env at of d)
+pub decl_in : (script : Script) (env : Environment) (at : ℕ) (of : Ty) (d : written.Decl) → IsWrittenAt script of at → DeclIn script.tokens d → OccursIn script (phrases.Initializer env at d.place.at of d.initializer) → Fine script (decl_typed env at of d)
 unfolding decl_typed
 decl_in script env at of d w h r = bind (initialized_in script env at d.place.at d.name of d.initializer w h.0 h.1 r) (λ value u. fine tt)
 
-fresh_in : (script : Script) (scope : Scope) (at : ℕ) (of : Ty) (d : written.Decl) (ds : List written.Decl) → DeclIn script.tokens d → StandsIn script (phrases.Locals scope at of (d ∷ ds)) → Answers script (λ (v : Declared). v ≡ declared of d) (fresh scope of d)
+fresh_in : (script : Script) (scope : Scope) (at : ℕ) (of : Ty) (d : written.Decl) (ds : List written.Decl) → DeclIn script.tokens d → OccursIn script (phrases.Locals scope at of (d ∷ ds)) → Answers script (λ (v : Declared). v ≡ declared of d) (fresh scope of d)
 unfolding fresh
 fresh_in script scope at of d ds h r = either (is_taken scope d.name) (λ b. name_taken (record { at = d.place.at; text = d.name; is_refused = is_taken scope d.name }) r refl h.0 b) (λ b. fine refl)
 
-decls_in : (script : Script) (scope : Scope) (at : ℕ) (of : Ty) (ds : List written.Decl) → IsWrittenAt script of at → AllByRecursion (DeclIn script.tokens) ds → StandsIn script (phrases.Locals scope at of ds) → Fine script (decls_typed scope at of ds)
+decls_in : (script : Script) (scope : Scope) (at : ℕ) (of : Ty) (ds : List written.Decl) → IsWrittenAt script of at → AllByRecursion (DeclIn script.tokens) ds → OccursIn script (phrases.Locals scope at of ds) → Fine script (decls_typed scope at of ds)
 decls_in script scope at of [] w h r = fine tt
 decls_in script scope at of (d ∷ ds) w h r = bind_to _ (fresh_in script scope at of d ds h.0 r) (bind (decl_in script scope.env at of d w h.0 (phrases.local r)) (λ value u. bind (decls_in script (with_variables scope (declared of d ∷ [])) at of ds w h.1 (phrases.other_locals r)) (λ values u. fine tt)))
 
-vars_in : (script : Script) (scope : Scope) (p : place.Place) (v : written.Vars) → VarsIn script.tokens v → StandsIn script (phrases.Statement scope (written.Declare p v)) → Fine script (vars_typed scope v)
+vars_in : (script : Script) (scope : Scope) (p : place.Place) (v : written.Vars) → VarsIn script.tokens v → OccursIn script (phrases.Statement scope (written.Declare p v)) → Fine script (vars_typed scope v)
 unfolding vars_typed
-vars_in script scope p v h r = bind_by (variables_ty_in script scope.env v.of h.0 (miswritten script scope.env (phrases.Statement scope (written.Declare p v)) (kept v.of) (sees r) r refl)) (λ of e w. decls_in script scope (at_type v.of) of v.decls w h.1 (phrases.locals r e))
+vars_in script scope p v h r = bind_by (variables_ty_in script scope.env v.of h.0 (miswritten script scope.env (phrases.Statement scope (written.Declare p v)) (stored_use v.of) (sees r) r refl)) (λ of e w. decls_in script scope (at_type v.of) of v.decls w h.1 (phrases.locals r e))
 
 -- statements, once their parts are walked
 
-head_in : (script : Script) (scope : Scope) (s : written.Stmt) → IsHeadForm s → StmtIn script.tokens s → StandsIn script (phrases.Statement scope s) → Fine script (head_typed scope s)
+head_in : (script : Script) (scope : Scope) (s : written.Stmt) → IsHeadForm s → StmtIn script.tokens s → OccursIn script (phrases.Statement scope s) → Fine script (head_typed scope s)
 unfolding head_typed
 head_in script scope (written.Empty p) f h r = fine tt
 head_in script scope (written.Declare p v) f h r = bind (vars_in script scope p v h.1 r) (λ values u. fine tt)
@@ -297,7 +297,7 @@ abbrev pub MaybeAt : Tokens → Option Typed → Type 0
 MaybeAt script None = Unit {0}
 MaybeAt script (Some t) = HasStart script t.at
 
-maybe_in : (script : Script) (env : Environment) (e : Option written.Expr) → MaybeIn script.tokens e → ((c : written.Expr) → e ≡ Some c → StandsIn script (phrases.Expression env c)) → Answers script (MaybeAt script.tokens) (maybe_typed env e)
+maybe_in : (script : Script) (env : Environment) (e : Option written.Expr) → MaybeIn script.tokens e → ((c : written.Expr) → e ≡ Some c → OccursIn script (phrases.Expression env c)) → Answers script (MaybeAt script.tokens) (maybe_typed env e)
 maybe_in script env None h r = fine tt
 maybe_in script env (Some e) h r = bind (typed_in script env false e h (r e refl)) (λ t k. fine k)
 
@@ -309,11 +309,11 @@ for_in : (script : Script) (line count : ℕ) (head : Checking Head) (condition 
 unfolding for_typed
 for_in script line count head condition steps body f h k l z = bind f (λ x u. bind_by h (λ c a at. bind k (λ ts all. bind l (λ s v. bind (maybe_condition_in script c at (λ t e b. z t (a ∙ ap (λ (m : Option Typed). Ok m) e) b)) (λ yes w. fine tt)))))
 
-break_in : (script : Script) (scope : Scope) (p : place.Place) → HasToken script.tokens (reserved words.Break) p.at → StandsIn script (phrases.Statement scope (written.Break p)) → Fine script (break_typed (scope.in_loop || scope.in_switch) p)
+break_in : (script : Script) (scope : Scope) (p : place.Place) → HasToken script.tokens (reserved words.Break) p.at → OccursIn script (phrases.Statement scope (written.Break p)) → Fine script (break_typed (scope.in_loop || scope.in_switch) p)
 unfolding break_typed
 break_in script scope p h r = either (scope.in_loop || scope.in_switch) (λ b. fine tt) (λ b. faulty (reserved words.Break, h, refl, meaning.no_loop_to_leave r b))
 
-continue_in : (script : Script) (scope : Scope) (p : place.Place) → HasToken script.tokens (reserved words.Continue) p.at → StandsIn script (phrases.Statement scope (written.Continue p)) → Fine script (continue_typed scope.in_loop p)
+continue_in : (script : Script) (scope : Scope) (p : place.Place) → HasToken script.tokens (reserved words.Continue) p.at → OccursIn script (phrases.Statement scope (written.Continue p)) → Fine script (continue_typed scope.in_loop p)
 unfolding continue_typed
 continue_in script scope p h r = either scope.in_loop (λ b. fine tt) (λ b. faulty (reserved words.Continue, h, refl, meaning.no_loop r b))
 
@@ -321,14 +321,14 @@ returned_in : (script : Script) (classes : List Class) (of : Ty) (at : ℕ) (t :
 unfolding returned
 returned_in script classes of at t h k y z = either (is_void of) (λ b. faulty (reserved words.Return, h, refl, meaning.mismatch (y b))) (λ b. fitted_in script classes of t k z)
 
-return_in : (script : Script) (scope : Scope) (p : place.Place) (e : Option written.Expr) → HasToken script.tokens (reserved words.Return) p.at → MaybeIn script.tokens e → StandsIn script (phrases.Statement scope (written.Return p e)) → Fine script (return_typed scope p e)
+return_in : (script : Script) (scope : Scope) (p : place.Place) (e : Option written.Expr) → HasToken script.tokens (reserved words.Return) p.at → MaybeIn script.tokens e → OccursIn script (phrases.Statement scope (written.Return p e)) → Fine script (return_typed scope p e)
 unfolding return_typed
 return_in script scope p None h k r = either (gives_nothing scope.gives) (λ b. fine tt) (λ b. faulty (reserved words.Return, h, refl, meaning.mismatch (mismatches.returned_nothing r b)))
 return_in script scope p (Some e) h k r = bind_by (typed_in script scope.env false e k (phrases.returned r)) (λ t a l. bind (returned_in script scope.env.heads.classes scope.gives p.at t h l (λ b. mismatches.returned_value r b) (λ b. mismatches.returned r a b)) (λ value u. fine tt))
 
 -- labels, each with the statements behind it and the other labels
 abbrev pub AtLabel : Script → Scope → Option Kind → List Label → place.Place → Label → written.Stmts → written.Cases → Type 0
-AtLabel script scope kind before p l ss cs = StandsIn script (phrases.Cases scope kind before (written.next_case (written.labelled p l ss) cs))
+AtLabel script scope kind before p l ss cs = OccursIn script (phrases.Cases scope kind before (written.next_case (written.labelled p l ss) cs))
 
 constant_in : (script : Script) (scope : Scope) (kind : Option Kind) (before : List Label) (p : place.Place) (l : Label) (ss : written.Stmts) (cs : written.Cases) (m : Meaning) → HasToken script.tokens m p.at → begins_constant m ≡ true → AtLabel script scope kind before p l ss cs → Fine script (constant_typed kind before p.at l)
 unfolding constant_typed
@@ -341,8 +341,8 @@ label_in script scope kind before p (labels.CaseMinus n) ss cs h r = constant_in
 label_in script scope kind before p labels.Default ss cs h r = either (is_last cs) (λ b. fine tt) (λ b. faulty (reserved words.Default, h, refl, meaning.early_default r b))
 
 -- the condition of a `for`, where it has one
-for_condition : (script : Script) (scope : Scope) (p : place.Place) (f s : written.Stmt) (c : Option written.Expr) (es : List written.Expr) → StandsIn script (phrases.Statement scope (written.For p f c es s)) → (e : written.Expr) → c ≡ Some e → StandsIn script (phrases.Expression (behind (block_of scope) f).env e)
-for_condition script scope p f s c es r e q = phrases.for_condition (subst (λ x. StandsIn script (phrases.Statement scope (written.For p f x es s))) q r)
+for_condition : (script : Script) (scope : Scope) (p : place.Place) (f s : written.Stmt) (c : Option written.Expr) (es : List written.Expr) → OccursIn script (phrases.Statement scope (written.For p f c es s)) → (e : written.Expr) → c ≡ Some e → OccursIn script (phrases.Expression (behind (block_of scope) f).env e)
+for_condition script scope p f s c es r e q = phrases.for_condition (subst (λ x. OccursIn script (phrases.Statement scope (written.For p f x es s))) q r)
 
 -- what is typed, where the condition of a `for` is
 abbrev pub TypedBy : Environment → Option written.Expr → Typed → Type 0
@@ -360,13 +360,13 @@ typed_by env (Some e) t h =
     let u = bind_ok (typed env false e) (λ (x : Typed). Ok (Some x)) (Some t) h in
     (e, refl, u.1 ∙ ap (λ (x : Typed). Ok x) (same_typed u.0 t u.2))
 
-for_unconditional : (script : Script) (scope : Scope) (p : place.Place) (f s : written.Stmt) (c : Option written.Expr) (es : List written.Expr) (t : Typed) → StandsIn script (phrases.Statement scope (written.For p f c es s)) → TypedBy (behind (block_of scope) f).env c t → may_be_bool t.ty ≡ false → Mismatch script t.at
-for_unconditional script scope p f s c es t r h b = mismatches.for_condition (subst (λ x. StandsIn script (phrases.Statement scope (written.For p f x es s))) h.1 r) h.2 b
+for_unconditional : (script : Script) (scope : Scope) (p : place.Place) (f s : written.Stmt) (c : Option written.Expr) (es : List written.Expr) (t : Typed) → OccursIn script (phrases.Statement scope (written.For p f c es s)) → TypedBy (behind (block_of scope) f).env c t → may_be_bool t.ty ≡ false → Mismatch script t.at
+for_unconditional script scope p f s c es t r h b = mismatches.for_condition (subst (λ x. OccursIn script (phrases.Statement scope (written.For p f x es s))) h.1 r) h.2 b
 
 -- the walk
 
 mutual
-  stmt_in : (script : Script) (scope : Scope) (s : written.Stmt) → StmtIn script.tokens s → StandsIn script (phrases.Statement scope s) → Fine script (stmt_typed scope s)
+  stmt_in : (script : Script) (scope : Scope) (s : written.Stmt) → StmtIn script.tokens s → OccursIn script (phrases.Statement scope s) → Fine script (stmt_typed scope s)
   stmt_in script scope (written.Empty p) h r = fine tt
   stmt_in script scope (written.Declare p v) h r = bind (vars_in script scope p v h.1 r) (λ values u. fine tt)
   stmt_in script scope (written.Evaluate p e) h r = bind (typed_in script scope.env false e h.1 (phrases.evaluated r)) (λ t u. fine tt)
@@ -377,16 +377,16 @@ mutual
   stmt_in script scope (written.DoWhile p s c) h r = do_while_in script p.line (stmt_typed (loop_of scope) s) (typed scope.env false c) (stmt_in script (loop_of scope) s h.1 (phrases.do_body r)) (typed_in script scope.env false c h.2 (phrases.do_condition r)) (λ t a b. mismatches.condition r refl a b)
   stmt_in script scope (written.For p f c es s) h r =
       let inside = behind (block_of scope) f in
-      for_in script p.line (given (written.exprs es)) (head_typed (block_of scope) f) (maybe_typed inside.env c) (all_typed inside.env (written.exprs es)) (stmt_typed (loop_of inside) s) (head_in script (block_of scope) f h.1 h.2 (phrases.for_head r)) (maybe_in script inside.env c h.3 (for_condition script scope p f s c es r)) (all_in script inside.env (written.exprs es) h.4 (phrases.for_steps r)) (stmt_in script (loop_of inside) s h.5 (phrases.for_body r)) (λ t a b. for_unconditional script scope p f s c es t r (typed_by inside.env c t a) b)
+      for_in script p.line (argument_count (written.exprs es)) (head_typed (block_of scope) f) (maybe_typed inside.env c) (all_typed inside.env (written.exprs es)) (stmt_typed (loop_of inside) s) (head_in script (block_of scope) f h.1 h.2 (phrases.for_head r)) (maybe_in script inside.env c h.3 (for_condition script scope p f s c es r)) (all_in script inside.env (written.exprs es) h.4 (phrases.for_steps r)) (stmt_in script (loop_of inside) s h.5 (phrases.for_body r)) (λ t a b. for_unconditional script scope p f s c es t r (typed_by inside.env c t a) b)
   stmt_in script scope (written.Switch p e cs) h r = bind_by (typed_in script scope.env false e h.1 (phrases.switch_value r)) (λ v q k. bind (cases_in script (switch_of scope) (kind_in v.ty) [] cs h.2 (phrases.cases r q)) (λ rows u. bind (integer_in script v.at v.ty k (λ b. mismatches.switch_value r q b)) (λ kind w. fine tt)))
   stmt_in script scope (written.Break p) h r = break_in script scope p h r
   stmt_in script scope (written.Continue p) h r = continue_in script scope p h r
   stmt_in script scope (written.Return p e) h r = return_in script scope p e h.0 h.1 r
 
-  pub stmts_in : (script : Script) (scope : Scope) (ss : written.Stmts) → StmtsIn script.tokens ss → StandsIn script (phrases.Statements scope ss) → Fine script (stmts_typed scope ss)
+  pub stmts_in : (script : Script) (scope : Scope) (ss : written.Stmts) → StmtsIn script.tokens ss → OccursIn script (phrases.Statements scope ss) → Fine script (stmts_typed scope ss)
   stmts_in script scope written.no_stmt h r = fine tt
   stmts_in script scope (written.stmt s ss) h r = bind (stmt_in script scope s h.0 (phrases.statement r)) (λ t u. bind (stmts_in script (behind scope s) ss h.1 (phrases.other_statements r)) (λ ts v. fine tt))
 
-  cases_in : (script : Script) (scope : Scope) (kind : Option Kind) (before : List Label) (cs : written.Cases) → CasesIn script.tokens cs → StandsIn script (phrases.Cases scope kind before cs) → Fine script (cases_typed scope kind before cs)
+  cases_in : (script : Script) (scope : Scope) (kind : Option Kind) (before : List Label) (cs : written.Cases) → CasesIn script.tokens cs → OccursIn script (phrases.Cases scope kind before cs) → Fine script (cases_typed scope kind before cs)
   cases_in script scope kind before written.no_case h r = fine tt
   cases_in script scope kind before (written.next_case (written.labelled p l ss) cs) h r = bind (label_in script scope kind before p l ss cs (h.0).0 r) (λ label u. bind (stmts_in script scope ss (h.0).1 (phrases.labelled r)) (λ body v. bind (cases_in script scope kind (before ++ l ∷ []) cs h.1 (phrases.other_cases r)) (λ rest w. fine tt)))

@@ -254,11 +254,11 @@ abbrev pub IsCalled : Environment → Callable → List VarType → Option VarTy
 IsCalled env (callables.OwnMethod class method result) parameters gives = (env.this ≡ Some class) × operations.IsMethod (seen_in env).signatures (OfClass class) (methods.Script class method result) parameters gives
 IsCalled env (callables.Target target) parameters gives = operations.IsTarget (seen_in env).signatures target parameters gives
 
-abbrev pub Takes : Environment → Callee → List Ty → Type 0
-Takes env callee parameters = IsCalled env callee.target (map var_type parameters) (result_type callee.result) × AllByRecursion IsVariableType parameters
+abbrev pub IsCalledWith : Environment → Callee → List Ty → Type 0
+IsCalledWith env callee parameters = IsCalled env callee.target (map var_type parameters) (result_type callee.result) × AllByRecursion IsVariableType parameters
 
 abbrev pub IsSoundCallee : Environment → Callee → Type 0
-IsSoundCallee env callee = IfSome callee.parameters (Takes env callee)
+IsSoundCallee env callee = IfSome callee.parameters (IsCalledWith env callee)
 
 pub class_takes : (env : Environment) (class : ℕ) (c : Class) → IsKnown env → slice_get env.heads.classes class ≡ Some c → operations.IsTarget (seen_in env).signatures (targets.Class class) (map var_type c.parameters) (result_type (ty.Handle (OfClass class))) × AllByRecursion IsVariableType c.parameters
 class_takes env class c known e = (operations.class {c = signature_of_class c} (mapped signature_of_class env.heads.classes class c e), (at_some IsKnownClass (slice_get env.heads.classes class) c (if_get IsKnownClass env.heads.classes class known.classes) e).parameters)

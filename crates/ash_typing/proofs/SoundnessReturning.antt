@@ -82,7 +82,7 @@ no_rows (more_cases l ss rest) e = absurd (cc)
 
 last_typed : (here : Bool) (cs : written.Cases) (l : Label) (ts : Stmts) (rows : Cases) → (here ≡ true → typed.AnyReturns ts) → (last_returns cs ≡ true → typed.LastReturns rows) → (cs ≡ written.no_case → rows ≡ no_case) → last_of here cs (last_returns cs) ≡ true → typed.LastReturns (next_case (labelled l ts) rows)
 last_typed here written.no_case l ts rows one more none h = subst (λ rows. typed.LastReturns (next_case (labelled l ts) rows)) (sym (none refl)) (typed.last_case (one h))
-last_typed here (written.next_case c cs) l ts rows one more none h = typed.behind_case (more h)
+last_typed here (written.next_case c cs) l ts rows one more none h = typed.not_last_case (more h)
 
 -- statements
 

@@ -163,9 +163,9 @@ plain scope s t e known h = record {
 }
 
 -- what is no declaration changes nothing of what is seen
-same_behind : (scope : Scope) (s : written.Stmt) → IsNoDeclaration s → behind scope s ≡ scope
-same_behind scope (written.Declare p v) h = absurd h
-same_behind scope _ h = refl
+same_after : (scope : Scope) (s : written.Stmt) → IsNoDeclaration s → behind scope s ≡ scope
+same_after scope (written.Declare p v) h = absurd h
+same_after scope _ h = refl
 
 returned_type : (classes : List Class) (of t : Ty) → fits classes of t ≡ true → result_type of ≡ Some (var_type of)
 returned_type classes ty.Void t h = absurd (cc)
@@ -209,4 +209,4 @@ mutual
   labelled_sound no_more_stmts known nest = sound_statements.none_labelled
   labelled_sound {scope} (more_stmts {s = s} {ts = ts} h rest) known nest =
       let first = stmt_sound h known nest.1 in
-      sound_statements.and_labelled (first.alone nest.0) (subst (λ next. sound_statements.AreLabelled (seen_at next) ts) (same_behind scope s nest.0) (labelled_sound rest first.known nest.2))
+      sound_statements.and_labelled (first.alone nest.0) (subst (λ next. sound_statements.AreLabelled (seen_at next) ts) (same_after scope s nest.0) (labelled_sound rest first.known nest.2))

@@ -55,13 +55,13 @@ loop_known scope k = record { env = k.env; gives = k.gives }
 switch_known : (scope : Scope) → IsKnownScope scope → IsKnownScope (switch_of scope)
 switch_known scope k = record { env = k.env; gives = k.gives }
 
-behind_known : (scope : Scope) (s : written.Stmt) (t : Stmt) → IsKnownScope scope → stmt_typed scope s ≡ Ok t → IsKnownScope (behind scope s)
+known_after : (scope : Scope) (s : written.Stmt) (t : Stmt) → IsKnownScope scope → stmt_typed scope s ≡ Ok t → IsKnownScope (behind scope s)
 unfolding vars_typed
-behind_known scope (written.Declare p v) t k h =
+known_after scope (written.Declare p v) t k h =
     let v_is = bind_ok (vars_typed scope v) _ t h in
     let known = bind_ok (known_ty v.of (ty_in scope.env v.of)) _ v_is.0 v_is.1 in
     more_known scope (map (declared (ty_in scope.env v.of)) v.decls) k (decls_known (ty_in scope.env v.of) v.decls (known_sound scope.env v.of v.of known.0 known.1).0)
-behind_known scope _ t k h = k
+known_after scope _ t k h = k
 
 head_known : (scope : Scope) (f : written.Stmt) (g : Head) → IsKnownScope scope → head_typed scope f ≡ Ok g → IsKnownScope (behind scope f)
 unfolding head_typed vars_typed
@@ -210,10 +210,10 @@ continue_sound : (scope : Scope) (p : Place) (t : Stmt) → continue_typed scope
 unfolding continue_typed
 continue_sound scope p t h = if_ok scope.in_loop _ _ (Ok t) h (λ b e. subst (IsStmt scope (written.Continue p)) (ok_is _ t e) (continue_on b)) (λ b e. absurd (no_err _ t e))
 
-nothing_given : (of : Ty) → IsKnownType of → gives_nothing of ≡ true → of ≡ ty.Void
-nothing_given ty.Void k h = refl
-nothing_given ty.Unknown k h = absurd (cc)
-nothing_given _ k h = absurd (cc)
+nothing_returned : (of : Ty) → IsKnownType of → gives_nothing of ≡ true → of ≡ ty.Void
+nothing_returned ty.Void k h = refl
+nothing_returned ty.Unknown k h = absurd (cc)
+nothing_returned _ k h = absurd (cc)
 
 returned_sound : (classes : List Class) (of : Ty) (at : ℕ) (t : Typed) (e : Expr) → returned classes of at t ≡ Ok e → (fits classes of t.ty ≡ true) × (converted_to of (term_of t) ≡ e)
 unfolding returned
@@ -221,7 +221,7 @@ returned_sound classes of at t e h = if_ok (is_void of) _ _ (Ok e) h (λ b k. ab
 
 return_sound : (scope : Scope) → IsKnownScope scope → (p : Place) (e : Option written.Expr) (t : Stmt) → return_typed scope p e ≡ Ok t → IsStmt scope (written.Return p e) t
 unfolding return_typed
-return_sound scope k p None t h = if_ok (gives_nothing scope.gives) _ _ (Ok t) h (λ b e. subst (IsStmt scope (written.Return p None)) (ok_is _ t e) (return_nothing (nothing_given scope.gives k.gives b))) (λ b e. absurd (no_err _ t e))
+return_sound scope k p None t h = if_ok (gives_nothing scope.gives) _ _ (Ok t) h (λ b e. subst (IsStmt scope (written.Return p None)) (ok_is _ t e) (return_nothing (nothing_returned scope.gives k.gives b))) (λ b e. absurd (no_err _ t e))
 return_sound scope k p (Some e) t h =
     let v = bind_ok (typed scope.env false e) _ t h in
     let r = bind_ok (returned scope.env.heads.classes scope.gives p.at v.0) _ t v.2 in
@@ -296,7 +296,7 @@ mutual
   stmts_sound scope k (written.stmt s ss) ts h =
       let t = bind_ok (stmt_typed scope s) _ ts h in
       let r = bind_ok (stmts_typed (behind scope s) ss) _ ts t.2 in
-      subst (AreStmts scope (written.stmt s ss)) (ok_is _ ts r.2) (more_stmts (stmt_sound scope k s t.0 t.1) (stmts_sound (behind scope s) (behind_known scope s t.0 k t.1) ss r.0 r.1))
+      subst (AreStmts scope (written.stmt s ss)) (ok_is _ ts r.2) (more_stmts (stmt_sound scope k s t.0 t.1) (stmts_sound (behind scope s) (known_after scope s t.0 k t.1) ss r.0 r.1))
 
   pub cases_sound : (scope : Scope) → IsKnownScope scope → (k : Kind) (before : List Label) (cs : written.Cases) (rows : Cases) → cases_typed scope (Some k) before cs ≡ Ok rows → AreCases scope k before cs rows
   cases_sound scope known k before written.no_case rows h = subst (AreCases scope k before written.no_case) (ok_is _ rows h) no_more_cases

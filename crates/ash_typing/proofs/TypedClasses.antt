@@ -88,7 +88,7 @@ named_complete class c h e =
 
 -- members
 
-record MembersGone (env : Environment) (ms : Members) (written_members : List written.Member) (after : Members) : Type 0 where
+record MembersWalked (env : Environment) (ms : Members) (written_members : List written.Member) (after : Members) : Type 0 where
   can : CanTake ms.names (member_names written_members) (length (member_names written_members))
   fields : List Initialization
   are_fields : AreFields env (fields_of written_members) fields
@@ -98,7 +98,7 @@ record MembersGone (env : Environment) (ms : Members) (written_members : List wr
   constructs : Constructs env ms.class.name ms.class.constructor (constructors_of written_members) constructor
   is : after ≡ members_with ms (member_names written_members) (length (member_names written_members)) fields methods constructor
 
-members_sound : (env : Environment) → IsKnown env → (xs : List written.Member) (ms after : Members) → Distinct ms.names.taken → members_typed env ms xs ≡ Ok after → MembersGone env ms xs after
+members_sound : (env : Environment) → IsKnown env → (xs : List written.Member) (ms after : Members) → Distinct ms.names.taken → members_typed env ms xs ≡ Ok after → MembersWalked env ms xs after
 unfolding member_typed
 members_sound env known [] ms after d h = record {
   can = takes_none ms.names d;

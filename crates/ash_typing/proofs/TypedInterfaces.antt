@@ -61,13 +61,13 @@ signature_exact env m t is =
     let p = is.parameters in
     rw (sym n, sym r, types_of env m.parameters, sym p) refl
 
-record SignaturesGone (env : Environment) (ss : Signatures) (ms : List written.InterfaceMethod) (after : Signatures) : Type 0 where
+record SignaturesWalked (env : Environment) (ss : Signatures) (ms : List written.InterfaceMethod) (after : Signatures) : Type 0 where
   can : CanTake ss.names (map signature_name ms) (length ms)
   methods : List Signature
   are : AllZip (IsSignature env) ms methods
   is : after ≡ signatures_with ss (map signature_name ms) (length ms) methods
 
-signatures_sound : (env : Environment) (ms : List written.InterfaceMethod) (ss after : Signatures) → Distinct ss.names.taken → signatures_typed env ss ms ≡ Ok after → SignaturesGone env ss ms after
+signatures_sound : (env : Environment) (ms : List written.InterfaceMethod) (ss after : Signatures) → Distinct ss.names.taken → signatures_typed env ss ms ≡ Ok after → SignaturesWalked env ss ms after
 unfolding signature_typed
 signatures_sound env [] ss after d h = record { can = takes_none ss.names d; methods = []; are = tt; is = sym (ok_is ss after h) ∙ sym (signatures_with-none ss) }
 signatures_sound env (m ∷ ms) ss after d h =
@@ -170,13 +170,13 @@ listed_with-none listed = same_listed (grown listed.names [] 0) listed.names _ _
 listed_with-then : (listed : Listed) (x : List ℕ) (xs : List (List ℕ)) (t : Implementation) (ts : List Implementation) → listed_with (listed_with listed (x ∷ []) (t ∷ [])) xs ts ≡ listed_with listed (x ∷ xs) (t ∷ ts)
 listed_with-then listed x xs t ts = same_listed _ (grown listed.names (x ∷ xs) 0) _ _ (grown-then listed.names (x ∷ []) xs 0 0 0 refl) (append_assoc listed.interfaces (t ∷ []) ts)
 
-pub record ListedGone (env : Environment) (class : ℕ) (listed : Listed) (ns : List written.TypeName) (after : Listed) : Type 0 where
+pub record ListedWalked (env : Environment) (class : ℕ) (listed : Listed) (ns : List written.TypeName) (after : Listed) : Type 0 where
   pub can : CanTake listed.names (map listed_name ns) 0
   pub interfaces : List Implementation
   pub are : AllZip (IsListed env class) ns interfaces
   pub is : after ≡ listed_with listed (map listed_name ns) interfaces
 
-pub listed_sound : (env : Environment) (class : ℕ) (ns : List written.TypeName) (listed after : Listed) → Distinct listed.names.taken → all_listed env class listed ns ≡ Ok after → ListedGone env class listed ns after
+pub listed_sound : (env : Environment) (class : ℕ) (ns : List written.TypeName) (listed after : Listed) → Distinct listed.names.taken → all_listed env class listed ns ≡ Ok after → ListedWalked env class listed ns after
 unfolding listed_typed
 listed_sound env class [] listed after d h = record { can = takes_none listed.names d; interfaces = []; are = tt; is = sym (ok_is listed after h) ∙ sym (listed_with-none listed) }
 listed_sound env class (n ∷ ns) listed after d h =

@@ -67,7 +67,7 @@ no_longer xs = ap (λ (ys : List _). length ys) (append-nil xs)
 
 -- items
 
-pub record ItemsGone (env : Environment) (w : Walked) (is : List written.Item) (after : Walked) : Type 0 where
+pub record ItemsWalked (env : Environment) (w : Walked) (is : List written.Item) (after : Walked) : Type 0 where
   pub can : CanTake w.names (item_names is) (length (variable_names (globals_of is)))
   pub few : types_in w.typed + types_of is ≤ 256
   pub interfaces : List Interface
@@ -80,7 +80,7 @@ pub record ItemsGone (env : Environment) (w : Walked) (is : List written.Item) (
   pub are_globals : AllZip (AreVariables env) (globals_of is) globals
   pub made : after ≡ walked_with w (item_names is) (length (variable_names (globals_of is))) interfaces classes functions globals
 
-pub items_sound : (env : Environment) → IsKnown env → (is : List written.Item) (w after : Walked) → Distinct w.names.taken → types_in w.typed ≤ 256 → items_typed env w is ≡ Ok after → ItemsGone env w is after
+pub items_sound : (env : Environment) → IsKnown env → (is : List written.Item) (w after : Walked) → Distinct w.names.taken → types_in w.typed ≤ 256 → items_typed env w is ≡ Ok after → ItemsWalked env w is after
 unfolding item_typed
 items_sound env known [] w after d few h = record {
   can = takes_none w.names d;

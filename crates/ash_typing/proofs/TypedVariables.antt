@@ -95,13 +95,13 @@ row_with-then row x xs k v vs = same_row row.variables.line _ (grown row.names (
 
 -- variables of one type
 
-record Gone (env : Environment) (of : Ty) (row : Row) (ds : List written.Decl) (after : Row) : Type 0 where
+record DeclsWalked (env : Environment) (of : Ty) (row : Row) (ds : List written.Decl) (after : Row) : Type 0 where
   can : CanTake row.names (map decl_name ds) (length ds)
   values : List Initialization
   each : AllZip (IsDeclared env of) ds values
   is : after ≡ row_with row (map decl_name ds) (length ds) values
 
-decls_sound : (env : Environment) (at : ℕ) (of : Ty) → IsKnown env → IsVariableType of → (ds : List written.Decl) (row after : Row) → Distinct row.names.taken → decls_typed env at of row ds ≡ Ok after → Gone env of row ds after
+decls_sound : (env : Environment) (at : ℕ) (of : Ty) → IsKnown env → IsVariableType of → (ds : List written.Decl) (row after : Row) → Distinct row.names.taken → decls_typed env at of row ds ≡ Ok after → DeclsWalked env of row ds after
 decls_sound env at of known known_of [] row after d h = record { can = takes_none row.names d; values = []; each = tt; is = sym (ok_is row after h) ∙ sym (row_with-none row) }
 decls_sound env at of known known_of (x ∷ ds) row after d h =
     let p = bind_ok (placed row.names x.place.at x.name) _ after h in
@@ -130,7 +130,7 @@ decls_complete env at of known known_of (x ∷ ds) (v ∷ vs) row can each =
 
 -- the variables of one declaration
 
-pub record VarsGone (env : Environment) (names : Names) (v : written.Vars) (after : Row) : Type 0 where
+pub record VarsWalked (env : Environment) (names : Names) (v : written.Vars) (after : Row) : Type 0 where
   pub can : CanTake names (names_of v) (length v.decls)
   pub taken : after.names ≡ grown names (names_of v) (length v.decls)
   pub typed : AreVariables env v after.variables
@@ -138,7 +138,7 @@ pub record VarsGone (env : Environment) (names : Names) (v : written.Vars) (afte
 begun : Names → written.Vars → Row
 begun names v = record { names = names; variables = no_variables v.of }
 
-pub vars_sound : (env : Environment) → IsKnown env → (names : Names) (v : written.Vars) (after : Row) → Distinct names.taken → vars_typed env names v ≡ Ok after → VarsGone env names v after
+pub vars_sound : (env : Environment) → IsKnown env → (names : Names) (v : written.Vars) (after : Row) → Distinct names.taken → vars_typed env names v ≡ Ok after → VarsWalked env names v after
 unfolding vars_typed begun
 vars_sound env known names v after d h =
     let k = bind_ok (known_ty v.of (ty_in env v.of)) _ after h in

@@ -97,17 +97,17 @@ not_is : (left : Bool) (at b : ℕ) (t : Term) → t.ty ≡ ty.Bool → unary_at
 unfolding unary_at
 not_is left at b t h = rw h refl
 
-counted_is : (at b : ℕ) (step : Step) (t : Term) (stands : Place) (k : Kind) → assignable t.form t.tree ≡ Some stands → t.ty ≡ ty.Integer k → counted at step (placed b t) (assignable t.form t.tree) ≡ Ok (placed at (term (ty.Integer k) (Count stands k step)))
+counted_is : (at b : ℕ) (step : Step) (t : Term) (target : Place) (k : Kind) → assignable t.form t.tree ≡ Some target → t.ty ≡ ty.Integer k → counted at step (placed b t) (assignable t.form t.tree) ≡ Ok (placed at (term (ty.Integer k) (Count target k step)))
 unfolding counted
-counted_is at b step t stands k h i = rw (h, i) refl
+counted_is at b step t target k h i = rw (h, i) refl
 
-increment_is : (left : Bool) (at b : ℕ) (t : Term) (stands : Place) (k : Kind) → assignable t.form t.tree ≡ Some stands → t.ty ≡ ty.Integer k → unary_at left at unary.Increment (placed b t) ≡ Ok (placed at (term (ty.Integer k) (Count stands k steps.Increment)))
+increment_is : (left : Bool) (at b : ℕ) (t : Term) (target : Place) (k : Kind) → assignable t.form t.tree ≡ Some target → t.ty ≡ ty.Integer k → unary_at left at unary.Increment (placed b t) ≡ Ok (placed at (term (ty.Integer k) (Count target k steps.Increment)))
 unfolding unary_at
-increment_is left at b t stands k h i = counted_is at b steps.Increment t stands k h i
+increment_is left at b t target k h i = counted_is at b steps.Increment t target k h i
 
-decrement_is : (left : Bool) (at b : ℕ) (t : Term) (stands : Place) (k : Kind) → assignable t.form t.tree ≡ Some stands → t.ty ≡ ty.Integer k → unary_at left at unary.Decrement (placed b t) ≡ Ok (placed at (term (ty.Integer k) (Count stands k steps.Decrement)))
+decrement_is : (left : Bool) (at b : ℕ) (t : Term) (target : Place) (k : Kind) → assignable t.form t.tree ≡ Some target → t.ty ≡ ty.Integer k → unary_at left at unary.Decrement (placed b t) ≡ Ok (placed at (term (ty.Integer k) (Count target k steps.Decrement)))
 unfolding unary_at
-decrement_is left at b t stands k h i = counted_is at b steps.Decrement t stands k h i
+decrement_is left at b t target k h i = counted_is at b steps.Decrement t target k h i
 
 handle_is : (at b : ℕ) (of : Ty) (a : Form) (tree : Expr) (o : ObjectType) → object_of of ≡ Some o → unary_at false at unary.Handle (record { at = b; ty = of; form = a; tree = tree }) ≡ Ok (placed at (term (ty.Handle o) tree))
 unfolding unary_at
@@ -127,13 +127,13 @@ choice_is : (t x y : Term) (a b c : ℕ) (of : Ty) → t.ty ≡ ty.Bool → comm
 unfolding choice
 choice_is t x y a b c of h i = rw (h, i) refl
 
-assign_is : (classes : List Class) (t u : Term) (a b : ℕ) (stands : Place) → assignable t.form t.tree ≡ Some stands → is_stored t.form t.ty ≡ true → fits classes t.ty u.ty ≡ true → assigned classes (placed a t) assigns.Assign (placed b u) ≡ Ok (placed a (term t.ty (Assign stands (converted_to t.ty u))))
+assign_is : (classes : List Class) (t u : Term) (a b : ℕ) (target : Place) → assignable t.form t.tree ≡ Some target → is_stored t.form t.ty ≡ true → fits classes t.ty u.ty ≡ true → assigned classes (placed a t) assigns.Assign (placed b u) ≡ Ok (placed a (term t.ty (Assign target (converted_to t.ty u))))
 unfolding assigned stored
-assign_is classes t u a b stands p s h = rw (p, s, fitted_is classes t.ty b u h) refl
+assign_is classes t u a b target p s h = rw (p, s, fitted_is classes t.ty b u h) refl
 
-update_is : (classes : List Class) (op : AssignOp) (c : Calculator) (t u : Term) (a b : ℕ) (stands : Place) (j k : Kind) → operator_of op ≡ Some c → assignable t.form t.tree ≡ Some stands → is_stored t.form t.ty ≡ true → t.ty ≡ ty.Integer k → Meet (binary_of c) (term t.ty Null) u (operands.Integers j) → assigned classes (placed a t) op (placed b u) ≡ Ok (placed a (term t.ty (Update stands k (record { operator = c; of = j }) (right_of (binary_of c) (operands.Integers j) (term t.ty Null) u))))
+update_is : (classes : List Class) (op : AssignOp) (c : Calculator) (t u : Term) (a b : ℕ) (target : Place) (j k : Kind) → operator_of op ≡ Some c → assignable t.form t.tree ≡ Some target → is_stored t.form t.ty ≡ true → t.ty ≡ ty.Integer k → Meet (binary_of c) (term t.ty Null) u (operands.Integers j) → assigned classes (placed a t) op (placed b u) ≡ Ok (placed a (term t.ty (Update target k (record { operator = c; of = j }) (right_of (binary_of c) (operands.Integers j) (term t.ty Null) u))))
 unfolding assigned stored
-update_is classes op c t u a b stands j k e p s i m = rw (p, s, e, met_is (binary_of c) (term t.ty Null) u (operands.Integers j) a b m, i) refl
+update_is classes op c t u a b target j k e p s i m = rw (p, s, e, met_is (binary_of c) (term t.ty Null) u (operands.Integers j) a b m, i) refl
 
 updates : (op : AssignOp) (operator : Calculator) → operator_of op ≡ Some operator → is_assign op ≡ false
 updates assigns.Assign operator h = absurd (none-some operator h)

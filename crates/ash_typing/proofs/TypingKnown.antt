@@ -33,7 +33,7 @@ use Rattle.std.specs.Str.{bytes_eq}
 use Rattle.ash_typed.specs.Tree.{Number, Read, Stored, Held, This}
 use Rattle.ash_typing.specs.Environment.{Environment, Declared, Function, Interface, Class, Known, Callee, Invoked, first_from, last_named, declares, is_called, is_class, this_class, variable_in, callee_in, member_in, method_in, method_of_class, method_of_interface, method_of_array, method_of_kind, array_method_of, is_array_method, host_member_in, result_of, service_function, host_type, host_method, property, named_in, own_method_in, class_in, function_in, field_in, local_in, own_field_in, global_in, callee_beside, class_method, interface_method}
 use Rattle.ash_typing.specs.Typing.{IsKnown, IsKnownType, IsVariableType, IsResultType, IsKnownVariable, IsKnownFunction, IsKnownInterface, IsKnownClass, is_known, HasType, LinksHaveType, SuffixesHaveType, SuffixHasType, number, truth, null, this, name, call, brackets, to_integer, to_bool, new_array, cast, postfix, plus, minus, complement, not, increment, decrement, handle, handle_written, binary, conditional, assign, update, no_more, operated, no_suffixes, suffixed, field, method, index, increment_after, decrement_after}
-use Rattle.ash_typing.specs.Terms.{Term, taking, beside}
+use Rattle.ash_typing.specs.Terms.{Term, taking, adapted_to}
 
 -- what is looked up
 
@@ -126,22 +126,22 @@ outcome_known sort.Arithmetic (operands.Integers k) = refl
 outcome_known sort.Shift (operands.Integers k) = refl
 outcome_known _ _ = refl
 
-told : (t of : Ty) → is_known t ≡ true → Some t ≡ Some of → is_known of ≡ true
-told t of h e = subst (λ (x : Ty). is_known x ≡ true) (same_Some t of e) h
+known_if_some : (t of : Ty) → is_known t ≡ true → Some t ≡ Some of → is_known of ≡ true
+known_if_some t of h e = subst (λ (x : Ty). is_known x ≡ true) (same_Some t of e) h
 
-object_told : (b : Bool) (o : ObjectType) (of : Ty) → cond b (Some (ty.Handle o)) None ≡ Some of → is_known of ≡ true
-object_told true o of e = told (ty.Handle o) of refl e
-object_told false o of e = absurd (none-some of e)
+object_known : (b : Bool) (o : ObjectType) (of : Ty) → cond b (Some (ty.Handle o)) None ≡ Some of → is_known of ≡ true
+object_known true o of e = known_if_some (ty.Handle o) of refl e
+object_known false o of e = absurd (none-some of e)
 
 common_known : (a b of : Ty) → is_known a ≡ true → is_known b ≡ true → common a b ≡ Some of → is_known of ≡ true
 common_known ty.Unknown b of h k c = cc
-common_known (ty.Object o) b of h k c = object_told (gives_object o b) o of c
-common_known (ty.Handle o) b of h k c = object_told (gives_object o b) o of c
+common_known (ty.Object o) b of h k c = object_known (gives_object o b) o of c
+common_known (ty.Handle o) b of h k c = object_known (gives_object o b) o of c
 common_known a ty.Unknown of h k c = cc
-common_known ty.Bool ty.Bool of h k c = told ty.Bool of refl c
-common_known (ty.Integer j) (ty.Integer i) of h k c = told (ty.Integer (meeting j i)) of refl c
-common_known ty.Null (ty.Object o) of h k c = told (ty.Handle o) of refl c
-common_known ty.Null (ty.Handle o) of h k c = told (ty.Handle o) of refl c
+common_known ty.Bool ty.Bool of h k c = known_if_some ty.Bool of refl c
+common_known (ty.Integer j) (ty.Integer i) of h k c = known_if_some (ty.Integer (meeting j i)) of refl c
+common_known ty.Null (ty.Object o) of h k c = known_if_some (ty.Handle o) of refl c
+common_known ty.Null (ty.Handle o) of h k c = known_if_some (ty.Handle o) of refl c
 common_known a b of h k c = absurd (none-some of c)
 
 taken_known : (b : Bool) (k : Kind) (n : ℕ) (t : Term) → is_known t.ty ≡ true → is_known (cond b (record { ty = ty.Integer k; form = form.Number n; tree = Number k n }) t).ty ≡ true
@@ -153,9 +153,9 @@ taking_known (form.Number m) of (form.Number n) t h = h
 taking_known a (ty.Integer k) (form.Number n) t h = taken_known (holds k n) k n t h
 taking_known a of b t h = h
 
-pub beside_known : (s : Sort) (other t : Term) → is_known t.ty ≡ true → is_known (beside s other t).ty ≡ true
-beside_known sort.Shift other t h = h
-beside_known _ other t h = taking_known other.form other.ty t.form t h
+pub adapted_known : (s : Sort) (other t : Term) → is_known t.ty ≡ true → is_known (adapted_to s other t).ty ≡ true
+adapted_known sort.Shift other t h = h
+adapted_known _ other t h = taking_known other.form other.ty t.form t h
 
 -- members
 

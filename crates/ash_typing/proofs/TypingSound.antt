@@ -37,10 +37,10 @@ use Rattle.ash_typing.specs.Heads.{object_named, element_named}
 use Rattle.ash_typing.specs.Environment.{Environment, Class, Known, Callee, Invoked, variable_in, callee_in, member_in, method_in, array_built}
 use Rattle.ash_typing.specs.Expressions.{Typed, Met, typed, all_typed, links_typed, suffixes_typed, suffix_typed, call_typed, invocation_typed, called, callee_at, known_at, this_at, arguments_at, all_fitted, fitted, brought, operate, operated as joined, met, met_as, met_by, counted, altered, unary_at, integer_of, bool_of, handle_of, handle_at, convert_at, converting, choice, chosen, assigned, assigned_to, stored, updated, is_assign, field_of, member_at, method_of, invoked, invoked_at, made, read_at, integer_at, in_brackets, index_in, indexed_object, indexed, at_element, known_element, array_typed, cast_type, cast_at, placed, term_of}
 use Rattle.ash_typing.specs.Typing.{IsKnown, is_known, HasType, AllHaveType, LinksHaveType, SuffixesHaveType, SuffixHasType, AreArguments, no_arguments, argument, IsCastType, to_class, to_interface, number, truth, null, this, name, call, brackets, to_integer, to_bool, new_array, cast, postfix, plus, minus, complement, not, increment, decrement, handle, handle_written, binary, conditional, assign, update, none_left, each, no_more, operated, no_suffixes, suffixed, field, method, index, increment_after, decrement_after, Meet, left_of, right_of}
-use Rattle.ash_typing.proofs.TypingWords.{no_fault, same_ok, bind_ok, unconverted, beside_is, known_alone, right_is, calculated_integers}
-use Rattle.ash_typing.proofs.TypingKnown.{known_type, outcome_known, beside_known, suffix_known}
+use Rattle.ash_typing.proofs.TypingWords.{no_fault, same_ok, bind_ok, unconverted, adapted_is, known_alone, right_is, calculated_integers}
+use Rattle.ash_typing.proofs.TypingKnown.{known_type, outcome_known, adapted_known, suffix_known}
 use Rattle.ash_typing.proofs.TypingComplete.{terms}
-use Rattle.ash_typing.specs.Terms.{operator_of, is_stored, applied, call_of, assignable, handle_form, array_parameters, Term, term, number_term, beside, converted_to, right_by}
+use Rattle.ash_typing.specs.Terms.{operator_of, is_stored, applied, call_of, assignable, handle_form, array_parameters, Term, term, number_term, adapted_to, converted_to, right_by}
 
 -- what holds of what is answered holds of its equal
 pub at_ok : {A : Type 0} (Q : A → Type 0) (x y : A) → ◌≡◌ {A = Checking A} (Ok x) (Ok y) → Q x → Q y
@@ -174,10 +174,10 @@ index_object_ok t i _ r known h = absurd (no_fault _ r h)
 
 index_ok : (t i : Typed) (of : Ty) (r : Typed) → is_known of ≡ true → is_known i.ty ≡ true → indexed t of i ≡ Ok r → (e : Element) × (object_of of ≡ Some (objects.Array e)) × ((k : Kind) × (i.ty ≡ ty.Integer k) × (read_at t.at (ty_of_element e) (Read (Indexed t.tree (converted_to (ty.Integer kinds.Uint) (term_of i)) e)) ≡ r))
 unfolding indexed
-index_ok t i (ty.Object o) r known kept h = let x = index_object_ok t i o r kept h in (x.0, ap Some x.1, x.2)
-index_ok t i (ty.Handle o) r known kept h = let x = index_object_ok t i o r kept h in (x.0, ap Some x.1, x.2)
-index_ok t i ty.Unknown r known kept h = cc
-index_ok t i _ r known kept h = absurd (no_fault _ r h)
+index_ok t i (ty.Object o) r known as_value h = let x = index_object_ok t i o r as_value h in (x.0, ap Some x.1, x.2)
+index_ok t i (ty.Handle o) r known as_value h = let x = index_object_ok t i o r as_value h in (x.0, ap Some x.1, x.2)
+index_ok t i ty.Unknown r known as_value h = cc
+index_ok t i _ r known as_value h = absurd (no_fault _ r h)
 
 -- `cast<T>(e)`
 
@@ -196,12 +196,12 @@ cast_sound env left p to e o u r n c d known h =
 
 -- operators before an operand
 
-counted_ok : (at : ℕ) (step : Step) (u : Typed) (found : Option Place) (r : Typed) → is_known u.ty ≡ true → counted at step u found ≡ Ok r → (stands : Place) × (found ≡ Some stands) × ((k : Kind) × (u.ty ≡ ty.Integer k) × (made at (ty.Integer k) (Count stands k step) ≡ r))
+counted_ok : (at : ℕ) (step : Step) (u : Typed) (found : Option Place) (r : Typed) → is_known u.ty ≡ true → counted at step u found ≡ Ok r → (target : Place) × (found ≡ Some target) × ((k : Kind) × (u.ty ≡ ty.Integer k) × (made at (ty.Integer k) (Count target k step) ≡ r))
 unfolding counted
 counted_ok at step u None r known h = absurd (no_fault _ r h)
-counted_ok at step u (Some stands) r known h =
-    let k = bind_ok (integer_of u.at u.ty) (λ k. Ok (made at (ty.Integer k) (Count stands k step))) r h in
-    (stands, refl, (k.0, integer_ok u.at u.ty k.0 known k.1, same_ok (made at (ty.Integer k.0) (Count stands k.0 step)) r k.2))
+counted_ok at step u (Some target) r known h =
+    let k = bind_ok (integer_of u.at u.ty) (λ k. Ok (made at (ty.Integer k) (Count target k step))) r h in
+    (target, refl, (k.0, integer_ok u.at u.ty k.0 known k.1, same_ok (made at (ty.Integer k.0) (Count target k.0 step)) r k.2))
 
 handle_sound : (env : Environment) (left : Bool) (p : place.Place) (e : written.Expr) (u r : Typed) → HasType env false e (term_of u) → is_known u.ty ≡ true → handle_at left p.at u ≡ Ok r → HasType env left (written.Unary p unary.Handle e) (term_of r)
 handle_sound env true p e u r d known h = at_ok (λ r. HasType env true (written.Unary p unary.Handle e) (term_of r)) (record { at = p.at; ty = u.ty; form = handle_form u.form; tree = u.tree }) r h (handle_written d)
@@ -241,31 +241,31 @@ met_as_ok s x y None m h = absurd (no_fault _ m h)
 met_as_ok s x y (Some o) m h = (o, refl, same_ok _ m h)
 
 met_by_ok : (s : Sort) (t u : Term) (a b : ℕ) (m : Met) → is_known t.ty ≡ true → is_known u.ty ≡ true → met_by s (placed a t) (placed b u) ≡ Ok m → (o : Operands) × (meets s t.ty u.ty ≡ Some o) × (record { left = placed a t; operands = o; right = right_by s o u } ≡ m)
-met_by_ok s t u a b m known kept h =
-    let as_known : meets s (assumed s u.ty t.ty) (assumed s t.ty u.ty) ≡ meets s t.ty u.ty = rw (known_alone s u.ty t.ty known, known_alone s t.ty u.ty kept) refl in
+met_by_ok s t u a b m known as_value h =
+    let as_known : meets s (assumed s u.ty t.ty) (assumed s t.ty u.ty) ≡ meets s t.ty u.ty = rw (known_alone s u.ty t.ty known, known_alone s t.ty u.ty as_value) refl in
     let f = met_as_ok s (placed a t) (placed b u) (meets s t.ty u.ty) m (subst (λ found. met_as s (placed a t) (placed b u) found ≡ Ok m) as_known h) in
     (f.0, f.1, subst (λ (x : Expr). ◌≡◌ {A = Met} (record { left = placed a t; operands = f.0; right = x }) m) (right_is s f.0 b u) f.2)
 
-met_ok : (op : BinaryOp) (t u : Typed) (m : Met) → is_known t.ty ≡ true → is_known u.ty ≡ true → met op t u ≡ Ok m → (o : Operands) × Meet op (term_of t) (term_of u) o × (record { left = placed t.at (beside (sort_of op) (term_of u) (term_of t)); operands = o; right = right_of op o (term_of t) (term_of u) } ≡ m)
+met_ok : (op : BinaryOp) (t u : Typed) (m : Met) → is_known t.ty ≡ true → is_known u.ty ≡ true → met op t u ≡ Ok m → (o : Operands) × Meet op (term_of t) (term_of u) o × (record { left = placed t.at (adapted_to (sort_of op) (term_of u) (term_of t)); operands = o; right = right_of op o (term_of t) (term_of u) } ≡ m)
 unfolding met
-met_ok op t u m known kept h = met_by_ok (sort_of op) (beside (sort_of op) (term_of u) (term_of t)) (beside (sort_of op) (term_of t) (term_of u)) t.at u.at m (beside_known (sort_of op) (term_of u) (term_of t) known) (beside_known (sort_of op) (term_of t) (term_of u) kept) (rw (beside_is (sort_of op) (term_of u) (term_of t) t.at, beside_is (sort_of op) (term_of t) (term_of u) u.at) at h)
+met_ok op t u m known as_value h = met_by_ok (sort_of op) (adapted_to (sort_of op) (term_of u) (term_of t)) (adapted_to (sort_of op) (term_of t) (term_of u)) t.at u.at m (adapted_known (sort_of op) (term_of u) (term_of t) known) (adapted_known (sort_of op) (term_of t) (term_of u) as_value) (rw (adapted_is (sort_of op) (term_of u) (term_of t) t.at, adapted_is (sort_of op) (term_of t) (term_of u) u.at) at h)
 
 operate_ok : (op : BinaryOp) (t u r : Typed) → is_known t.ty ≡ true → is_known u.ty ≡ true → operate op t u ≡ Ok r → (o : Operands) × Meet op (term_of t) (term_of u) o × (term (outcome (sort_of op) o) (applied op o (left_of op o (term_of t) (term_of u)) (right_of op o (term_of t) (term_of u))) ≡ term_of r)
 unfolding operate
-operate_ok op t u r known kept h =
+operate_ok op t u r known as_value h =
     let m = bind_ok (met op t u) (λ m. Ok (joined op m)) r h in
-    let f = met_ok op t u m.0 known kept m.1 in
+    let f = met_ok op t u m.0 known as_value m.1 in
     (f.0, f.1, ap (λ m. term_of (joined op m)) f.2 ∙ ap term_of (same_ok (joined op m.0) r m.2))
 
 linked_by : {env : Environment} {t u v w : Term} {op : BinaryOp} {e : written.Expr} {ls : written.Links} {o : Operands} → HasType env false e u → Meet op t u o → term (outcome (sort_of op) o) (applied op o (left_of op o t u) (right_of op o t u)) ≡ v → LinksHaveType env v ls w → LinksHaveType env t (written.link op e ls) w
 linked_by {env} {w = w} {ls = ls} d m is rest = operated d m (subst (λ (v : Term). LinksHaveType env v ls w) (sym is) rest)
 
 one_link : (env : Environment) (t : Typed) (op : BinaryOp) (e : written.Expr) (ls : written.Links) (r : Typed) → IsKnown env → is_known t.ty ≡ true → Sound env false e → ((v : Typed) → is_known v.ty ≡ true → links_typed env v ls ≡ Ok r → LinksHaveType env (term_of v) ls (term_of r)) → links_typed env t (written.link op e ls) ≡ Ok r → LinksHaveType env (term_of t) (written.link op e ls) (term_of r)
-one_link env t op e ls r known kept sound rest h =
+one_link env t op e ls r known as_value sound rest h =
     let u = bind_ok (typed env false e) (λ operand. operate op t operand >>= λ both. links_typed env both ls) r h in
     let both = bind_ok (operate op t u.0) (λ both. links_typed env both ls) r u.2 in
     let d = sound u.0 u.1 in
-    let o = operate_ok op t u.0 both.0 kept (known_type d known) both.1 in
+    let o = operate_ok op t u.0 both.0 as_value (known_type d known) both.1 in
     let still = subst (λ (v : Term). is_known v.ty ≡ true) o.2 (outcome_known (sort_of op) o.0) in
     linked_by d o.1 o.2 (rest both.0 still both.2)
 
@@ -284,12 +284,12 @@ conditional_sound env left p c a b t x y r d f g known h =
 
 -- assignments
 
-assigned_ok : (classes : List Class) (t u : Typed) (op : AssignOp) (found : Option Place) (r : Typed) → assigned_to classes t op u found ≡ Ok r → (stands : Place) × (found ≡ Some stands) × ((is_stored t.form t.ty ≡ true) × (stored classes t.at t.ty stands (operator_of op) u ≡ Ok r))
+assigned_ok : (classes : List Class) (t u : Typed) (op : AssignOp) (found : Option Place) (r : Typed) → assigned_to classes t op u found ≡ Ok r → (target : Place) × (found ≡ Some target) × ((is_stored t.form t.ty ≡ true) × (stored classes t.at t.ty target (operator_of op) u ≡ Ok r))
 assigned_ok classes t u op None r h = absurd (no_fault _ r h)
-assigned_ok classes t u op (Some stands) r h = go (is_stored t.form t.ty) refl h
+assigned_ok classes t u op (Some target) r h = go (is_stored t.form t.ty) refl h
   where
-    go : (b : Bool) → is_stored t.form t.ty ≡ b → cond b (stored classes t.at t.ty stands (operator_of op) u) (broken rules.NotAssignable t.at) ≡ Ok r → (s : Place) × (Some stands ≡ Some s) × ((is_stored t.form t.ty ≡ true) × (stored classes t.at t.ty s (operator_of op) u ≡ Ok r))
-    go true e h = (stands, refl, (e, h))
+    go : (b : Bool) → is_stored t.form t.ty ≡ b → cond b (stored classes t.at t.ty target (operator_of op) u) (broken rules.NotAssignable t.at) ≡ Ok r → (s : Place) × (Some target ≡ Some s) × ((is_stored t.form t.ty ≡ true) × (stored classes t.at t.ty s (operator_of op) u ≡ Ok r))
+    go true e h = (target, refl, (e, h))
     go false e h = absurd (no_fault _ r h)
 
 plain_sound : (env : Environment) (left : Bool) (p : place.Place) (e v : written.Expr) (t u r : Typed) → HasType env true e (term_of t) → HasType env false v (term_of u) → assigned env.heads.classes t assigns.Assign u ≡ Ok r → HasType env left (written.Assign p e assigns.Assign v) (term_of r)
@@ -302,13 +302,13 @@ plain_sound env left p e v t u r d f h =
 
 update_sound : (env : Environment) (left : Bool) (p : place.Place) (op : AssignOp) (c : Calculator) (e v : written.Expr) (t u r : Typed) → operator_of op ≡ Some c → HasType env false e (term_of t) → HasType env false v (term_of u) → is_known t.ty ≡ true → is_known u.ty ≡ true → assigned env.heads.classes t op u ≡ Ok r → HasType env left (written.Assign p e op v) (term_of r)
 unfolding assigned stored
-update_sound env left p op c e v t u r is d f known kept h =
+update_sound env left p op c e v t u r is d f known as_value h =
     let a = assigned_ok env.heads.classes t u op (assignable t.form t.tree) r h in
     let whole : updated t.at t.ty a.0 c u ≡ Ok r = subst (λ q. stored env.heads.classes t.at t.ty a.0 q u ≡ Ok r) is ((a.2).1) in
     let m = bind_ok (met (binary_of c) (made t.at t.ty Null) u) (λ m. integer_of t.at t.ty >>= λ k. Ok (made t.at (ty.Integer k) (Update a.0 k (record { operator = c; of = integers_in m.operands }) m.right))) r whole in
     let k = bind_ok (integer_of t.at t.ty) (λ k. Ok (made t.at (ty.Integer k) (Update a.0 k (record { operator = c; of = integers_in (m.0).operands }) (m.0).right))) r m.2 in
     let i = integer_ok t.at t.ty k.0 known k.1 in
-    let n = met_ok (binary_of c) (made t.at t.ty Null) u m.0 known kept m.1 in
+    let n = met_ok (binary_of c) (made t.at t.ty Null) u m.0 known as_value m.1 in
     let integers : n.0 ≡ operands.Integers (integers_in n.0) = calculated_integers c _ _ n.0 n.1 in
     let rule = update is d a.1 ((a.2).0) i f (subst (λ (o : Operands). Meet (binary_of c) (term t.ty Null) (term_of u) o) integers n.1) in
     let back = subst (λ (o : Operands). HasType env left (written.Assign p e op v) (term t.ty (Update a.0 k.0 (record { operator = c; of = integers_in n.0 }) (right_of (binary_of c) o (term t.ty Null) (term_of u))))) (sym integers) rule in
@@ -317,8 +317,8 @@ update_sound env left p op c e v t u r is d f known kept h =
     at_ok (λ r. HasType env left (written.Assign p e op v) (term_of r)) (made t.at (ty.Integer k.0) (Update a.0 k.0 (record { operator = c; of = integers_in (m.0).operands }) (m.0).right)) r k.2 all
 
 assign_sound : (env : Environment) (left : Bool) (p : place.Place) (op : AssignOp) (e v : written.Expr) (t u r : Typed) → HasType env (is_assign op) e (term_of t) → HasType env false v (term_of u) → is_known t.ty ≡ true → is_known u.ty ≡ true → assigned env.heads.classes t op u ≡ Ok r → HasType env left (written.Assign p e op v) (term_of r)
-assign_sound env left p assigns.Assign e v t u r d f known kept h = plain_sound env left p e v t u r d f h
-assign_sound env left p _ e v t u r d f known kept h = update_sound env left p _ _ e v t u r refl d f known kept h
+assign_sound env left p assigns.Assign e v t u r d f known as_value h = plain_sound env left p e v t u r d f h
+assign_sound env left p _ e v t u r d f known as_value h = update_sound env left p _ _ e v t u r refl d f known as_value h
 
 -- suffixes
 
@@ -400,25 +400,25 @@ mutual
       at_ok (λ us. AllHaveType env (written.expr e es) (terms us)) (t.0 ∷ ts.0) us ts.2 (each (sound env known false e t.0 t.1) (all_sound env known es ts.0 ts.1))
 
   links_sound : (env : Environment) → IsKnown env → (ls : written.Links) (t r : Typed) → is_known t.ty ≡ true → links_typed env t ls ≡ Ok r → LinksHaveType env (term_of t) ls (term_of r)
-  links_sound env known written.no_link t r kept h = at_ok (λ r. LinksHaveType env (term_of t) written.no_link (term_of r)) t r h no_more
-  links_sound env known (written.link op e ls) t r kept h = one_link env t op e ls r known kept (sound env known false e) (λ v k g. links_sound env known ls v r k g) h
+  links_sound env known written.no_link t r as_value h = at_ok (λ r. LinksHaveType env (term_of t) written.no_link (term_of r)) t r h no_more
+  links_sound env known (written.link op e ls) t r as_value h = one_link env t op e ls r known as_value (sound env known false e) (λ v k g. links_sound env known ls v r k g) h
 
   suffixes_sound : (env : Environment) → IsKnown env → (ss : written.Suffixes) (t r : Typed) → is_known t.ty ≡ true → suffixes_typed env t ss ≡ Ok r → SuffixesHaveType env (term_of t) ss (term_of r)
-  suffixes_sound env known written.no_suffix t r kept h = at_ok (λ r. SuffixesHaveType env (term_of t) written.no_suffix (term_of r)) t r h no_suffixes
-  suffixes_sound env known (written.suffix s ss) t r kept h =
+  suffixes_sound env known written.no_suffix t r as_value h = at_ok (λ r. SuffixesHaveType env (term_of t) written.no_suffix (term_of r)) t r h no_suffixes
+  suffixes_sound env known (written.suffix s ss) t r as_value h =
       let next = bind_ok (suffix_typed env t s) (λ next. suffixes_typed env next ss) r h in
-      let d = suffix_sound env known s t next.0 kept next.1 in
+      let d = suffix_sound env known s t next.0 as_value next.1 in
       suffixed d (suffixes_sound env known ss next.0 r (suffix_known d known) next.2)
 
   suffix_sound : (env : Environment) → IsKnown env → (s : written.Suffix) (t r : Typed) → is_known t.ty ≡ true → suffix_typed env t s ≡ Ok r → SuffixHasType env (term_of t) s (term_of r)
-  suffix_sound env known (written.Field p text) t r kept h =
-      let f = field_ok env t t.ty p.at text r kept h in
+  suffix_sound env known (written.Field p text) t r as_value h =
+      let f = field_ok env t t.ty p.at text r as_value h in
       subst (λ r. SuffixHasType env (term_of t) (written.Field p text) (term_of r)) (((f.2).2)) (field f.1 ((f.2).1))
-  suffix_sound env known (written.Method p text es) t r kept h = method_sound env t p text es r kept (all_sound env known es) h
-  suffix_sound env known (written.Index e) t r kept h = walked env false e (λ i. indexed t t.ty i) r (SuffixHasType env (term_of t) (written.Index e) (term_of r)) known (sound env known false e) h (λ u d k g. let x = index_ok t u t.ty r kept k g in subst (λ r. SuffixHasType env (term_of t) (written.Index e) (term_of r)) ((x.2).2) (index x.1 d ((x.2).1)))
-  suffix_sound env known written.Increment t r kept h =
-      let c = counted_ok t.at steps.IncrementAfter t (assignable t.form t.tree) r kept h in
+  suffix_sound env known (written.Method p text es) t r as_value h = method_sound env t p text es r as_value (all_sound env known es) h
+  suffix_sound env known (written.Index e) t r as_value h = walked env false e (λ i. indexed t t.ty i) r (SuffixHasType env (term_of t) (written.Index e) (term_of r)) known (sound env known false e) h (λ u d k g. let x = index_ok t u t.ty r as_value k g in subst (λ r. SuffixHasType env (term_of t) (written.Index e) (term_of r)) ((x.2).2) (index x.1 d ((x.2).1)))
+  suffix_sound env known written.Increment t r as_value h =
+      let c = counted_ok t.at steps.IncrementAfter t (assignable t.form t.tree) r as_value h in
       subst (λ r. SuffixHasType env (term_of t) written.Increment (term_of r)) ((c.2).2) (increment_after c.1 ((c.2).1))
-  suffix_sound env known written.Decrement t r kept h =
-      let c = counted_ok t.at steps.DecrementAfter t (assignable t.form t.tree) r kept h in
+  suffix_sound env known written.Decrement t r as_value h =
+      let c = counted_ok t.at steps.DecrementAfter t (assignable t.form t.tree) r as_value h in
       subst (λ r. SuffixHasType env (term_of t) written.Decrement (term_of r)) ((c.2).2) (decrement_after c.1 ((c.2).1))

@@ -28,7 +28,7 @@ use Rattle.ash_typed.specs.declared.tree.operations.Operands.TheVariants as oper
 use Rattle.ash_typing.specs.declared.forms.Sort.{Sort}
 use Rattle.ash_typing.specs.declared.forms.Sort.TheVariants as sort
 use Rattle.ash_typed.specs.Tree.{Expr, Exprs, Number, Truth, Null, This, Read, Invoke, Convert, Alter, Operate, Conditional, Assign, Update, Count, Call, Place, Stored, Held, place_in, converted}
-use Rattle.ash_typed.specs.TypeOf.{type_of, type_of_place, type_of_member, type_of_element, result_of_method, result_of_target, value, given, kept, chosen_type}
+use Rattle.ash_typed.specs.TypeOf.{type_of, type_of_place, type_of_member, type_of_element, result_of_method, result_of_target, value, value_of_result, as_value, chosen_type}
 use Rattle.ash_typed.specs.declared.types.VarType.{VarType}
 use Rattle.ash_typed.specs.declared.types.VarType.TheVariants as vars
 use Rattle.ash_typing.specs.Types.{var_type, result_type, ty_of_var, value_type, is_same_kind, gives_object, common, object_of, meeting, sort_of, integers_in, meets, outcome, ty_of, ty_of_element}
@@ -43,7 +43,7 @@ use Rattle.ash_typing.proofs.TypingKnown.{known_type, variable_known, callee_kno
 -- what names stand for
 
 abbrev IsTyped : Known → Type 0
-IsTyped known = type_of known.0 ≡ value (kept (var_type known.1))
+IsTyped known = type_of known.0 ≡ value (as_value (var_type known.1))
 
 abbrev IsTypedMember : Member × Ty → Type 0
 IsTypedMember found = type_of_member found.0 ≡ var_type found.1
@@ -65,7 +65,7 @@ variable_type : (env : Environment) (text : List ℕ) → IfSome (variable_in en
 unfolding variable_in
 variable_type env text =
     let local = if_map IsTyped (λ (found : ℕ × Ty). (Read (Stored (variables.Local found.0 (var_type found.1))), found.1)) (last_named text 0 None env.locals) (if_all (last_named text 0 None env.locals) (λ found. refl)) in
-    let own = if_any IsTyped (λ (c : ℕ × Class). option_map (λ (found : Member × Ty). (Read (Held (This c.0) found.0), found.1)) (field_in c.0 c.1 text)) (this_class env) (λ c. if_map IsTyped (λ (found : Member × Ty). (Read (Held (This c.0) found.0), found.1)) (field_in c.0 c.1 text) (if_weaker (field_in c.0 c.1 text) (λ found h. ap (λ (of : VarType). value (kept of)) h) (field_type c.0 c.1 text))) in
+    let own = if_any IsTyped (λ (c : ℕ × Class). option_map (λ (found : Member × Ty). (Read (Held (This c.0) found.0), found.1)) (field_in c.0 c.1 text)) (this_class env) (λ c. if_map IsTyped (λ (found : Member × Ty). (Read (Held (This c.0) found.0), found.1)) (field_in c.0 c.1 text) (if_weaker (field_in c.0 c.1 text) (λ found h. ap (λ (of : VarType). value (as_value of)) h) (field_type c.0 c.1 text))) in
     let global = if_map IsTyped (λ (found : ℕ × Declared). (Read (Stored (variables.Global found.0 (var_type found.1.of))), found.1.of)) (first_from (declares text) 0 env.heads.globals) (if_all (first_from (declares text) 0 env.heads.globals) (λ found. refl)) in
     if_or IsTyped (local_in env.locals text) (option_or (own_field_in env text) (global_in env.heads.globals text)) local (if_or IsTyped (own_field_in env text) (global_in env.heads.globals text) own global)
 
@@ -102,7 +102,7 @@ array_method_type of arrays.InsertLast = refl
 array_method_type of arrays.RemoveLast = refl
 array_method_type of arrays.IsEmpty = refl
 
-element_type : (of : Element) → value (kept (type_of_element of)) ≡ value_type (ty_of_element of)
+element_type : (of : Element) → value (as_value (type_of_element of)) ≡ value_type (ty_of_element of)
 element_type elements.Bool = refl
 element_type (elements.Integer k) = refl
 element_type (elements.Class class) = refl
@@ -123,19 +123,19 @@ method_type env (OfInterface i) text = if_any IsTypedMethod (interface_method i 
 method_type env (OfArray of) text = let found = find (is_array_method text) (arrays.Length ∷ arrays.Resize ∷ arrays.InsertLast ∷ arrays.RemoveLast ∷ arrays.IsEmpty ∷ []) in if_map IsTypedMethod (array_method_of of) found (if_all found (array_method_type of))
 method_type env (OfHost i) text = if_any IsTypedMethod host_method (host_member_in env.registered i text) host_method_type
 
-call_type : (c : Callable) (parameters : List VarType) (es : Exprs) → type_of (call_of c parameters es) ≡ given (result_of c)
+call_type : (c : Callable) (parameters : List VarType) (es : Exprs) → type_of (call_of c parameters es) ≡ value_of_result (result_of c)
 call_type (callables.OwnMethod class place of) parameters es = refl
 call_type (callables.Target target) parameters es = refl
 
 -- types of variables and results
 
-pub variable_value : (of : Ty) → IsVariableType of → value (kept (var_type of)) ≡ value_type of
+pub variable_value : (of : Ty) → IsVariableType of → value (as_value (var_type of)) ≡ value_type of
 variable_value ty.Void h = cc
 variable_value ty.Null h = cc
 variable_value ty.Unknown h = cc
 variable_value _ h = refl
 
-pub result_value : (of : Ty) → IsResultType of → given (result_type of) ≡ value_type of
+pub result_value : (of : Ty) → IsResultType of → value_of_result (result_type of) ≡ value_type of
 result_value ty.Void h = refl
 result_value ty.Null h = cc
 result_value ty.Unknown h = cc
@@ -183,11 +183,11 @@ converted_type k j t h i = rw i (integer_converted k j t.tree (h ∙ ap value_ty
 
 -- places
 
-place_type : (e : Expr) (at : Place) → place_in e ≡ Some at → type_of e ≡ value (kept (type_of_place at))
-place_type (Read p) at h = ap (λ (p : Place). value (kept (type_of_place p))) (same_Some p at h)
+place_type : (e : Expr) (at : Place) → place_in e ≡ Some at → type_of e ≡ value (as_value (type_of_place at))
+place_type (Read p) at h = ap (λ (p : Place). value (as_value (type_of_place p))) (same_Some p at h)
 place_type _ at h = absurd (none-some at h)
 
-assigned_type : (f : Form) (e : Expr) (at : Place) → assignable f e ≡ Some at → type_of e ≡ value (kept (type_of_place at))
+assigned_type : (f : Form) (e : Expr) (at : Place) → assignable f e ≡ Some at → type_of e ≡ value (as_value (type_of_place at))
 assigned_type form.Place e at h = place_type e at h
 assigned_type form.HandlePlace e at h = place_type e at h
 assigned_type _ e at h = absurd (none-some at h)
@@ -221,10 +221,10 @@ applied_type binary.Xor o a b x y h = refl
 applied_type binary.And o a b x y h = refl
 applied_type binary.Or o a b x y h = refl
 
-pub kept_type : (of : Ty) (o : ObjectType) → object_of of ≡ Some o → value_type of ≡ value (vars.Handle o)
-kept_type (ty.Object p) o h = ap (λ (x : ObjectType). value (vars.Handle x)) (same_Some p o h)
-kept_type (ty.Handle p) o h = ap (λ (x : ObjectType). value (vars.Handle x)) (same_Some p o h)
-kept_type _ o h = absurd (none-some o h)
+pub value_type_of_object : (of : Ty) (o : ObjectType) → object_of of ≡ Some o → value_type of ≡ value (vars.Handle o)
+value_type_of_object (ty.Object p) o h = ap (λ (x : ObjectType). value (vars.Handle x)) (same_Some p o h)
+value_type_of_object (ty.Handle p) o h = ap (λ (x : ObjectType). value (vars.Handle x)) (same_Some p o h)
+value_type_of_object _ o h = absurd (none-some o h)
 
 -- branches
 
@@ -255,7 +255,7 @@ mutual
   type_is null known = refl
   type_is (this h) known = refl
   type_is {env} (name {text = text} {known = found} h) known = at_some IsTyped (variable_in env text) found (variable_type env text) h ∙ variable_value found.1 (at_some (λ found. IsVariableType found.1) (variable_in env text) found (variable_known env text known) h)
-  type_is {env} (call {text = text} {callee = callee} {parameters = parameters} {trees = trees} c q all args) known = call_type callee.target (map var_type parameters) trees ∙ ap given (at_some IsTypedCallee (callee_in env text) callee (callee_type env text) c) ∙ result_value callee.result (at_some (λ callee. IsResultType callee.result) (callee_in env text) callee (callee_known env text known) c)
+  type_is {env} (call {text = text} {callee = callee} {parameters = parameters} {trees = trees} c q all args) known = call_type callee.target (map var_type parameters) trees ∙ ap value_of_result (at_some IsTypedCallee (callee_in env text) callee (callee_type env text) c) ∙ result_value callee.result (at_some (λ callee. IsResultType callee.result) (callee_in env text) callee (callee_known env text known) c)
   type_is (brackets h) known = type_is h known
   type_is (to_integer {t = t} {j = j} {k = k} h i l) known = converted_type k j t (type_is h known) l
   type_is (to_bool h i l) known = type_is h known ∙ ap value_type l
@@ -268,7 +268,7 @@ mutual
   type_is (not h i) known = refl
   type_is (increment h i l) known = refl
   type_is (decrement h i l) known = refl
-  type_is (handle {t = t} {o = o} h i) known = type_is h known ∙ kept_type t.ty o i
+  type_is (handle {t = t} {o = o} h i) known = type_is h known ∙ value_type_of_object t.ty o i
   type_is (handle_written h) known = type_is h known
   type_is (operators h ls) known = links_type ls known (type_is h known)
   type_is (conditional {x = x} {y = y} {of = of} h i k l m) known = chosen_is x.ty y.ty of x.tree y.tree (known_type k known) (known_type l known) (type_is k known) (type_is l known) m
@@ -284,8 +284,8 @@ mutual
   suffixes_type (suffixed s rest) known h = suffixes_type rest known (suffix_type s known)
 
   suffix_type : {env : Environment} {t : Term} {s : written.Suffix} {u : Term} → SuffixHasType env t s u → IsKnown env → type_of u.tree ≡ value_type u.ty
-  suffix_type {env} (field {text = text} {o = o} {found = found} h i) known = ap (λ (of : VarType). value (kept of)) (at_some IsTypedMember (member_in env o text) found (member_type env o text) i) ∙ variable_value found.1 (at_some (λ found. IsVariableType found.1) (member_in env o text) found (member_known env o text known) i)
-  suffix_type {env} (method {text = text} {o = o} {m = m} h i all args) known = ap given (at_some IsTypedMethod (method_in env o text) m (method_type env o text) i) ∙ result_value m.result (at_some (λ m. IsResultType m.result) (method_in env o text) m (method_known env o text known) i)
+  suffix_type {env} (field {text = text} {o = o} {found = found} h i) known = ap (λ (of : VarType). value (as_value of)) (at_some IsTypedMember (member_in env o text) found (member_type env o text) i) ∙ variable_value found.1 (at_some (λ found. IsVariableType found.1) (member_in env o text) found (member_known env o text known) i)
+  suffix_type {env} (method {text = text} {o = o} {m = m} h i all args) known = ap value_of_result (at_some IsTypedMethod (method_in env o text) m (method_type env o text) i) ∙ result_value m.result (at_some (λ m. IsResultType m.result) (method_in env o text) m (method_known env o text known) i)
   suffix_type (index {elements = of} h d i) known = element_type of
   suffix_type (increment_after h i) known = refl
   suffix_type (decrement_after h i) known = refl

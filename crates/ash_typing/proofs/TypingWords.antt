@@ -20,7 +20,7 @@ use Rattle.ash_typing.specs.Types.{is_same_kind, meeting, holds, sort_of, binary
 use Rattle.ash_typed.specs.Tree.{Number}
 use Rattle.ash_typing.specs.Expressions.{adapted, met, placed, term_of}
 use Rattle.ash_typing.specs.Typing.{is_known, Meet, right_of}
-use Rattle.ash_typing.specs.Terms.{Term, taking, beside, converted_to, right_by}
+use Rattle.ash_typing.specs.Terms.{Term, taking, adapted_to, converted_to, right_by}
 
 -- answers
 
@@ -58,16 +58,16 @@ unconverted k t h = rw h (rw (same_kind k) refl)
 
 -- operands
 
-pub beside_is : (s : Sort) (other t : Term) (at : ℕ) → adapted s other.form other.ty (placed at t) ≡ placed at (beside s other t)
+pub adapted_is : (s : Sort) (other t : Term) (at : ℕ) → adapted s other.form other.ty (placed at t) ≡ placed at (adapted_to s other t)
 unfolding adapted
-beside_is s other t at = refl
+adapted_is s other t at = refl
 
-pub known_alone : (s : Sort) (beside of : Ty) → is_known of ≡ true → assumed s beside of ≡ of
+pub known_alone : (s : Sort) (adapted_to of : Ty) → is_known of ≡ true → assumed s adapted_to of ≡ of
 known_alone sort.Equality ty.Bool ty.Unknown h = cc
-known_alone sort.Identity beside ty.Unknown h = cc
-known_alone sort.Logic beside ty.Unknown h = cc
-known_alone s beside ty.Unknown h = cc
-known_alone s beside of h = refl
+known_alone sort.Identity adapted_to ty.Unknown h = cc
+known_alone sort.Logic adapted_to ty.Unknown h = cc
+known_alone s adapted_to ty.Unknown h = cc
+known_alone s adapted_to of h = refl
 
 pub meets_assumed : (s : Sort) (x y : Ty) (o : Operands) → meets s x y ≡ Some o → meets s (assumed s y x) (assumed s x y) ≡ Some o
 meets_assumed sort.Identity ty.Unknown ty.Unknown o h = h
@@ -107,6 +107,6 @@ pub right_is : (s : Sort) (o : Operands) (b : ℕ) (u : Term) → right_by s o (
 right_is sort.Shift o b u = refl
 right_is _ o b u = refl
 
-pub met_is : (op : BinaryOp) (t u : Term) (o : Operands) (a b : ℕ) → Meet op t u o → met op (placed a t) (placed b u) ≡ Ok (record { left = placed a (beside (sort_of op) u t); operands = o; right = right_of op o t u })
+pub met_is : (op : BinaryOp) (t u : Term) (o : Operands) (a b : ℕ) → Meet op t u o → met op (placed a t) (placed b u) ≡ Ok (record { left = placed a (adapted_to (sort_of op) u t); operands = o; right = right_of op o t u })
 unfolding met
-met_is op t u o a b h = rw (beside_is (sort_of op) u t a, beside_is (sort_of op) t u b, meets_assumed (sort_of op) (beside (sort_of op) u t).ty (beside (sort_of op) t u).ty o h, right_is (sort_of op) o b (beside (sort_of op) t u)) refl
+met_is op t u o a b h = rw (adapted_is (sort_of op) u t a, adapted_is (sort_of op) t u b, meets_assumed (sort_of op) (adapted_to (sort_of op) u t).ty (adapted_to (sort_of op) t u).ty o h, right_is (sort_of op) o b (adapted_to (sort_of op) t u)) refl

@@ -34,7 +34,7 @@ use Rattle.ash_typed.specs.Tree.{Expr, Truth, Null, This, Read, Invoke, Cast, Al
 use Rattle.ash_typing.specs.Fitting.{fits}
 use Rattle.ash_typing.specs.Heads.{object_named, element_named}
 use Rattle.ash_typing.specs.Environment.{Environment, Class, Known, Callee, Invoked, variable_in, callee_in, member_in, method_in, array_built}
-use Rattle.ash_typing.specs.Terms.{operand_type, applied, assignable, bracketed, handle_form, operator_of, is_stored, call_of, array_parameters, Term, term, read_term, number_term, converted_to, right_by, beside_by}
+use Rattle.ash_typing.specs.Terms.{operand_type, applied, assignable, bracketed, handle_form, operator_of, is_stored, call_of, array_parameters, Term, term, read_term, number_term, converted_to, right_by, adapted_by}
 
 -- a typed expression, with the offset of its first token and what it is by itself
 pub record Typed : Type 0 where
@@ -86,7 +86,7 @@ handle_of at _ = broken TypeMismatch at
 
 -- the operand of an operator, beside one of this form and type
 unfoldable pub adapted : Sort → Form → Ty → Typed → Typed
-adapted s other of t = placed t.at (beside_by s other of (term_of t))
+adapted s other of t = placed t.at (adapted_by s other of (term_of t))
 
 -- operators between two operands
 

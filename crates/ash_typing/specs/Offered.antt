@@ -16,12 +16,12 @@ kind_in (host.AType name kind) = Some kind
 kind_in _ = None
 
 -- what the factory of a registered type of this kind takes
-abbrev pub factory_taking : host.Call → Option (List Primitive)
-factory_taking (host.AFactory of parameters) = Some parameters
-factory_taking _ = None
+abbrev pub parameters_of_factory : host.Call → Option (List Primitive)
+parameters_of_factory (host.AFactory of parameters) = Some parameters
+parameters_of_factory _ = None
 
 abbrev pub factory_at : List host.Call → ℕ → host.Call → Option (List Primitive)
-factory_at calls kind (host.AType name other) = if nat_eq kind other then option_and_then factory_taking (find (host.is_factory_of name) calls) else None
+factory_at calls kind (host.AType name other) = if nat_eq kind other then option_and_then parameters_of_factory (find (host.is_factory_of name) calls) else None
 factory_at calls kind _ = None
 
 -- the method, the property and the function of a number

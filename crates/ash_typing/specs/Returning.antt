@@ -31,8 +31,8 @@ has_default (next_case (labelled p l ss) cs) = is_default l || has_default cs
 
 -- what is said of the last label, where others follow by those
 abbrev pub last_of : Bool → Cases → Bool → Bool
-last_of here no_case behind = here
-last_of here (next_case c cs) behind = behind
+last_of here no_case later = here
+last_of here (next_case c cs) later = later
 
 abbrev mutual
   pub returns : Stmt → Bool

@@ -66,13 +66,13 @@ taking _ (ty.Integer k) (form.Number n) t = if holds k n then record { ty = ty.I
 taking _ _ _ t = t
 
 -- the operand of an operator beside one of this form and type: the two of a shift have a type each
-abbrev pub beside_by : Sort → Form → Ty → Term → Term
-beside_by sort.Shift form of t = t
-beside_by _ form of t = taking form of t.form t
+abbrev pub adapted_by : Sort → Form → Ty → Term → Term
+adapted_by sort.Shift form of t = t
+adapted_by _ form of t = taking form of t.form t
 
 -- the operand of an operator beside another operand
-abbrev pub beside : Sort → Term → Term → Term
-beside s other t = beside_by s other.form other.ty t
+abbrev pub adapted_to : Sort → Term → Term → Term
+adapted_to s other t = adapted_by s other.form other.ty t
 
 abbrev pub operand_type : Operands → Ty
 operand_type (operands.Integers k) = ty.Integer k

@@ -24,7 +24,7 @@ use Rattle.ash_typing.specs.declared.forms.Operator.{Operator}
 use Rattle.ash_typing.specs.declared.forms.Operator.TheVariants as operators
 use Rattle.ash_typed.specs.declared.tree.operations.Operands.{Operands}
 use Rattle.ash_typed.specs.declared.tree.operations.Operands.TheVariants as operands
-use Rattle.ash_typed.specs.TypeOf.{ValueType, no_value, null_value, value, kept}
+use Rattle.ash_typed.specs.TypeOf.{ValueType, no_value, null_value, value, as_value}
 
 -- integer types
 
@@ -163,7 +163,7 @@ ty_of_var (vars.Handle o) = ty.Handle o
 abbrev pub value_type : Ty → ValueType
 value_type ty.Void = no_value
 value_type ty.Null = null_value
-value_type of = value (kept (var_type of))
+value_type of = value (as_value (var_type of))
 
 -- types that are written
 

@@ -35,7 +35,7 @@ use Rattle.ash_typing.specs.Fitting.{fits}
 use Rattle.ash_typing.specs.Heads.{object_named, element_named}
 use Rattle.ash_typing.specs.Environment.{Environment, Declared, Function, Interface, Class, Known, Callee, Invoked, variable_in, callee_in, member_in, method_in, construction}
 use Rattle.ash_typed.specs.StatementTree.{Initialization}
-use Rattle.ash_typing.specs.Terms.{operand_type, applied, operator_of, is_stored, call_of, assignable, bracketed, handle_form, array_parameters, initialization, Term, term, read_term, number_term, converted_to, beside, right_by}
+use Rattle.ash_typing.specs.Terms.{operand_type, applied, operator_of, is_stored, call_of, assignable, bracketed, handle_form, array_parameters, initialization, Term, term, read_term, number_term, converted_to, adapted_to, right_by}
 
 -- an environment whose types are known
 
@@ -80,15 +80,15 @@ pub record IsKnown (env : Environment) : Type 0 where
 
 -- The operator takes the two terms, each beside the other, for these operands.
 abbrev pub Meet : BinaryOp → Term → Term → Operands → Type 0
-Meet op t u o = meets (sort_of op) (beside (sort_of op) u t).ty (beside (sort_of op) t u).ty ≡ Some o
+Meet op t u o = meets (sort_of op) (adapted_to (sort_of op) u t).ty (adapted_to (sort_of op) t u).ty ≡ Some o
 
 -- what becomes of the left one
 abbrev pub left_of : BinaryOp → Operands → Term → Term → Expr
-left_of op o t u = converted_to (operand_type o) (beside (sort_of op) u t)
+left_of op o t u = converted_to (operand_type o) (adapted_to (sort_of op) u t)
 
 -- what becomes of the right one
 abbrev pub right_of : BinaryOp → Operands → Term → Term → Expr
-right_of op o t u = right_by (sort_of op) o (beside (sort_of op) t u)
+right_of op o t u = right_by (sort_of op) o (adapted_to (sort_of op) t u)
 
 -- As many arguments as parameters, each of which fits its parameter and is converted to its type.
 pub data AreArguments (classes : List Class) : List Ty → List Term → Exprs → Type 0 where

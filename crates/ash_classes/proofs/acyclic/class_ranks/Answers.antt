@@ -5,8 +5,8 @@ use Rattle.ash_classes.specs.Ways.{AreRanks}
 use Rattle.ash_classes.specs.Marking.{rows_of, Goes}
 use Rattle.ash_classes.specs.References.{Refers, classes_of, seen}
 use Rattle.ash_classes.proofs.ReferenceLaws.{length-seen}
-use Rattle.ash_classes.proofs.ToldLaws.{same_rows, rows_within, same_ranks, same_acyclic, same_told, only_told, in_ok, in_err, on_ok}
-use Rattle.ash_classes.proofs.ToldSearches.{some_if_told, none_if_acyclic}
+use Rattle.ash_classes.proofs.CycleLaws.{same_rows, rows_within, same_ranks, same_acyclic, same_cycle, only_cycle, in_ok, in_err, on_ok}
+use Rattle.ash_classes.proofs.ToldSearches.{some_if_cycle, none_if_acyclic}
 use Rattle.ash_classes.proofs.acyclic.class_ranks.Goals as goal
 
 pub ranks-requires : goal.ranks-requires
@@ -37,7 +37,7 @@ returns-clause-cycle c =
     let R = Goes (rows_of c.deref-3.result.now) in
     let e : seen c.deref-2.result.now ≡ all = ap seen c.deref-2.ensures.value ∙ c.in_ok-classes.ensures ∙ ap (λ (xs : List code_item.Item). classes_of (map item_of xs)) c.deref.ensures.value in
     let same : (from to : ℕ) → R from to ↔ Refers all from to = same_rows c.in_ok-referrers.referrers.items c.deref-3.result.now (seen c.deref-2.result.now) all c.deref-3.ensures.value e c.in_ok-referrers.ensures.rows in
-    in_ok c.ranks.result _ _ (λ answer. in_err answer _ _ (λ cycle h. same_told R (Refers all) cycle.first cycle.others.items same h)) c.ranks.ensures.cycle
+    in_ok c.ranks.result _ _ (λ answer. in_err answer _ _ (λ cycle h. same_cycle R (Refers all) cycle.first cycle.others.items same h)) c.ranks.ensures.cycle
 
 pub returns-clause-only : goal.returns-clause-only
 returns-clause-only c =
@@ -45,7 +45,7 @@ returns-clause-only c =
     let R = Goes (rows_of c.deref-3.result.now) in
     let e : seen c.deref-2.result.now ≡ all = ap seen c.deref-2.ensures.value ∙ c.in_ok-classes.ensures ∙ ap (λ (xs : List code_item.Item). classes_of (map item_of xs)) c.deref.ensures.value in
     let same : (from to : ℕ) → R from to ↔ Refers all from to = same_rows c.in_ok-referrers.referrers.items c.deref-3.result.now (seen c.deref-2.result.now) all c.deref-3.ensures.value e c.in_ok-referrers.ensures.rows in
-    in_ok c.ranks.result _ _ (λ answer. in_err answer _ _ (λ cycle h. only_told (Refers all) cycle.first cycle.others.items (same_told R (Refers all) cycle.first cycle.others.items same h))) c.ranks.ensures.cycle
+    in_ok c.ranks.result _ _ (λ answer. in_err answer _ _ (λ cycle h. only_cycle (Refers all) cycle.first cycle.others.items (same_cycle R (Refers all) cycle.first cycle.others.items same h))) c.ranks.ensures.cycle
 
 pub returns-clause-none : goal.returns-clause-none
 returns-clause-none c =
@@ -61,4 +61,4 @@ returns-clause-told c =
     let R = Goes (rows_of c.deref-3.result.now) in
     let e : seen c.deref-2.result.now ≡ all = ap seen c.deref-2.ensures.value ∙ c.in_ok-classes.ensures ∙ ap (λ (xs : List code_item.Item). classes_of (map item_of xs)) c.deref.ensures.value in
     let same : (from to : ℕ) → R from to ↔ Refers all from to = same_rows c.in_ok-referrers.referrers.items c.deref-3.result.now (seen c.deref-2.result.now) all c.deref-3.ensures.value e c.in_ok-referrers.ensures.rows in
-    in_ok c.ranks.result _ _ (λ answer. in_err answer _ _ (λ cycle h. some_if_told all cycle.first cycle.others.items (same_told R (Refers all) cycle.first cycle.others.items same h))) c.ranks.ensures.cycle
+    in_ok c.ranks.result _ _ (λ answer. in_err answer _ _ (λ cycle h. some_if_cycle all cycle.first cycle.others.items (same_cycle R (Refers all) cycle.first cycle.others.items same h))) c.ranks.ensures.cycle

@@ -5,8 +5,8 @@ ghost use Rattle.ash_parse.specs.declared.faults.ParseFault.{ParseFault};
 ghost use Rattle.ash_tree.specs.Tree.{Declaration as DeclarationTree};
 ghost use Rattle.ash_tree.specs.Views.{declaration_of};
 ghost use Rattle.ash_registry.specs.declared.fault.RegistryFault.TheVariants.{NoMemory};
-ghost use Rattle.ash_registry.specs.Texts.{IsCut, Spelling, IsSpelled, IsDeclared};
-ghost use Rattle.ash_registry.specs.Spelled.{spelling, spelling_of, spelling_alone, spelling_in};
+ghost use Rattle.ash_registry.specs.Texts.{IsCut, NameClass, HasNameClass, IsDeclared};
+ghost use Rattle.ash_registry.specs.NameClasses.{class_of_meaning, name_class_of, class_of_token, class_of_tokens};
 
 use crate::RegistryFault;
 use ash_lex::{LexFault, Token, TokenKind, lex};
@@ -16,7 +16,7 @@ use std::alloc::Global;
 
 /// What a text is as a name.
 #[derive(Clone, Copy, Debug, PartialEq, Eq)]
-pub(crate) enum Spelled {
+pub(crate) enum NameKind {
     /// A name: a letter or `_`, then letters, digits and `_`.
     Name,
     /// A word that is reserved or unsupported.
@@ -39,45 +39,45 @@ fn read_tokens(alloc: Global, text: &str) -> Result<Option<Vec<Token>>, Registry
 
 /// What a text is as a name.
 #[tactic(auto, using(crate::proofs::Meanings::name_read, crate::proofs::Meanings::uncut_is_no_name))]
-pub(crate) fn read_name(alloc: Global, text: &str) -> Result<Spelled, RegistryFault>
-    ensures spelled { IfOk result (λ s. IsSpelled text.now (spelling_of s)) }
+pub(crate) fn read_name(alloc: Global, text: &str) -> Result<NameKind, RegistryFault>
+    ensures classified { IfOk result (λ s. HasNameClass text.now (name_class_of s)) }
     ensures only_memory { IfErr result (λ fault. fault ≡ NoMemory) }
 {
     match read_tokens(alloc, text)? {
-        Some(tokens) => Ok(name_by(&tokens, text.len())),
-        None => Ok(Spelled::Other),
+        Some(tokens) => Ok(name_kind_of_tokens(&tokens, text.len())),
+        None => Ok(NameKind::Other),
     }
 }
 
 // What a text of this length is as a name, by its tokens.
-fn name_by(tokens: &[Token], len: usize) -> Spelled
-    ensures { spelling_of result ≡ spelling_in len (lexemes tokens.now) }
+fn name_kind_of_tokens(tokens: &[Token], len: usize) -> NameKind
+    ensures { name_class_of result ≡ class_of_tokens len (lexemes tokens.now) }
 {
     match tokens {
-        [only] => alone(only, len),
-        _ => Spelled::Other,
+        [only] => name_kind_of_token(only, len),
+        _ => NameKind::Other,
     }
 }
 
 // What a text of this length is as a name, by its only token.
-fn alone(only: &Token, len: usize) -> Spelled
-    ensures { spelling_of result ≡ spelling_alone len (lexeme_of only.now) }
+fn name_kind_of_token(only: &Token, len: usize) -> NameKind
+    ensures { name_class_of result ≡ class_of_token len (lexeme_of only.now) }
 {
     if only.from == 0 && only.to == len {
-        word_as(&only.kind)
+        name_kind_of_word(&only.kind)
     } else {
-        Spelled::Other
+        NameKind::Other
     }
 }
 
 // What a text that is one token is as a name.
-fn word_as(kind: &TokenKind) -> Spelled
-    ensures { spelling_of result ≡ spelling (meaning_of kind.now) }
+fn name_kind_of_word(kind: &TokenKind) -> NameKind
+    ensures { name_class_of result ≡ class_of_meaning (meaning_of kind.now) }
 {
     match kind {
-        TokenKind::Name(_) => Spelled::Name,
-        TokenKind::Reserved(_) | TokenKind::Unsupported(_) => Spelled::Reserved,
-        _ => Spelled::Other,
+        TokenKind::Name(_) => NameKind::Name,
+        TokenKind::Reserved(_) | TokenKind::Unsupported(_) => NameKind::Reserved,
+        _ => NameKind::Other,
     }
 }
 
@@ -90,13 +90,13 @@ pub(crate) fn read_declaration(
     ensures only_memory { IfErr result (λ fault. fault ≡ NoMemory) }
 {
     match read_tokens(alloc, text)? {
-        Some(tokens) => declaration_by(alloc, &tokens, text),
+        Some(tokens) => parse_whole(alloc, &tokens, text),
         None => Ok(None),
     }
 }
 
 // What a text declares, by its tokens.
-fn declaration_by(
+fn parse_whole(
     alloc: Global,
     tokens: &[Token],
     text: &str,
@@ -123,8 +123,8 @@ fn ran_out(fault: ParseFault) -> bool
 /// That each text is a name, a word of the language, or no name, and declares one thing or nothing. It does nothing
 /// when it runs.
 pub fn one_meaning()
-    ensures a_spelling { (text : List ℕ) → (s : Spelling) × IsSpelled text s }
-    ensures one_spelling { (text : List ℕ) (s t : Spelling) → IsSpelled text s → IsSpelled text t → s ≡ t }
-    ensures a_declaration { (text : List ℕ) → (d : Option DeclarationTree) × IsDeclared text d }
+    ensures some_class { (text : List ℕ) → (s : NameClass) × HasNameClass text s }
+    ensures one_class { (text : List ℕ) (s t : NameClass) → HasNameClass text s → HasNameClass text t → s ≡ t }
+    ensures some_declaration { (text : List ℕ) → (d : Option DeclarationTree) × IsDeclared text d }
     ensures one_declaration { (text : List ℕ) (d e : Option DeclarationTree) → IsDeclared text d → IsDeclared text e → d ≡ e }
 {}

@@ -1,6 +1,6 @@
 use Rattle.std.proofs.Common.{◌≡◌, true, false}
 use Rattle.ash_registry.proofs.Meanings.{declares_it, declared_by_tokens}
-use Rattle.ash_registry.proofs.reading.declaration_by.Goals as goal
+use Rattle.ash_registry.proofs.texts.parse_whole.Goals as goal
 
 pub returns-in-Ok-clause-declared : goal.returns-in-Ok-clause-declared
 returns-in-Ok-clause-declared c = declares_it c.args.text.now c.args.tokens.now _ c.requires c.in-Ok.ensures.derived

@@ -17,8 +17,8 @@ same_ranks R Q places ranks same h = record { count = h.count; within = h.within
 pub same_acyclic : (R Q : ℕ → ℕ → Type 0) → ((from to : ℕ) → R from to ↔ Q from to) → ((place : ℕ) → Reaches R place place → ⊥) → (place : ℕ) → Reaches Q place place → ⊥
 same_acyclic R Q same h = λ place round. h place (round.0, same_way Q R (λ from to. (same from to).1) place round.0 place round.1)
 
-pub same_told : (R Q : ℕ → ℕ → Type 0) (first : ℕ) (others : List ℕ) → ((from to : ℕ) → R from to ↔ Q from to) → IsTold R first others → IsTold Q first others
-same_told R Q first others same h =
+pub same_cycle : (R Q : ℕ → ℕ → Type 0) (first : ℕ) (others : List ℕ) → ((from to : ℕ) → R from to ↔ Q from to) → IsTold R first others → IsTold Q first others
+same_cycle R Q first others same h =
     let there : (from to : ℕ) → R from to → Q from to = λ from to. (same from to).0 in
     let back : (from to : ℕ) → Q from to → R from to = λ from to. (same from to).1 in
     record {
@@ -45,8 +45,8 @@ same_round R from to xs ys h k =
     let e : length xs ≡ length ys = omega (arith, h.shortest ys k.way, k.shortest xs h.way) in
     same_order xs ys e (h.foremost ys k.way (sym e)) (k.foremost xs h.way e)
 
-pub only_told : (R : ℕ → ℕ → Type 0) (first : ℕ) (others : List ℕ) → IsTold R first others → (a : ℕ) (bs : List ℕ) → IsTold R a bs → (a ≡ first) × (bs ≡ others)
-only_told R first others h a bs k =
+pub only_cycle : (R : ℕ → ℕ → Type 0) (first : ℕ) (others : List ℕ) → IsTold R first others → (a : ℕ) (bs : List ℕ) → IsTold R a bs → (a ≡ first) × (bs ≡ others)
+only_cycle R first others h a bs k =
     let e : a ≡ first = omega (arith, h.earliest a (bs, k.round.way), k.earliest first (others, h.round.way)) in
     (e, same_round R first first bs others (subst (λ (n : ℕ). IsForemost R n bs n) e k.round) h.round)
 
@@ -58,8 +58,8 @@ rows_within classes table long same = λ from to goes.
     omega (arith, l, long, length-map table (λ (row : Vec ℕ Global). row.items))
 
 -- what was read holds of the classes of the script
-pub same_rows : (table read : List (Vec ℕ Global)) (given classes : List Class) → read ≡ table → given ≡ classes → ((from to : ℕ) → Goes (rows_of table) from to ↔ Refers given from to) → (from to : ℕ) → Goes (rows_of read) from to ↔ Refers classes from to
-same_rows table read given classes d e h = λ from to. subst₂ (λ (t : List (Vec ℕ Global)) (cs : List Class). Goes (rows_of t) from to ↔ Refers cs from to) (sym d) e (h from to)
+pub same_rows : (table read : List (Vec ℕ Global)) (seen_classes classes : List Class) → read ≡ table → seen_classes ≡ classes → ((from to : ℕ) → Goes (rows_of table) from to ↔ Refers seen_classes from to) → (from to : ℕ) → Goes (rows_of read) from to ↔ Refers classes from to
+same_rows table read seen_classes classes d e h = λ from to. subst₂ (λ (t : List (Vec ℕ Global)) (cs : List Class). Goes (rows_of t) from to ↔ Refers cs from to) (sym d) e (h from to)
 
 pub in_ok : {T E : Type 0} (r : Result T E) (P Q : T → Type 0) → ((x : T) → P x → Q x) → IfOk r P → IfOk r Q
 in_ok (Ok x) P Q f h = f x h
