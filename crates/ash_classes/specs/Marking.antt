@@ -33,7 +33,9 @@ GoesToOne Goes these from = (to : ℕ) × Contains these to × Goes from to
 -- the first place at a distance that one goes to; none where one goes to no place at that distance
 abbrev pub IsNearest : (ℕ → ℕ → Type 0) → List (Option ℕ) → ℕ → ℕ → Option ℕ → Type 0
 IsNearest Goes distances from distance None = (place : ℕ) → Goes from place → IsAt distances place distance → ⊥
-IsNearest Goes distances from distance (Some place) = Goes from place × IsAt distances place distance × ((other : ℕ) → Goes from other → IsAt distances other distance → place ≤ other)
+IsNearest Goes distances from distance (Some place) =
+    Goes from place × IsAt distances place distance
+    × ((other : ℕ) → Goes from other → IsAt distances other distance → place ≤ other)
 
 -- how many places are not marked
 abbrev pub unmarked : List (Option ℕ) → ℕ
@@ -44,7 +46,8 @@ pub record Marks (These : ℕ → Type 0) (distance : ℕ) (old new : List (Opti
   pub long : length new ≡ length old
   pub unchanged : (place at : ℕ) → IsAt old place at → IsAt new place at
   pub marked : (place : ℕ) → These place → (at : ℕ) × IsAt new place at
-  pub added : (place at : ℕ) → IsAt new place at → IsAt old place at ⊎ ((at ≡ distance) × These place × Contains found place)
+  pub added : (place at : ℕ) → IsAt new place at
+      → IsAt old place at ⊎ ((at ≡ distance) × These place × Contains found place)
   pub known : (place : ℕ) → Contains before place → Contains found place
   pub listed : (place : ℕ) → Contains found place → Contains before place ⊎ IsAt new place distance
   pub counted : unmarked new + length found ≡ unmarked old + length before
@@ -52,5 +55,6 @@ pub record Marks (These : ℕ → Type 0) (distance : ℕ) (old new : List (Opti
 -- the fewest places between each place and one that is led to; none where no way leads there
 pub record AreDistances (Goes : ℕ → ℕ → Type 0) (places to : ℕ) (distances : List (Option ℕ)) : Type 0 where
   pub long : length distances ≡ places
-  pub reached : (from distance : ℕ) → IsAt distances from distance → (between : List ℕ) × (length between ≡ distance) × IsWay Goes from between to
+  pub reached : (from distance : ℕ) → IsAt distances from distance
+      → (between : List ℕ) × (length between ≡ distance) × IsWay Goes from between to
   pub least : (from : ℕ) (between : List ℕ) → IsWay Goes from between to → IsNear distances from (length between)

@@ -4,7 +4,8 @@ use Rattle.std.specs.Borrow.{Bor}
 use Rattle.std.specs.List.{Any}
 use Rattle.ash_tree.specs.declared.tree.items.Class as code
 use Rattle.ash_tree.specs.Views.{class_of}
-use Rattle.ash_tree.specs.Tree.{Element, HandleElement, Named, Object, Handle, Array, ArrayHandle, Member, AField, Class}
+use Rattle.ash_tree.specs.Tree.{Element, HandleElement, Named, Object, Handle, Array, ArrayHandle, Member, AField}
+use Rattle.ash_tree.specs.Tree.{Class}
 pub use Rattle.ash_tree.specs.Items.{classes_of}
 
 -- a class is of the type of that name: the name is its own, or that of an interface that it lists

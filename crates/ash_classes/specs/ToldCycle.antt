@@ -1,9 +1,12 @@
--- The cycle that is told of classes, as a reader would look for it: from the first class that leads back to itself, by the first of its shortest ways.
-use Rattle.std.specs.Prelude.{ℕ, zero, suc, Bool, false, ◌||◌, List, [], ◌∷◌, length, Option, Some, None, option_map, slice_get, if◌then◌else◌}
+-- The cycle that is told of classes, as a reader would look for it: from the first class that leads back to itself, by
+-- the first of its shortest ways.
+use Rattle.std.specs.Prelude.{ℕ, zero, suc, Bool, false, ◌||◌, List, [], ◌∷◌, length, Option, Some, None, option_map}
+use Rattle.std.specs.Prelude.{slice_get, if◌then◌else◌}
 use Rattle.std.specs.Option.{option_or}
 use Rattle.std.specs.List.{list_any}
 use Rattle.std.specs.Str.{bytes_eq}
-use Rattle.ash_tree.specs.Tree.{Element, HandleElement, Named, Object, Handle, Array, ArrayHandle, Member, AField, Class}
+use Rattle.ash_tree.specs.Tree.{Element, HandleElement, Named, Object, Handle, Array, ArrayHandle, Member, AField}
+use Rattle.ash_tree.specs.Tree.{Class}
 
 -- whether one class refers to another
 
@@ -48,10 +51,13 @@ abbrev pub first_below : {A : Type 0} → (ℕ → Option A) → ℕ → Option 
 first_below value_at zero = None
 first_below value_at (suc n) = option_or (first_below value_at n) (value_at n)
 
--- the places in between on the first way with so many of them: from place to place, to the first from which a way goes on
+-- the places in between on the first way with so many of them: from place to place, to the first from which a way goes
+-- on
 abbrev pub foremost : (ℕ → ℕ → Bool) → (places count from to : ℕ) → Option (List ℕ)
 foremost goes places zero from to = if goes from to then Some [] else None
-foremost goes places (suc count) from to = first_below (λ next. if goes from next then option_map (λ others. next ∷ others) (foremost goes places count next to) else None) places
+foremost goes places (suc count) from to =
+    first_below (λ next. if goes from next
+    then option_map (λ others. next ∷ others) (foremost goes places count next to) else None) places
 
 -- the first of the shortest ways back to a place: there are fewer places in between than there are places
 abbrev pub shortest_back : (ℕ → ℕ → Bool) → (places place : ℕ) → Option (List ℕ)
@@ -59,7 +65,8 @@ shortest_back goes places place = first_below (λ count. foremost goes places co
 
 -- the first place from which a way leads back, and those in between
 abbrev pub first_round : (ℕ → ℕ → Bool) → ℕ → Option (ℕ × List ℕ)
-first_round goes places = first_below (λ first. option_map (λ others. (first, others)) (shortest_back goes places first)) places
+first_round goes places =
+    first_below (λ first. option_map (λ others. (first, others)) (shortest_back goes places first)) places
 
 -- the cycle that is told of classes, by their places; none where no class leads back to itself
 abbrev pub told_cycle : List Class → Option (ℕ × List ℕ)

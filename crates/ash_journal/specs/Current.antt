@@ -67,7 +67,8 @@ pub record OtherReopens (current other after : List ℕ) : Type 0 where
 -- with the first of two files current, 1 is put for a gate that a repair would write over
 abbrev pub ReopensBy : List ℕ → List ℕ → List ℕ → List ℕ → Type 0
 ReopensBy current other current_after other_after =
-    (EndReopens current other current_after × (other_after ≡ other)) ⊎ (OtherReopens current other other_after × (current_after ≡ current))
+    (EndReopens current other current_after × (other_after ≡ other))
+        ⊎ (OtherReopens current other other_after × (current_after ≡ current))
 
 -- 1 is put for a gate that a repair would write over, whichever file is current
 abbrev pub Reopens : List ℕ → List ℕ → List ℕ → List ℕ → Type 0
@@ -95,4 +96,5 @@ MaySettleOn first second contents =
 -- some that a repair of the first two may come to.
 abbrev pub SettleFurther : (Contents → Type 0) → List ℕ → List ℕ → List ℕ → List ℕ → Type 0
 SettleFurther IsNew first second first_after second_after =
-    SettleOn (MaySettleOn first second) first second → SettleOn (Either IsNew (MaySettleOn first second)) first_after second_after
+    SettleOn (MaySettleOn first second) first second
+        → SettleOn (Either IsNew (MaySettleOn first second)) first_after second_after

@@ -53,7 +53,8 @@ NeedsNoRepair _ _ = ⊥
 
 -- Two honest disks hold this image and these records, all of it on the devices, and a journal knows what it needs of
 -- them.
-pub record FilesAre {D : Type 0} (device : Device D) (number end size : ℕ) (stray : Bool) (other_state : OtherState) (current other : D) (image : List ℕ) (bodies : List (List ℕ)) : Type 0 where
+pub record FilesAre {D : Type 0} (device : Device D) (number end size : ℕ) (stray : Bool) (other_state : OtherState)
+    (current other : D) (image : List ℕ) (bodies : List (List ℕ)) : Type 0 where
   pub current_honest : IsTrue (device.honest current)
   pub other_honest : IsTrue (device.honest other)
   pub gate : ℕ
@@ -87,10 +88,12 @@ pub record IsReady {D : Type 0} (j : Journal D) : Type 0 where
   pub repaired : IsRepaired j
 
 -- The files hold this image and these records, nothing is to be written over, and they settle on them alone.
-pub record Holds {D : Type 0} (device : Device D) (j : Journal D) (image : List ℕ) (bodies : List (List ℕ)) : Type 0 where
+pub record Holds {D : Type 0} (device : Device D) (j : Journal D) (image : List ℕ)
+    (bodies : List (List ℕ)) : Type 0 where
   pub files : Finds device j image bodies
   pub repaired : IsRepaired j
-  pub run : Run device (device.clock (first_disk j)) (device.clock (second_disk j)) (first_disk j) (second_disk j) (Is (image, bodies))
+  pub run : Run device (device.clock (first_disk j)) (device.clock (second_disk j)) (first_disk j) (second_disk j)
+      (Is (image, bodies))
 
 -- the disk that holds the current file stays as it was
 abbrev pub KeepsOne : {D : Type 0} → Journal D → Journal D → Type 0
@@ -104,8 +107,8 @@ KeepsOther old new = KeepsOtherOf old.swapped (first_disk old) (second_disk old)
 abbrev pub KeepsUnowed : {D : Type 0} → Journal D → Journal D → Type 0
 KeepsUnowed old new = (old.stray ≡ false → KeepsOne old new) × (is_stray old.other_state ≡ false → KeepsOther old new)
 
--- Nothing was written to a journal's disks but the gates that a repair writes over: of the current file the one behind its
--- last open record, and of the other its first.
+-- Nothing was written to a journal's disks but the gates that a repair writes over: of the current file the one behind
+-- its last open record, and of the other its first.
 pub record WritesGates {D : Type 0} (device : Device D) (old new : Journal D) : Type 0 where
   pub in_first : WritesByte device (first_of old.swapped old.end 0) (first_disk old) (first_disk new)
   pub in_second : WritesByte device (second_of old.swapped old.end 0) (second_disk old) (second_disk new)

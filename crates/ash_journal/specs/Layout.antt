@@ -76,7 +76,8 @@ pub record HasMark (generation : ℕ) (file : List ℕ) : Type 0 where
 
 -- a length is cut short, or what it tells the length of, or the gate behind that
 abbrev pub IsCut : List ℕ → Type 0
-IsCut rest = (length rest < 4) ⊎ ((n : ℕ) × (more : List ℕ) × (n < 2 ^ 32) × (rest ≡ four_bytes n ++ more) × (length more ≤ n))
+IsCut rest =
+    (length rest < 4) ⊎ ((n : ℕ) × (more : List ℕ) × (n < 2 ^ 32) × (rest ≡ four_bytes n ++ more) × (length more ≤ n))
 
 -- the file is open, and its magic and generation are not there
 abbrev pub LacksMark : List ℕ → Type 0

@@ -19,7 +19,8 @@ IsUnsound first second =
 
 -- a current file that is cut short at an offset
 abbrev pub IsCutCurrent : ℕ → List ℕ → List ℕ → Type 0
-IsCutCurrent at current other = (generation : ℕ) × HasMark generation current × IsBehind generation other × IsCutAt at current
+IsCutCurrent at current other =
+    (generation : ℕ) × HasMark generation current × IsBehind generation other × IsCutAt at current
 
 -- one of two files has a mark, and the other is closed or older
 abbrev pub HasCurrent : List ℕ → List ℕ → Type 0
@@ -44,7 +45,8 @@ ChoiceIs choice first second =
 -- the current of two files as it was read, and the other
 abbrev pub ContentsAre : Choice → CurrentFile → List ℕ → List ℕ → Type 0
 ContentsAre choice current_file first second =
-    IsRead choice.generation current_file.image.items current_file.tail.records.items current_file.tail.end current_file.tail.gate (first_of choice.swapped first second)
+    IsRead choice.generation current_file.image.items current_file.tail.records.items current_file.tail.end
+        current_file.tail.gate (first_of choice.swapped first second)
     × OtherIs choice.other_state choice.generation (second_of choice.swapped first second)
 
 -- how two files stand, and their lengths

@@ -1,5 +1,6 @@
 -- What is read of a file.
-use Rattle.std.specs.Prelude.{◌≡◌, ◌≢◌, ℕ, ◌+◌, ◌<◌, ◌≤◌, ◌^◌, Bool, true, false, List, [], ◌∷◌, ◌++◌, length, map, Result, IfErr}
+use Rattle.std.specs.Prelude.{◌≡◌, ◌≢◌, ℕ, ◌+◌, ◌<◌, ◌≤◌, ◌^◌, Bool, true, false, List, [], ◌∷◌, ◌++◌, length, map}
+use Rattle.std.specs.Prelude.{Result, IfErr}
 use Rattle.ash_disk.specs.Failures.{Rose}
 use Rattle.ash_journal.specs.declared.one_file.FileHeader.{FileHeader}
 use Rattle.ash_journal.specs.declared.one_file.FileHeader.TheVariants.{Closed, Unmarked, Marked}
@@ -39,7 +40,8 @@ AreAt at [] = Unit {0}
 AreAt at (r ∷ found) = (r.gate ≡ at) × AreAt (at + 5 + length r.body.items) found
 
 -- A generation up to a gate: its records from the first gate behind its image on, and that gate.
-pub record IsReadTo (generation : ℕ) (image : List ℕ) (found : List Record) (end : ℕ) (gate : ℕ) (file : List ℕ) : Type 0 where
+pub record IsReadTo (generation : ℕ) (image : List ℕ) (found : List Record) (end : ℕ) (gate : ℕ)
+    (file : List ℕ) : Type 0 where
   pub behind : List ℕ
   pub bytes : file ≡ solid generation image (bodies_of found) ++ gate ∷ suffix
   pub fits : Fits generation image (bodies_of found)

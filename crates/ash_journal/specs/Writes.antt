@@ -45,7 +45,8 @@ WhileRepaired stray prefix suffix image =
 
 -- what a crash may leave while bytes take the place of a file's
 abbrev pub WhileReplaced : Bool → List ℕ → List ℕ → List ℕ → Type 0
-WhileReplaced is_open bytes file image = WhileRepaired is_open [] file image ⊎ WhileCommitted [] bytes (drop 1 file) image
+WhileReplaced is_open bytes file image =
+    WhileRepaired is_open [] file image ⊎ WhileCommitted [] bytes (drop 1 file) image
 
 -- a file of at most one byte, or one whose first gate is 0: nothing was ever in it, or it is out of use
 abbrev pub IsIdle : List ℕ → Type 0

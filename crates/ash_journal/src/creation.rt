@@ -80,10 +80,10 @@ pub(crate) fn create_both<D: Disk>(
         → IsOn D.Disk second.new (0 ∷ drop 1 (D.seen second.old))) }
     ensures closed { OnOk result (IsTrue (D.honest first.old) → IsTrue (D.honest second.old)
         → IsClosed (D.seen first.old) × IsClosed (D.seen second.old)) }
-    ensures fault { IfErr result (λ fault. IsTrue (D.honest first.old) → IsTrue (D.honest second.old)
+    ensures fault { IfErr result (λ fault. IsTrue (D.honest first.old)
+        → IsTrue (D.honest second.old)
         → CreateFaultIs fault (D.seen first.old) (D.seen second.old)
-        (IsOnlyRead D.Disk first.old first.new
-        × IsOnlyRead D.Disk second.old second.new)) }
+        (IsOnlyRead D.Disk first.old first.new × IsOnlyRead D.Disk second.old second.new)) }
     ensures first_moments { IsTrue (D.honest first.old) → IsTrue (D.honest second.old)
         → AreIdle (D.leaves first.old (D.clock first.old))
         → Throughout D.Disk first.old first.new

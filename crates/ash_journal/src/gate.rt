@@ -5,7 +5,8 @@ ghost use Rattle.std.specs.Prelude.{◌≡◌, false, IsTrue, ◌+◌, ◌<◌, 
 ghost use Rattle.ash_disk.specs.Failures.{CountsFailure};
 ghost use Rattle.ash_disk.specs.Device.{IsDurable, Throughout};
 ghost use Rattle.ash_journal.specs.Layout.{IsShut};
-ghost use Rattle.ash_journal.specs.Writes.{IsSplit, IsOn, WritesByte, WhileShut, WhileCommitted, WhileRepaired, WhileReplaced, repaired};
+ghost use Rattle.ash_journal.specs.Writes.{IsSplit, IsOn, WritesByte, WhileShut, WhileCommitted, WhileRepaired};
+ghost use Rattle.ash_journal.specs.Writes.{WhileReplaced, repaired};
 
 use ash_disk::{DeviceFailed, Disk, write_durably};
 

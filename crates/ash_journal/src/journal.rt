@@ -59,9 +59,12 @@ pub struct CreateRefused<D> {
 }
 
 impl<D: Disk> Journal<D> {
-    ghost use Rattle.std.specs.Prelude.{◌≡◌, ◌<◌, ◌-◌, ◌↔◌, ◌∷◌, ◌++◌, [], ℕ, List, length, IsTrue, IfOk, IfErr, OnOk, OnErr, IsErr, IsErrOf, MatchResult};
+    ghost use Rattle.std.specs.Prelude.{◌≡◌, ◌<◌, ◌-◌, ◌↔◌, ◌∷◌, ◌++◌, [], ℕ, List, length, IsTrue, IfOk, IfErr, OnOk};
+    ghost use Rattle.std.specs.Prelude.{OnErr, IsErr, IsErrOf, MatchResult};
     ghost use Rattle.ash_journal.specs.Failures.{CountsFailures};
-    ghost use Rattle.ash_journal.specs.Journal.{first_disk, second_disk, generation, record_bytes, current_disk, IsReady, IsRepaired, HasFailed, Finds, Holds, KeepsOne, KeepsOther, KeepsUnowed, WritesGates};
+    ghost use Rattle.ash_journal.specs.Journal.{first_disk, second_disk, generation, record_bytes, current_disk};
+    ghost use Rattle.ash_journal.specs.Journal.{IsReady, IsRepaired, HasFailed, Finds, Holds, KeepsOne, KeepsOther};
+    ghost use Rattle.ash_journal.specs.Journal.{KeepsUnowed, WritesGates};
     ghost use Rattle.ash_journal.specs.Current.{Is, Either, Represent};
     ghost use Rattle.ash_disk.specs.Device.{IsOnlyRead, EveryMomentSince};
     ghost use Rattle.ash_journal.specs.Layout.{IsClosed};
@@ -102,10 +105,11 @@ impl<D: Disk> Journal<D> {
         ensures moments { (a b : ℕ) → IsTrue (D.honest first) → IsTrue (D.honest second)
             → HasRested D.Disk a first → HasRested D.Disk b second
             → MatchResult result
-            (λ j. EveryMomentSince D.Disk a b (first_disk j) (second_disk j) (IsCreatedOrClosed image.now))
+            (λ j. EveryMomentSince D.Disk a b (first_disk j) (second_disk j)
+            (IsCreatedOrClosed image.now))
             (λ r. EveryMomentSince D.Disk a b r.first r.second (IsCreatedOrClosed image.now)) }
-        ensures honesty_first { MatchResult result
-            (λ j. D.honest (first_disk j) ≡ D.honest first) (λ r. D.honest r.first ≡ D.honest first) }
+        ensures honesty_first { MatchResult result (λ j. D.honest (first_disk j) ≡ D.honest first)
+            (λ r. D.honest r.first ≡ D.honest first) }
         ensures honesty_second { MatchResult result
             (λ j. D.honest (second_disk j) ≡ D.honest second)
             (λ r. D.honest r.second ≡ D.honest second) }
@@ -154,8 +158,10 @@ impl<D: Disk> Journal<D> {
             → FaultIs r.fault (D.seen first) (D.seen second)) }
         ensures represented { IfOk result (λ o. IsTrue (D.honest first) → IsTrue (D.honest second)
             → Represent (o.image.items, bodies_of o.records.items) (D.seen first) (D.seen second)) }
-        ensures extends { IsTrue (D.honest first) → IsTrue (D.honest second) → MatchResult result
-            (λ o. Extends D.Disk first second (first_disk o.journal) (second_disk o.journal) Nothing)
+        ensures extends { IsTrue (D.honest first) → IsTrue (D.honest second)
+            → MatchResult result
+            (λ o. Extends D.Disk first second (first_disk o.journal) (second_disk o.journal)
+            Nothing)
             (λ r. Extends D.Disk first second r.first r.second Nothing) }
         ensures sound { IfOk result (λ o. HasFailed o.journal → ⊥) }
         ensures first_read { MatchResult result
@@ -310,7 +316,8 @@ impl<D: Disk> Journal<D> {
         ensures failed { IsErr result → HasFailed self.new }
         ensures still_failed { HasFailed self.old → HasFailed self.new }
         ensures only_stray { IsRepaired self.old
-            → (first_disk self.new ≡ first_disk self.old) × (second_disk self.new ≡ second_disk self.old) }
+            → (first_disk self.new ≡ first_disk self.old)
+            × (second_disk self.new ≡ second_disk self.old) }
         ensures each_owed { KeepsUnowed self.old self.new }
         ensures gates { (image : List ℕ) (bodies : List (List ℕ))
             → Finds D.Disk self.old image bodies
@@ -345,18 +352,18 @@ impl<D: Disk> Journal<D> {
     ///
     /// Refusals, the first that holds: `GenerationSpent` where the number is 2^64 - 1; `NoMemory`; both change nothing
     /// and come before any call of a device. After `DeviceFailed` the old generation is current or the new one, and the
-    /// journal is ready no more: it is to be opened again. It is one write and a sync, twice, and once more where the other file's first
-    /// gate is to be shut; nothing is read.
+    /// journal is ready no more: it is to be opened again. It is one write and a sync, twice, and once more where the
+    /// other file's first gate is to be shut; nothing is read.
     pub fn install(&mut self, image: &[u8]) -> Result<(), InstallError>
         requires short { length image.now < 2 ^ 32 }
         requires ready { IsReady self.old }
         ensures installed { OnOk result ((was : List ℕ) (bodies : List (List ℕ))
             → Holds D.Disk self.old was bodies
             → Holds D.Disk self.new image.now []) }
-        ensures run { (was : List ℕ) (bodies : List (List ℕ))
-            → Holds D.Disk self.old was bodies
+        ensures run { (was : List ℕ) (bodies : List (List ℕ)) → Holds D.Disk self.old was bodies
             → Run D.Disk (D.clock (first_disk self.old)) (D.clock (second_disk self.old))
-            (first_disk self.new) (second_disk self.new) (Either (Is (image.now, [])) (Is (was, bodies))) }
+            (first_disk self.new) (second_disk self.new)
+            (Either (Is (image.now, [])) (Is (was, bodies))) }
         ensures ready { (IsErrOf result InstallError.DeviceFailed → ⊥) → IsReady self.new }
         ensures failed { IsErrOf result InstallError.DeviceFailed → HasFailed self.new }
         ensures higher { OnOk result (generation self.new ≡ generation self.old + 1) }

@@ -1,5 +1,6 @@
 //! What a file is read as. Nothing here writes.
-ghost use Rattle.std.specs.Prelude.{◌≡◌, ◌+◌, ◌<◌, ◌≤◌, ◌^◌, ◌↔◌, ◌++◌, ◌∷◌, [], ℕ, List, length, take, IsTrue, IfOk, IfSome, IsErr, IsErrOf, MatchOption, MatchResult, drop};
+ghost use Rattle.std.specs.Prelude.{◌≡◌, ◌+◌, ◌<◌, ◌≤◌, ◌^◌, ◌↔◌, ◌++◌, ◌∷◌, [], ℕ, List, length, take, IsTrue, IfOk};
+ghost use Rattle.std.specs.Prelude.{IfSome, IsErr, IsErrOf, MatchOption, MatchResult, drop};
 ghost use Rattle.ash_disk.specs.Device.{IsOnlyRead};
 ghost use Rattle.ash_disk.specs.Image.{bytes_at};
 ghost use Rattle.ash_journal.specs.Layout.{four_bytes, mark, solid, IsShut, Fits, IsCut, HasMark};
@@ -32,7 +33,8 @@ fn is_shut(prefix: &[u8]) -> bool
 // The generation behind a magic, where these bytes are both.
 fn mark_of(bytes: &[u8]) -> Option<u64>
     requires { length bytes.now ≤ 16 }
-    ensures { MatchOption result ((generation : ℕ) → generation < 2 ^ 64 → bytes.now ≡ mark generation → ⊥)
+    ensures { MatchOption result
+        ((generation : ℕ) → generation < 2 ^ 64 → bytes.now ≡ mark generation → ⊥)
         (λ generation. (generation < 2 ^ 64) × (bytes.now ≡ mark generation)) }
 {
     if bytes.len() < 16 {
@@ -142,8 +144,10 @@ fn read_block<D: Disk>(
         → len ≡ length (D.seen disk.old)
         → MatchOption found (IsCut (drop at (D.seen disk.old)))
         (λ block. IsBlock block.body.items block.gate (drop at (D.seen disk.old)))) }
-    ensures within { IfOk result (λ found. IfSome found (λ block. at + length block.body.items + 4 < len)) }
-    ensures short { IfOk result (λ found. IfSome found (λ block. length block.body.items < 2 ^ 32)) }
+    ensures within { IfOk result (λ found. IfSome found (λ block.
+        at + length block.body.items + 4 < len)) }
+    ensures short { IfOk result (λ found. IfSome found (λ block.
+        length block.body.items < 2 ^ 32)) }
     ensures only_read { IsOnlyRead D.Disk disk.old disk.new }
     ensures faults { IsFailure result }
     ensures cause { Counts (IsErrOf result OpenFault.DeviceFailed)
@@ -236,10 +240,11 @@ pub(crate) fn read_current<D: Disk>(
     disk: &mut D,
     len: u64,
 ) -> Result<CurrentFile, OpenFault>
-    ensures answer { (generation : ℕ) → IsTrue (D.honest disk.old)
-        → len ≡ length (D.seen disk.old) → HasMark generation (D.seen disk.old)
+    ensures answer { (generation : ℕ) → IsTrue (D.honest disk.old) → len ≡ length (D.seen disk.old)
+        → HasMark generation (D.seen disk.old)
         → MatchResult result
-        (λ r. IsRead generation r.image.items r.tail.records.items r.tail.end r.tail.gate (D.seen disk.old))
+        (λ r. IsRead generation r.image.items r.tail.records.items r.tail.end r.tail.gate
+        (D.seen disk.old))
         (λ fault. IsCutFault fault (D.seen disk.old)) }
     ensures within { IfOk result (λ r. 21 + length r.image.items ≤ r.tail.end) }
     ensures short { IfOk result (λ r. length r.image.items < 2 ^ 32) }

@@ -1,5 +1,6 @@
 //! What two files are read as. Nothing here writes.
-ghost use Rattle.std.specs.Prelude.{◌≡◌, ◌+◌, ◌<◌, ◌≤◌, ◌^◌, ℕ, List, length, IsTrue, IfOk, OnOk, IsErr, IsErrOf, MatchOption, MatchResult, ◌⊎◌, if◌then◌else◌};
+ghost use Rattle.std.specs.Prelude.{◌≡◌, ◌+◌, ◌<◌, ◌≤◌, ◌^◌, ℕ, List, length, IsTrue, IfOk, OnOk, IsErr, IsErrOf};
+ghost use Rattle.std.specs.Prelude.{MatchOption, MatchResult, ◌⊎◌, if◌then◌else◌};
 ghost use Rattle.ash_disk.specs.Device.{IsDurable, IsOnlyRead};
 ghost use Rattle.ash_journal.specs.Failures.{CountsFailures};
 ghost use Rattle.ash_journal.specs.Layout.{IsOpen, IsClosed, HasMark};
@@ -184,7 +185,8 @@ pub(crate) fn read_both<D: Disk>(
         → IsDurable D.Disk first.new) }
     ensures durable_second { OnOk result (IsTrue (D.honest second.old)
         → IsDurable D.Disk second.new) }
-    ensures within { IfOk result (λ c. 21 + length c.current_file.image.items ≤ c.current_file.tail.end) }
+    ensures within { IfOk result (λ c.
+        21 + length c.current_file.image.items ≤ c.current_file.tail.end) }
     ensures short { IfOk result (λ c. length c.current_file.image.items < 2 ^ 32) }
     ensures first_read { IsOnlyRead D.Disk first.old first.new }
     ensures second_read { IsOnlyRead D.Disk second.old second.new }

@@ -1,16 +1,23 @@
 -- Which registrations are refused, with the first cause in the order in which they are tested, and what an
 -- accepted one adds.
-use Rattle.std.specs.Prelude.{◌≡◌, ◌⊎◌, ℕ, Bool, true, false, not, ◌||◌, List, [], ◌∷◌, ◌++◌, Option, None, Some, Result, Err, OnOk, OnErr, IfErr, nat_le, count_by}
+use Rattle.std.specs.Prelude.{◌≡◌, ◌⊎◌, ℕ, Bool, true, false, not, ◌||◌, List, [], ◌∷◌, ◌++◌, Option, None, Some}
+use Rattle.std.specs.Prelude.{Result, Err, OnOk, OnErr, IfErr, nat_le, count_by}
 use Rattle.std.specs.List.{list_any, filter_map}
 use Rattle.std.specs.Option.{is_none, option_and_then, option_to_list}
 use Rattle.std.specs.Str.{bytes_eq}
 use Rattle.ash_tree.specs.declared.tree.types.Primitive.{Primitive}
 use Rattle.ash_registry.specs.declared.fault.RegistryFault.{RegistryFault}
-use Rattle.ash_registry.specs.declared.fault.RegistryFault.TheVariants.{UnknownType, NoService, BadDeclaration, ReservedName, NotPrimitive, NameTaken, FactoryTaken, TooMany, NoMemory}
-use Rattle.ash_tree.specs.Tree.{Element, PrimElement, HandleElement, Named, Prim, Object, Handle, Array, ArrayHandle, Signature, Property, Declaration, ASignature}
+use Rattle.ash_registry.specs.declared.fault.RegistryFault.TheVariants.{UnknownType, NoService, BadDeclaration}
+use Rattle.ash_registry.specs.declared.fault.RegistryFault.TheVariants.{ReservedName, NotPrimitive, NameTaken}
+use Rattle.ash_registry.specs.declared.fault.RegistryFault.TheVariants.{FactoryTaken, TooMany, NoMemory}
+use Rattle.ash_tree.specs.Tree.{Element, PrimElement, HandleElement, Named, Prim, Object, Handle, Array, ArrayHandle}
+use Rattle.ash_tree.specs.Tree.{Signature, Property, Declaration, ASignature}
 use Rattle.ash_tree.specs.Tree as tree
 use Rattle.ash_registry.specs.Texts.{NameClass, AName, AReserved, ANoName}
-use Rattle.ash_registrations.specs.Calls.{Operation, Call, AType, AFactory, AMethod, AProperty, AService, AFunction, is_type, names_type, takes_kind, takes_name, is_factory_of, is_member_of, takes_member, takes_method, takes_property, takes_function, is_service, is_function}
+use Rattle.ash_registrations.specs.Calls.{Operation, Call, AType, AFactory, AMethod, AProperty, AService, AFunction}
+use Rattle.ash_registrations.specs.Calls.{is_type, names_type, takes_kind, takes_name, is_factory_of, is_member_of}
+use Rattle.ash_registrations.specs.Calls.{takes_member, takes_method, takes_property, takes_function, is_service}
+use Rattle.ash_registrations.specs.Calls.{is_function}
 use Rattle.ash_registrations.specs.Added.{is_too_long}
 use Rattle.ash_registrations.specs.declared.adding.AddFault.{AddFault}
 use Rattle.ash_registrations.specs.declared.adding.AddFault.TheVariants as add_faults
@@ -53,7 +60,8 @@ is_object named = is_none (primitive_of named)
 
 -- the causes that lie in declared types
 abbrev pub cause_in : List Call → List Named → Option RegistryFault → Option RegistryFault
-cause_in calls types later = cause (list_any (is_unknown calls) types) UnknownType (cause (list_any is_object types) NotPrimitive later)
+cause_in calls types later =
+    cause (list_any (is_unknown calls) types) UnknownType (cause (list_any is_object types) NotPrimitive later)
 
 -- too many of a kind, or too long a text
 abbrev pub cause_of_many : Bool → List Call → Call → Option RegistryFault
@@ -65,11 +73,16 @@ types_of s = option_to_list s.result ++ s.parameters
 
 -- a signature whose types are primitive
 abbrev pub primitive_operation : Signature → Operation
-primitive_operation s = record { name = s.name; result = option_and_then primitive_of s.result; parameters = filter_map primitive_of s.parameters }
+primitive_operation s = record {
+  name = s.name;
+  result = option_and_then primitive_of s.result;
+  parameters = filter_map primitive_of s.parameters;
+}
 
 -- A call is accepted where no cause speaks against it, and is then added; else its cause is told, or that memory
 -- ran out, and nothing changes.
-pub record RegisteredIf {A : Type 0} (refusal : Option RegistryFault) (call : List Call) (result : Result A RegistryFault) (old new : List Call) : Type 0 where
+pub record RegisteredIf {A : Type 0} (refusal : Option RegistryFault) (call : List Call)
+    (result : Result A RegistryFault) (old new : List Call) : Type 0 where
   pub accepted : OnOk result (refusal ≡ None)
   pub added : OnOk result (new ≡ old ++ call)
   pub refused : IfErr result (λ fault. (refusal ≡ Some fault) ⊎ (fault ≡ NoMemory))
@@ -84,25 +97,30 @@ abbrev pub refusal_of_type : List Call → List ℕ → NameClass → ℕ → Op
 refusal_of_type calls name ANoName kind = Some BadDeclaration
 refusal_of_type calls name AReserved kind = Some ReservedName
 refusal_of_type calls name AName kind =
-    cause (list_any (takes_name name) calls || list_any (takes_kind kind) calls) NameTaken (cause_of_many (nat_le 256 (count_by is_type calls)) calls (AType name kind))
+    cause (list_any (takes_name name) calls || list_any (takes_kind kind) calls) NameTaken
+        (cause_of_many (nat_le 256 (count_by is_type calls)) calls (AType name kind))
 
 -- A service has a kind of its own, and there are at most 16.
 abbrev pub refusal_of_service : List Call → ℕ → Option RegistryFault
 refusal_of_service calls kind =
-    cause (list_any (takes_kind kind) calls) NameTaken (cause_of_many (nat_le 16 (count_by is_service calls)) calls (AService kind))
+    cause (list_any (takes_kind kind) calls) NameTaken
+        (cause_of_many (nat_le 16 (count_by is_service calls)) calls (AService kind))
 
 -- What a method declares: a function of primitives. A type's methods and properties have names of their own, its
 -- methods numbers of their own, and there are at most 32 of both.
 abbrev pub refusal_of_signature : List Call → List ℕ → ℕ → Signature → Option RegistryFault
 refusal_of_signature calls of id s =
-    cause_in calls (types_of s) (cause (list_any (takes_member of s.name) calls || list_any (takes_method of id) calls) NameTaken (cause_of_many (nat_le 32 (count_by (is_member_of of) calls)) calls (AMethod of id (primitive_operation s))))
+    cause_in calls (types_of s)
+        (cause (list_any (takes_member of s.name) calls || list_any (takes_method of id) calls) NameTaken
+        (cause_of_many (nat_le 32 (count_by (is_member_of of) calls)) calls (AMethod of id (primitive_operation s))))
 
 abbrev pub refusal_of_declared_method : List Call → List ℕ → ℕ → Option Declaration → Option RegistryFault
 refusal_of_declared_method calls of id (Some (ASignature s)) = refusal_of_signature calls of id s
 refusal_of_declared_method calls of id _ = Some BadDeclaration
 
 abbrev pub refusal_of_method : List Call → List ℕ → ℕ → Option Declaration → Option RegistryFault
-refusal_of_method calls of id declared = cause (not (is_known calls of)) UnknownType (refusal_of_declared_method calls of id declared)
+refusal_of_method calls of id declared =
+    cause (not (is_known calls of)) UnknownType (refusal_of_declared_method calls of id declared)
 
 -- the call of a method
 abbrev pub method_call : List ℕ → ℕ → Option Declaration → List Call
@@ -112,7 +130,8 @@ method_call _ _ _ = []
 -- A property is of a primitive type; its number is its own among the type's properties.
 abbrev pub refusal_of_primitive : List Call → List ℕ → ℕ → Primitive → List ℕ → Option RegistryFault
 refusal_of_primitive calls of id value name =
-    cause (list_any (takes_member of name) calls || list_any (takes_property of id) calls) NameTaken (cause_of_many (nat_le 32 (count_by (is_member_of of) calls)) calls (AProperty of id value name))
+    cause (list_any (takes_member of name) calls || list_any (takes_property of id) calls) NameTaken
+        (cause_of_many (nat_le 32 (count_by (is_member_of of) calls)) calls (AProperty of id value name))
 
 abbrev pub refusal_of_value : List Call → List ℕ → ℕ → Named → List ℕ → Option RegistryFault
 refusal_of_value calls of id (Prim _ value) name = refusal_of_primitive calls of id value name
@@ -123,7 +142,8 @@ refusal_of_declared_property calls of id (Some (tree.AProperty p)) = refusal_of_
 refusal_of_declared_property calls of id _ = Some BadDeclaration
 
 abbrev pub refusal_of_property : List Call → List ℕ → ℕ → Option Declaration → Option RegistryFault
-refusal_of_property calls of id declared = cause (not (is_known calls of)) UnknownType (refusal_of_declared_property calls of id declared)
+refusal_of_property calls of id declared =
+    cause (not (is_known calls of)) UnknownType (refusal_of_declared_property calls of id declared)
 
 -- the call of a property
 abbrev pub value_call : List ℕ → ℕ → Named → List ℕ → List Call
@@ -141,14 +161,18 @@ gives_handle_of _ _ = false
 
 abbrev pub refusal_of_constructor : List Call → List ℕ → List Named → Option RegistryFault
 refusal_of_constructor calls of parameters =
-    cause_in calls parameters (cause (list_any (is_factory_of of) calls) FactoryTaken (cause_of_many false calls (AFactory of (filter_map primitive_of parameters))))
+    cause_in calls parameters
+        (cause (list_any (is_factory_of of) calls) FactoryTaken
+        (cause_of_many false calls (AFactory of (filter_map primitive_of parameters))))
 
 abbrev pub refusal_of_declared_factory : List Call → List ℕ → Option Declaration → Option RegistryFault
-refusal_of_declared_factory calls of (Some (ASignature s)) = cause (not (gives_handle_of of s.result)) BadDeclaration (refusal_of_constructor calls of s.parameters)
+refusal_of_declared_factory calls of (Some (ASignature s)) =
+    cause (not (gives_handle_of of s.result)) BadDeclaration (refusal_of_constructor calls of s.parameters)
 refusal_of_declared_factory calls of _ = Some BadDeclaration
 
 abbrev pub refusal_of_factory : List Call → List ℕ → Option Declaration → Option RegistryFault
-refusal_of_factory calls of declared = cause (not (is_known calls of)) UnknownType (refusal_of_declared_factory calls of declared)
+refusal_of_factory calls of declared =
+    cause (not (is_known calls of)) UnknownType (refusal_of_declared_factory calls of declared)
 
 abbrev pub factory_call : List ℕ → Option Declaration → List Call
 factory_call of (Some (ASignature s)) = AFactory of (filter_map primitive_of s.parameters) ∷ []
@@ -158,14 +182,18 @@ factory_call _ _ = []
 -- and there are at most 256.
 abbrev pub refusal_of_operation : List Call → ℕ → ℕ → Signature → Option RegistryFault
 refusal_of_operation calls service id s =
-    cause_in calls (types_of s) (cause (list_any (takes_name s.name) calls || list_any (takes_function service id) calls) NameTaken (cause_of_many (nat_le 256 (count_by is_function calls)) calls (AFunction service id (primitive_operation s))))
+    cause_in calls (types_of s)
+        (cause (list_any (takes_name s.name) calls || list_any (takes_function service id) calls) NameTaken
+        (cause_of_many (nat_le 256 (count_by is_function calls)) calls (AFunction service id (primitive_operation s))))
 
 abbrev pub refusal_of_declared_function : List Call → ℕ → ℕ → Option Declaration → Option RegistryFault
 refusal_of_declared_function calls service id (Some (ASignature s)) = refusal_of_operation calls service id s
 refusal_of_declared_function calls service id _ = Some BadDeclaration
 
 abbrev pub refusal_of_function : List Call → ℕ → ℕ → Option Declaration → Option RegistryFault
-refusal_of_function calls service id declared = cause (nat_le (count_by is_service calls) service) NoService (refusal_of_declared_function calls service id declared)
+refusal_of_function calls service id declared =
+    cause (nat_le (count_by is_service calls) service) NoService
+    (refusal_of_declared_function calls service id declared)
 
 abbrev pub function_call : ℕ → ℕ → Option Declaration → List Call
 function_call service id (Some (ASignature s)) = AFunction service id (primitive_operation s) ∷ []

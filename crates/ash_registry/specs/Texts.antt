@@ -29,7 +29,8 @@ IsWord text meaning = IsCutInto text (lexeme_at [] text meaning ∷ [])
 
 -- the text is a word that is reserved or unsupported
 abbrev pub IsNoNameWord : List ℕ → Type 0
-IsNoNameWord text = ((w : ReservedWord) × IsWord text (reserved w)) ⊎ ((w : UnsupportedWord) × IsWord text (unsupported w))
+IsNoNameWord text =
+    ((w : ReservedWord) × IsWord text (reserved w)) ⊎ ((w : UnsupportedWord) × IsWord text (unsupported w))
 
 -- a name: a letter or `_`, then letters, digits and `_`, and no word of the language
 abbrev pub HasNameClass : List ℕ → NameClass → Type 0

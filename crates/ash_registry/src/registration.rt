@@ -1,14 +1,26 @@
 //! The calls that register.
-ghost use Rattle.std.specs.Prelude.{◌≡◌, ◌||◌, ℕ, List, false, [], ◌∷◌, Option, Some, count_by, map, nat_le, not, string_bytes, IfOk};
+ghost use Rattle.std.specs.Prelude.{◌≡◌, ◌||◌, ℕ, List, false, [], ◌∷◌, Option, Some, count_by, map, nat_le, not};
+ghost use Rattle.std.specs.Prelude.{string_bytes, IfOk};
 ghost use Rattle.std.specs.List.{filter_map, list_any};
 ghost use Rattle.std.specs.Option.{option_map};
 ghost use Rattle.ash_tree.specs.Tree.{Declaration as DeclarationTree};
 ghost use Rattle.ash_tree.specs.Views.{declaration_of, signature_of, type_of};
-ghost use Rattle.ash_registrations.specs.Calls.{call_of, AType, AFactory, AMethod, AProperty, AService, AFunction, is_member_of, is_service, is_function, takes_function, takes_kind, takes_name};
+ghost use Rattle.ash_registrations.specs.Calls.{call_of, AType, AFactory, AMethod, AProperty, AService, AFunction};
+ghost use Rattle.ash_registrations.specs.Calls.{is_member_of, is_service, is_function, takes_function, takes_kind};
+ghost use Rattle.ash_registrations.specs.Calls.{takes_name};
 ghost use Rattle.std.specs.Str.{bytes_eq};
-ghost use Rattle.ash_registry.specs.declared.fault.RegistryFault.TheVariants.{BadDeclaration, NameTaken, NoService, UnknownType, NotPrimitive};
+ghost use Rattle.ash_registry.specs.declared.fault.RegistryFault.TheVariants.{BadDeclaration, NameTaken, NoService};
+ghost use Rattle.ash_registry.specs.declared.fault.RegistryFault.TheVariants.{UnknownType, NotPrimitive};
 ghost use Rattle.ash_registry.specs.Registered.{registered};
-ghost use Rattle.ash_registry.specs.Refusals.{RegisteredIf, RefusedWithoutAllocating, cause, cause_of_many, refusal_of_type, refusal_of_service, refusal_of_method, refusal_of_declared_method, refusal_of_signature, refusal_of_property, refusal_of_declared_property, refusal_of_primitive, refusal_of_value, is_known, primitive_of, value_call, is_unknown, refusal_of_factory, refusal_of_declared_factory, refusal_of_constructor, refusal_of_function, refusal_of_declared_function, refusal_of_operation, gives_handle_of, primitive_operation, method_call, property_call, factory_call, function_call};
+ghost use Rattle.ash_registry.specs.Refusals.{RegisteredIf, RefusedWithoutAllocating, cause, cause_of_many};
+ghost use Rattle.ash_registry.specs.Refusals.{refusal_of_type, refusal_of_service, refusal_of_method};
+ghost use Rattle.ash_registry.specs.Refusals.{refusal_of_declared_method, refusal_of_signature, refusal_of_property};
+ghost use Rattle.ash_registry.specs.Refusals.{refusal_of_declared_property, refusal_of_primitive, refusal_of_value};
+ghost use Rattle.ash_registry.specs.Refusals.{is_known, primitive_of, value_call, is_unknown, refusal_of_factory};
+ghost use Rattle.ash_registry.specs.Refusals.{refusal_of_declared_factory, refusal_of_constructor, refusal_of_function};
+ghost use Rattle.ash_registry.specs.Refusals.{refusal_of_declared_function, refusal_of_operation, gives_handle_of};
+ghost use Rattle.ash_registry.specs.Refusals.{primitive_operation, method_call, property_call, factory_call};
+ghost use Rattle.ash_registry.specs.Refusals.{function_call};
 ghost use Rattle.ash_registry.specs.NameClasses.{name_class_of};
 ghost use Rattle.ash_registry.specs.Texts.{NameClass, AName, HasNameClass, IsDeclared};
 
@@ -41,7 +53,8 @@ impl Registry {
     }
 
     fn classified_type(&mut self, name: &str, name_kind: NameKind, kind: u16) -> Result<(), RegistryFault>
-        ensures { RegisteredIf (refusal_of_type (registered self.old) name.now (name_class_of name_kind) kind)
+        ensures { RegisteredIf
+            (refusal_of_type (registered self.old) name.now (name_class_of name_kind) kind)
             (AType name.now kind ∷ []) result (registered self.old) (registered self.new) }
     {
         match name_kind {
@@ -69,7 +82,8 @@ impl Registry {
         ensures index { IfOk result (λ index. index ≡ count_by is_service (registered self.old)) }
         ensures registers { RegisteredIf (refusal_of_service (registered self.old) kind)
             (AService kind ∷ []) result (registered self.old) (registered self.new) }
-        ensures without_allocating { RefusedWithoutAllocating (list_any (takes_kind kind) (registered self.old)) NameTaken result }
+        ensures without_allocating { RefusedWithoutAllocating
+            (list_any (takes_kind kind) (registered self.old)) NameTaken result }
     {
         if self.table.takes_kind(kind) {
             return Err(RegistryFault::NameTaken);
@@ -84,7 +98,8 @@ impl Registry {
         ensures registers { (declared : Option DeclarationTree) → IsDeclared decl.now declared
             → RegisteredIf (refusal_of_method (registered self.old) of.now id declared)
             (method_call of.now id declared) result (registered self.old) (registered self.new) }
-        ensures without_allocating { RefusedWithoutAllocating (not (is_known (registered self.old) of.now)) UnknownType result }
+        ensures without_allocating { RefusedWithoutAllocating
+            (not (is_known (registered self.old) of.now)) UnknownType result }
     {
         if !self.table.knows(of) {
             return Err(RegistryFault::UnknownType);
@@ -100,9 +115,10 @@ impl Registry {
         id: u16,
     ) -> Result<(), RegistryFault>
         ensures { RegisteredIf
-            (refusal_of_declared_method (registered self.old) of.now id (option_map declaration_of declared))
-            (method_call of.now id (option_map declaration_of declared))
-            result (registered self.old) (registered self.new) }
+            (refusal_of_declared_method (registered self.old) of.now id
+            (option_map declaration_of declared))
+            (method_call of.now id (option_map declaration_of declared)) result
+            (registered self.old) (registered self.new) }
     {
         match declared {
             Some(Declaration::Function(signature)) => self.method_of_signature(of, signature, id),
@@ -138,10 +154,11 @@ impl Registry {
 
     fn add_method(&mut self, of: &str, signature: Signature, id: u16) -> Result<(), RegistryFault>
         ensures { RegisteredIf
-            (cause_of_many (nat_le 32 (count_by (is_member_of of.now) (registered self.old))) (registered self.old)
+            (cause_of_many (nat_le 32 (count_by (is_member_of of.now) (registered self.old)))
+            (registered self.old)
             (AMethod of.now id (primitive_operation (signature_of signature))))
-            (AMethod of.now id (primitive_operation (signature_of signature)) ∷ [])
-            result (registered self.old) (registered self.new) }
+            (AMethod of.now id (primitive_operation (signature_of signature)) ∷ []) result
+            (registered self.old) (registered self.new) }
     {
         let operation = operation(self.alloc, signature)?;
         let of = of.to_string(self.alloc)?;
@@ -154,7 +171,8 @@ impl Registry {
         ensures registers { (declared : Option DeclarationTree) → IsDeclared decl.now declared
             → RegisteredIf (refusal_of_property (registered self.old) of.now id declared)
             (property_call of.now id declared) result (registered self.old) (registered self.new) }
-        ensures without_allocating { RefusedWithoutAllocating (not (is_known (registered self.old) of.now)) UnknownType result }
+        ensures without_allocating { RefusedWithoutAllocating
+            (not (is_known (registered self.old) of.now)) UnknownType result }
     {
         if !self.table.knows(of) {
             return Err(RegistryFault::UnknownType);
@@ -170,9 +188,10 @@ impl Registry {
         id: u16,
     ) -> Result<(), RegistryFault>
         ensures { RegisteredIf
-            (refusal_of_declared_property (registered self.old) of.now id (option_map declaration_of declared))
-            (property_call of.now id (option_map declaration_of declared))
-            result (registered self.old) (registered self.new) }
+            (refusal_of_declared_property (registered self.old) of.now id
+            (option_map declaration_of declared))
+            (property_call of.now id (option_map declaration_of declared)) result
+            (registered self.old) (registered self.new) }
     {
         match declared {
             Some(Declaration::Property(property)) => self.property_of_type(of, property, id),
@@ -187,9 +206,10 @@ impl Registry {
         id: u16,
     ) -> Result<(), RegistryFault>
         ensures { RegisteredIf
-            (refusal_of_value (registered self.old) of.now id (type_of property.of) (string_bytes property.name))
-            (value_call of.now id (type_of property.of) (string_bytes property.name))
-            result (registered self.old) (registered self.new) }
+            (refusal_of_value (registered self.old) of.now id (type_of property.of)
+            (string_bytes property.name))
+            (value_call of.now id (type_of property.of) (string_bytes property.name)) result
+            (registered self.old) (registered self.new) }
     {
         let Property {
             place: _,
@@ -204,7 +224,9 @@ impl Registry {
 
     // The fault of a property of an object type.
     fn fault_of_object(&self, of: &Type) -> RegistryFault
-        ensures { Some result ≡ cause (is_unknown (registered self.now) (type_of of.now)) UnknownType (Some NotPrimitive) }
+        ensures { Some result
+            ≡ cause (is_unknown (registered self.now) (type_of of.now)) UnknownType
+            (Some NotPrimitive) }
     {
         if self.is_unknown(of) {
             RegistryFault::UnknownType
@@ -246,7 +268,8 @@ impl Registry {
         ensures registers { (declared : Option DeclarationTree) → IsDeclared decl.now declared
             → RegisteredIf (refusal_of_factory (registered self.old) of.now declared)
             (factory_call of.now declared) result (registered self.old) (registered self.new) }
-        ensures without_allocating { RefusedWithoutAllocating (not (is_known (registered self.old) of.now)) UnknownType result }
+        ensures without_allocating { RefusedWithoutAllocating
+            (not (is_known (registered self.old) of.now)) UnknownType result }
     {
         if !self.table.knows(of) {
             return Err(RegistryFault::UnknownType);
@@ -261,9 +284,10 @@ impl Registry {
         declared: Option<Declaration>,
     ) -> Result<(), RegistryFault>
         ensures { RegisteredIf
-            (refusal_of_declared_factory (registered self.old) of.now (option_map declaration_of declared))
-            (factory_call of.now (option_map declaration_of declared))
-            result (registered self.old) (registered self.new) }
+            (refusal_of_declared_factory (registered self.old) of.now
+            (option_map declaration_of declared))
+            (factory_call of.now (option_map declaration_of declared)) result (registered self.old)
+            (registered self.new) }
     {
         match declared {
             Some(Declaration::Function(signature)) => self.factory_of_signature(of, signature),
@@ -274,7 +298,8 @@ impl Registry {
     fn factory_of_signature(&mut self, of: &str, signature: Signature) -> Result<(), RegistryFault>
         ensures { RegisteredIf
             (cause (not (gives_handle_of of.now (signature_of signature).result)) BadDeclaration
-            (refusal_of_constructor (registered self.old) of.now (signature_of signature).parameters))
+            (refusal_of_constructor (registered self.old) of.now
+            (signature_of signature).parameters))
             (AFactory of.now (filter_map primitive_of (signature_of signature).parameters) ∷ [])
             result (registered self.old) (registered self.new) }
     {
@@ -310,7 +335,8 @@ impl Registry {
         ensures registers { (declared : Option DeclarationTree) → IsDeclared decl.now declared
             → RegisteredIf (refusal_of_function (registered self.old) service id declared)
             (function_call service id declared) result (registered self.old) (registered self.new) }
-        ensures without_allocating { RefusedWithoutAllocating (nat_le (count_by is_service (registered self.old)) service) NoService result }
+        ensures without_allocating { RefusedWithoutAllocating
+            (nat_le (count_by is_service (registered self.old)) service) NoService result }
     {
         if self.table.services() <= service as usize {
             return Err(RegistryFault::NoService);
@@ -326,9 +352,10 @@ impl Registry {
         id: u16,
     ) -> Result<(), RegistryFault>
         ensures { RegisteredIf
-            (refusal_of_declared_function (registered self.old) service id (option_map declaration_of declared))
-            (function_call service id (option_map declaration_of declared))
-            result (registered self.old) (registered self.new) }
+            (refusal_of_declared_function (registered self.old) service id
+            (option_map declaration_of declared))
+            (function_call service id (option_map declaration_of declared)) result
+            (registered self.old) (registered self.new) }
     {
         match declared {
             Some(Declaration::Function(signature)) => self.function_of_signature(service, signature, id),
@@ -373,12 +400,14 @@ impl Registry {
         signature: Signature,
         id: u16,
     ) -> Result<(), RegistryFault>
-        requires { list_any (takes_name (string_bytes signature.name)) (registered self.old) ≡ false }
+        requires { list_any (takes_name (string_bytes signature.name)) (registered self.old)
+            ≡ false }
         ensures { RegisteredIf
-            (cause_of_many (nat_le 256 (count_by is_function (registered self.old))) (registered self.old)
+            (cause_of_many (nat_le 256 (count_by is_function (registered self.old)))
+            (registered self.old)
             (AFunction service id (primitive_operation (signature_of signature))))
-            (AFunction service id (primitive_operation (signature_of signature)) ∷ [])
-            result (registered self.old) (registered self.new) }
+            (AFunction service id (primitive_operation (signature_of signature)) ∷ []) result
+            (registered self.old) (registered self.new) }
     {
         let key = signature.name.clone()?;
         let operation = operation(self.alloc, signature)?;
@@ -393,10 +422,11 @@ impl Registry {
 
     // Adds a type or a function against which nothing else speaks, with its name.
     fn accept_named(&mut self, call: Call, key: String, many: bool) -> Result<(), RegistryFault>
-        requires named { (name : List ℕ) → takes_name name (call_of call) ≡ bytes_eq name (string_bytes key) }
+        requires named { (name : List ℕ)
+            → takes_name name (call_of call) ≡ bytes_eq name (string_bytes key) }
         requires free { list_any (takes_name (string_bytes key)) (registered self.old) ≡ false }
-        ensures { RegisteredIf (cause_of_many many (registered self.old) (call_of call)) (call_of call ∷ [])
-            result (registered self.old) (registered self.new) }
+        ensures { RegisteredIf (cause_of_many many (registered self.old) (call_of call))
+            (call_of call ∷ []) result (registered self.old) (registered self.new) }
     {
         if many {
             return Err(RegistryFault::TooMany);
@@ -408,8 +438,8 @@ impl Registry {
     // Adds a call against which nothing else speaks, and which takes no name of a type or function.
     fn accept(&mut self, call: Call, many: bool) -> Result<(), RegistryFault>
         requires { (name : List ℕ) → takes_name name (call_of call) ≡ false }
-        ensures { RegisteredIf (cause_of_many many (registered self.old) (call_of call)) (call_of call ∷ [])
-            result (registered self.old) (registered self.new) }
+        ensures { RegisteredIf (cause_of_many many (registered self.old) (call_of call))
+            (call_of call ∷ []) result (registered self.old) (registered self.new) }
     {
         if many {
             return Err(RegistryFault::TooMany);

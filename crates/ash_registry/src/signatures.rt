@@ -2,7 +2,8 @@
 ghost use Rattle.std.specs.Prelude.{◌≡◌, IfOk, Some, map};
 ghost use Rattle.std.specs.List.{list_any, filter_map};
 ghost use Rattle.ash_registrations.specs.Calls.{operation_of};
-ghost use Rattle.ash_registry.specs.Refusals.{is_unknown, is_unknown_element, is_object, primitive_of, primitive_operation, types_of, gives_handle_of};
+ghost use Rattle.ash_registry.specs.Refusals.{is_unknown, is_unknown_element, is_object, primitive_of};
+ghost use Rattle.ash_registry.specs.Refusals.{primitive_operation, types_of, gives_handle_of};
 ghost use Rattle.std.specs.Option.{option_map};
 ghost use Rattle.ash_registry.specs.Registered.{registered};
 ghost use Rattle.ash_tree.specs.Views.{element_of, type_of, signature_of};
@@ -23,7 +24,8 @@ fn primitive(of: &Type) -> Option<Primitive>
 
 // The primitives among types.
 pub(crate) fn primitives(alloc: Global, types: &[Type]) -> Result<Vec<Primitive>, AllocError>
-    ensures { IfOk result (λ primitive_types. primitive_types.items ≡ filter_map (λ t. primitive_of (type_of t)) types.now) }
+    ensures { IfOk result (λ primitive_types.
+        primitive_types.items ≡ filter_map (λ t. primitive_of (type_of t)) types.now) }
 {
     types.iter().filter_map(|t| primitive(t)).collect(alloc)
 }
@@ -31,7 +33,8 @@ pub(crate) fn primitives(alloc: Global, types: &[Type]) -> Result<Vec<Primitive>
 /// A signature whose types are primitive.
 #[tactic(auto, using(ash_registrations::proofs::Mapped::filter_mapped))]
 pub(crate) fn operation(alloc: Global, signature: Signature) -> Result<Operation, AllocError>
-    ensures { IfOk result (λ primitive_types. operation_of primitive_types ≡ primitive_operation (signature_of signature)) }
+    ensures { IfOk result (λ primitive_types.
+        operation_of primitive_types ≡ primitive_operation (signature_of signature)) }
 {
     let Signature {
         place: _,
@@ -85,7 +88,8 @@ impl Registry {
     // Whether a signature names an object type that isn't registered.
     #[tactic(auto, using(ash_registrations::proofs::Mapped::any_mapped))]
     pub(crate) fn names_unknown(&self, signature: &Signature) -> bool
-        ensures { result ≡ list_any (is_unknown (registered self.now)) (types_of (signature_of signature.now)) }
+        ensures { result
+            ≡ list_any (is_unknown (registered self.now)) (types_of (signature_of signature.now)) }
     {
         match &signature.result {
             Some(of) => self.is_unknown(of) || self.any_unknown(&signature.parameters),

@@ -27,7 +27,8 @@ pub(crate) enum NameKind {
 
 // The tokens of a text, unless it is too long or has a lexical fault.
 fn read_tokens(alloc: Global, text: &str) -> Result<Option<Vec<Token>>, RegistryFault>
-    ensures cut { IfOk result (λ tokens. IsCut text.now (option_map (λ ts. lexemes ts.items) tokens)) }
+    ensures cut { IfOk result (λ tokens.
+        IsCut text.now (option_map (λ ts. lexemes ts.items) tokens)) }
     ensures only_memory { IfErr result (λ fault. fault ≡ NoMemory) }
 {
     match lex(alloc, text) {
@@ -124,7 +125,9 @@ fn ran_out(fault: ParseFault) -> bool
 /// when it runs.
 pub fn one_meaning()
     ensures some_class { (text : List ℕ) → (s : NameClass) × HasNameClass text s }
-    ensures one_class { (text : List ℕ) (s t : NameClass) → HasNameClass text s → HasNameClass text t → s ≡ t }
+    ensures one_class { (text : List ℕ) (s t : NameClass) → HasNameClass text s
+        → HasNameClass text t → s ≡ t }
     ensures some_declaration { (text : List ℕ) → (d : Option DeclarationTree) × IsDeclared text d }
-    ensures one_declaration { (text : List ℕ) (d e : Option DeclarationTree) → IsDeclared text d → IsDeclared text e → d ≡ e }
+    ensures one_declaration { (text : List ℕ) (d e : Option DeclarationTree) → IsDeclared text d
+        → IsDeclared text e → d ≡ e }
 {}

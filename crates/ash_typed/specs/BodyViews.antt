@@ -8,7 +8,10 @@ use Rattle.ash_typed.specs.declared.tree.statements.Loop as loop_code
 use Rattle.ash_typed.specs.declared.tree.statements.Head as head_code
 use Rattle.ash_typed.specs.declared.tree.statements.Head.TheVariants as heads
 use Rattle.ash_typed.specs.declared.tree.statements.Initialization as initialization_code
-use Rattle.ash_typed.specs.StatementTree.{Initialization, Stmt, Empty, Declare, Evaluate, Block, If, Branch, no_branch, branch, Head, no_head, declared_head, evaluated_head, Repeat, For, Loop, repeated, Switch, Break, Continue, Return, Stmts, no_stmt, stmt, stmts, Case, labelled, Cases, no_case, next_case}
+use Rattle.ash_typed.specs.StatementTree.{Initialization, Stmt, Empty, Declare, Evaluate, Block, If, Branch, no_branch}
+use Rattle.ash_typed.specs.StatementTree.{branch, Head, no_head, declared_head, evaluated_head, Repeat, For, Loop}
+use Rattle.ash_typed.specs.StatementTree.{repeated, Switch, Break, Continue, Return, Stmts, no_stmt, stmt, stmts, Case}
+use Rattle.ash_typed.specs.StatementTree.{labelled, Cases, no_case, next_case}
 use Rattle.ash_typed.specs.Views.{expr_of}
 
 abbrev pub value_of : initialization_code.Initialization → Initialization

@@ -1,5 +1,5 @@
--- How chains of operators, paths and rows of lazy operands lie in memory: each as one node, however long it is, so that a
--- tree is no deeper where a sum is long.
+-- How chains of operators, paths and rows of lazy operands lie in memory: each as one node, however long it is, so that
+-- a tree is no deeper where a sum is long.
 use Rattle.std.specs.Prelude.{List, []}
 use Rattle.ash_typed.specs.declared.tree.expressions.Expr as code
 use Rattle.ash_typed.specs.declared.tree.expressions.Expr.TheVariants as variants

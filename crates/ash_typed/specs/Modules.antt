@@ -64,19 +64,42 @@ abbrev pub variables_of : variables.Variables → Variables
 variables_of v = record { line = v.line; values = map value_of v.initializations.items }
 
 abbrev pub function_of : function.Function → Function
-function_of f = record { name = string_bytes f.name; line = f.line; result = f.result; parameters = f.parameters.items; body = body_of f.body.items }
+function_of f = record {
+  name = string_bytes f.name;
+  line = f.line;
+  result = f.result;
+  parameters = f.parameters.items;
+  body = body_of f.body.items;
+}
 
 abbrev pub signature_of : signature.Signature → Signature
 signature_of s = record { name = string_bytes s.name; result = s.result; parameters = s.parameters.items }
 
 abbrev pub interface_of : interface.Interface → Interface
-interface_of i = record { name = string_bytes i.name; line = i.line; classes_before = i.classes_before; methods = map signature_of i.methods.items }
+interface_of i = record {
+  name = string_bytes i.name;
+  line = i.line;
+  classes_before = i.classes_before;
+  methods = map signature_of i.methods.items;
+}
 
 abbrev pub implementation_of : implementation.Implementation → Implementation
 implementation_of i = record { interface = i.interface; methods = i.methods.items }
 
 abbrev pub class_of : class.Class → Class
-class_of c = record { name = string_bytes c.name; line = c.line; interfaces = map implementation_of c.interfaces.items; fields = map value_of c.fields.items; constructor = option_map function_of c.constructor; methods = map function_of c.methods.items }
+class_of c = record {
+  name = string_bytes c.name;
+  line = c.line;
+  interfaces = map implementation_of c.interfaces.items;
+  fields = map value_of c.fields.items;
+  constructor = option_map function_of c.constructor;
+  methods = map function_of c.methods.items;
+}
 
 abbrev pub module_of : script.Module → Module
-module_of m = record { interfaces = map interface_of m.interfaces.items; classes = map class_of m.classes.items; functions = map function_of m.functions.items; globals = map variables_of m.globals.items }
+module_of m = record {
+  interfaces = map interface_of m.interfaces.items;
+  classes = map class_of m.classes.items;
+  functions = map function_of m.functions.items;
+  globals = map variables_of m.globals.items;
+}

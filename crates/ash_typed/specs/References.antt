@@ -31,10 +31,11 @@ pub data Holds (s : Signatures) (class : ℕ) : VarType → Type 0 where
 
 -- a field of the class of the one place can hold objects of the class of the other
 abbrev pub Refers : Signatures → ℕ → ℕ → Type 0
-Refers s from to = (c : ClassSignature) × (of : VarType) × (slice_get s.classes from ≡ Some c) × Contains c.fields of × Holds s to of
+Refers s from to =
+    (c : ClassSignature) × (of : VarType) × (slice_get s.classes from ≡ Some c) × Contains c.fields of × Holds s to of
 
--- A rank for each class, below the number of classes. It is greater than that of each class that the class refers to, so
--- that objects never hold one another in a ring.
+-- A rank for each class, below the number of classes. It is greater than that of each class that the class refers to,
+-- so that objects never hold one another in a ring.
 pub record AreRanks (s : Signatures) (ranks : List ℕ) : Type 0 where
   pub count : length ranks ≡ length s.classes
   pub within : All (λ rank. rank < length s.classes) ranks

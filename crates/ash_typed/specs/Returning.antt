@@ -4,7 +4,8 @@ use Rattle.ash_tree.specs.declared.tree.statements.Label.{Label}
 use Rattle.ash_tree.specs.declared.tree.statements.Label.TheVariants as labels
 use Rattle.ash_typed.specs.declared.types.Kind.{Kind}
 use Rattle.ash_typed.specs.Tree.{Expr}
-use Rattle.ash_typed.specs.StatementTree.{Stmt, Block, If, Branch, branch, Switch, Break, Return, Stmts, stmt, Case, labelled, Cases, no_case, next_case}
+use Rattle.ash_typed.specs.StatementTree.{Stmt, Block, If, Branch, branch, Switch, Break, Return, Stmts, stmt, Case}
+use Rattle.ash_typed.specs.StatementTree.{labelled, Cases, no_case, next_case}
 
 -- a `break` that leaves what the statement stands in, and no loop or `switch` inside it
 mutual

@@ -70,7 +70,12 @@ parameters_of None = []
 parameters_of (Some f) = f.parameters
 
 abbrev pub signature_of_class : Class → ClassSignature
-signature_of_class c = record { interfaces = map place_of_interface c.interfaces; fields = map type_declared c.fields; parameters = parameters_of c.constructor; methods = map signature_of c.methods }
+signature_of_class c = record {
+  interfaces = map place_of_interface c.interfaces;
+  fields = map type_declared c.fields;
+  parameters = parameters_of c.constructor;
+  methods = map signature_of c.methods;
+}
 
 abbrev pub methods_of_interface : Interface → List Signature
 methods_of_interface i = i.methods
@@ -81,7 +86,13 @@ types_of_globals (v ∷ vs) = map type_declared v.values ++ types_of_globals vs
 
 -- what the items of a module see
 abbrev pub signatures_of : Host → Module → Signatures
-signatures_of host m = record { host = host; interfaces = map methods_of_interface m.interfaces; classes = map signature_of_class m.classes; functions = map signature_of m.functions; globals = types_of_globals m.globals }
+signatures_of host m = record {
+  host = host;
+  interfaces = map methods_of_interface m.interfaces;
+  classes = map signature_of_class m.classes;
+  functions = map signature_of m.functions;
+  globals = types_of_globals m.globals;
+}
 
 -- types whose places are in range
 

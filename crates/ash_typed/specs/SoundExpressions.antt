@@ -1,8 +1,8 @@
--- Sound expressions, by the typed tree alone: what an expression gives, where each of its parts gives what its node asks
--- for, and each place is in range. One case for each node.
+-- Sound expressions, by the typed tree alone: what an expression gives, where each of its parts gives what its node
+-- asks for, and each place is in range. One case for each node.
 --
--- `IsWellTyped env e of`: in this environment the expression `e` is well typed, and gives a value of this type, or null,
--- or no value.
+-- `IsWellTyped env e of`: in this environment the expression `e` is well typed, and gives a value of this type, or
+-- null, or no value.
 use Rattle.std.specs.Prelude.{◌≡◌, ℕ, Bool, List, [], ◌∷◌, Option, Some, slice_get}
 use Rattle.ash_typed.specs.declared.types.Kind.{Kind}
 use Rattle.ash_typed.specs.declared.types.Kind.TheVariants as kinds
@@ -22,10 +22,13 @@ use Rattle.ash_typed.specs.declared.tree.operations.Operation.TheVariants as ope
 use Rattle.ash_typed.specs.declared.tree.operations.Lazy.{Lazy}
 use Rattle.ash_typed.specs.declared.tree.operations.Change.{Change}
 use Rattle.ash_typed.specs.declared.tree.operations.Step.{Step}
-use Rattle.ash_typed.specs.Tree.{Expr, Number, Truth, Null, This, Read, Invoke, Convert, Cast, Alter, Operate, Lazily, Conditional, Assign, Update, Count, Call, Place, Stored, Held, Indexed, Exprs, no_expr, expr}
+use Rattle.ash_typed.specs.Tree.{Expr, Number, Truth, Null, This, Read, Invoke, Convert, Cast, Alter, Operate, Lazily}
+use Rattle.ash_typed.specs.Tree.{Conditional, Assign, Update, Count, Call, Place, Stored, Held, Indexed, Exprs, no_expr}
+use Rattle.ash_typed.specs.Tree.{expr}
 use Rattle.ash_typed.specs.TypeOf.{ValueType, null_value, value, as_value, given, type_of_element}
 use Rattle.ash_typed.specs.Signatures.{Signatures, IsSubtype}
-use Rattle.ash_typed.specs.SoundOperations.{IsWithin, IsMember, IsMethod, IsTarget, IsShift, Compares, IsOperand, IsChange, IsCastType, IsAssigned}
+use Rattle.ash_typed.specs.SoundOperations.{IsWithin, IsMember, IsMethod, IsTarget, IsShift, Compares, IsOperand}
+use Rattle.ash_typed.specs.SoundOperations.{IsChange, IsCastType, IsAssigned}
 
 -- what an expression sees: what the module declares, the class of the object that runs, and the types of the locals
 pub record Environment : Type 0 where
@@ -44,7 +47,8 @@ mutual
     read : {place : Place} {of : VarType}
         → HasPlace env place of
         → IsWellTyped env (Read place) (value (as_value of))
-    invoke : {object : Expr} {o : ObjectType} {method : Method} {parameters : List VarType} {result : Option VarType} {es : Exprs}
+    invoke : {object : Expr} {o : ObjectType} {method : Method} {parameters : List VarType} {result : Option VarType}
+        {es : Exprs}
         → IsWellTyped env object (value (vars.Handle o))
         → IsMethod env.signatures o method parameters result
         → AreArguments env parameters es
@@ -63,12 +67,14 @@ mutual
     calculate : {operator : Calculator} {of : Kind} {a b : Expr}
         → IsWellTyped env a (value (vars.Integer of))
         → IsWellTyped env b (value (vars.Integer of))
-        → IsWellTyped env (Operate (operations.Calculate (record { operator = operator; of = of })) a b) (value (vars.Integer of))
+        → IsWellTyped env (Operate (operations.Calculate (record { operator = operator; of = of })) a b)
+        (value (vars.Integer of))
     shift : {operator : Calculator} {of count : Kind} {a b : Expr}
         → IsShift operator
         → IsWellTyped env a (value (vars.Integer of))
         → IsWellTyped env b (value (vars.Integer count))
-        → IsWellTyped env (Operate (operations.Calculate (record { operator = operator; of = of })) a b) (value (vars.Integer of))
+        → IsWellTyped env (Operate (operations.Calculate (record { operator = operator; of = of })) a b)
+        (value (vars.Integer of))
     compare : {operator : Comparator} {of : Operands} {a b : Expr} {x y : ValueType}
         → Compares operator of
         → IsWellTyped env a x

@@ -1,5 +1,6 @@
 -- Sound modules, by the typed tree alone: what a compiler and a machine that walk it may rely on.
-use Rattle.std.specs.Prelude.{◌≡◌, ◌≤◌, ◌+◌, ◌⊎◌, ℕ, length, List, [], ◌∷◌, ◌++◌, map, Some, None, IfSome, slice_get, false}
+use Rattle.std.specs.Prelude.{◌≡◌, ◌≤◌, ◌+◌, ◌⊎◌, ℕ, length, List, [], ◌∷◌, ◌++◌, map, Some, None, IfSome, slice_get}
+use Rattle.std.specs.Prelude.{false}
 use Rattle.std.specs.List.{AllByRecursion, AllZip, IsDistinct}
 use Rattle.std.specs.Str.{bytes_eq}
 use Rattle.ash_typed.specs.StatementTree.{Initialization}
@@ -20,7 +21,12 @@ outside s = record { signatures = s; this = None; locals = [] }
 
 -- the parameters are the first locals of a body, and no jump leaves it
 abbrev pub body_scope : Environment → Function → Scope
-body_scope env f = record { env = record { signatures = env.signatures; this = env.this; locals = f.parameters }; gives = f.result; may_break = false; may_continue = false }
+body_scope env f = record {
+  env = record { signatures = env.signatures; this = env.this; locals = f.parameters };
+  gives = f.result;
+  may_break = false;
+  may_continue = false;
+}
 
 -- a function, a method or a constructor: one with a result does not end without it
 pub record IsFunction (env : Environment) (f : Function) : Type 0 where
@@ -49,7 +55,9 @@ Implements methods declared place = (f : Function) × (slice_get methods place �
 
 -- a class has a method for each of an interface that it lists
 abbrev pub IsImplementation : Signatures → List Function → Implementation → Type 0
-IsImplementation s methods i = (declared : List Signature) × (slice_get s.interfaces i.interface ≡ Some declared) × AllZip (Implements methods) declared i.methods
+IsImplementation s methods i =
+    (declared : List Signature) × (slice_get s.interfaces i.interface ≡ Some declared)
+    × AllZip (Implements methods) declared i.methods
 
 pub record IsConstructor (env : Environment) (class : List ℕ) (f : Function) : Type 0 where
   pub named : f.name ≡ class
@@ -84,8 +92,8 @@ abbrev pub names_of_globals : List Variables → List (List ℕ)
 names_of_globals [] = []
 names_of_globals (v ∷ vs) = map name_of_variable v.values ++ names_of_globals vs
 
--- A module where a host offers this. It has at most 256 classes and interfaces, and 256 variables. Its functions differ in
--- name, and so do its variables.
+-- A module where a host offers this. It has at most 256 classes and interfaces, and 256 variables. Its functions differ
+-- in name, and so do its variables.
 pub record IsSound (host : Host) (m : Module) : Type 0 where
   pub few_types : length m.classes + length m.interfaces ≤ 256
   pub few_globals : length (signatures_of host m).globals ≤ 256

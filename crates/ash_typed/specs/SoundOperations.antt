@@ -1,5 +1,5 @@
--- What the nodes of sound expressions name, by the typed tree alone: members and methods of an object, what is called, and
--- operators with what they take. One case for each.
+-- What the nodes of sound expressions name, by the typed tree alone: members and methods of an object, what is called,
+-- and operators with what they take. One case for each.
 use Rattle.std.specs.Prelude.{◌≡◌, ◌<◌, ◌^◌, ℕ, List, [], ◌∷◌, Option, Some, map, option_map, slice_get}
 use Rattle.std.specs.List.{Contains}
 use Rattle.ash_tree.specs.declared.tree.types.Primitive.{Primitive}
@@ -28,7 +28,8 @@ use Rattle.ash_typed.specs.declared.tree.operations.Change.{Change}
 use Rattle.ash_typed.specs.declared.tree.operations.Change.TheVariants as changes
 use Rattle.ash_typed.specs.TypeOf.{ValueType, null_value, value, type_of_element, result_of_array_method}
 use Rattle.ash_typed.specs.Modules.{Signature}
-use Rattle.ash_typed.specs.Signatures.{HostSignature, type_of_primitive, ClassSignature, Signatures, IsElement, IsObjectType}
+use Rattle.ash_typed.specs.Signatures.{HostSignature, type_of_primitive, ClassSignature, Signatures, IsElement}
+use Rattle.ash_typed.specs.Signatures.{IsObjectType}
 
 -- what a type holds, of numbers that are not negative: each number of a tree has 64 bits
 abbrev pub IsWithin : Kind → ℕ → Type 0
@@ -59,19 +60,23 @@ parameters_of_array_method of arrays.IsEmpty = []
 
 -- an object of the type has the method, which takes these parameters and gives this
 pub data IsMethod (s : Signatures) : ObjectType → Method → List VarType → Option VarType → Type 0 where
-  of_class : {class method : ℕ} {c : ClassSignature} {name : List ℕ} {result : Option VarType} {parameters : List VarType}
+  of_class : {class method : ℕ} {c : ClassSignature} {name : List ℕ} {result : Option VarType}
+      {parameters : List VarType}
       → slice_get s.classes class ≡ Some c
       → slice_get c.methods method ≡ Some (record { name = name; result = result; parameters = parameters })
       → IsMethod s (objects.Class class) (methods.Script class method result) parameters result
-  of_interface : {interface method : ℕ} {declared : List Signature} {name : List ℕ} {result : Option VarType} {parameters : List VarType}
+  of_interface : {interface method : ℕ} {declared : List Signature} {name : List ℕ} {result : Option VarType}
+      {parameters : List VarType}
       → slice_get s.interfaces interface ≡ Some declared
       → slice_get declared method ≡ Some (record { name = name; result = result; parameters = parameters })
       → IsMethod s (objects.Interface interface) (methods.Interface interface method result) parameters result
   of_host : {kind id : ℕ} {offered : HostSignature}
       → Contains (s.host.methods kind id) offered
-      → IsMethod s (objects.Host kind) (methods.Host id (option_map type_of_primitive offered.result)) (map type_of_primitive offered.parameters) (option_map type_of_primitive offered.result)
+      → IsMethod s (objects.Host kind) (methods.Host id (option_map type_of_primitive offered.result))
+      (map type_of_primitive offered.parameters) (option_map type_of_primitive offered.result)
   of_array : {of : Element} {method : ArrayMethod}
-      → IsMethod s (objects.Array of) (methods.Array method) (parameters_of_array_method of method) (result_of_array_method method)
+      → IsMethod s (objects.Array of) (methods.Array method) (parameters_of_array_method of method)
+      (result_of_array_method method)
 
 -- what is called takes these parameters and gives this; a construction gives a handle
 pub data IsTarget (s : Signatures) : Target → List VarType → Option VarType → Type 0 where
@@ -80,7 +85,8 @@ pub data IsTarget (s : Signatures) : Target → List VarType → Option VarType 
       → IsTarget s (targets.Function function result) parameters result
   service : {service id : ℕ} {offered : HostSignature}
       → Contains (s.host.functions service id) offered
-      → IsTarget s (targets.Service service id (option_map type_of_primitive offered.result)) (map type_of_primitive offered.parameters) (option_map type_of_primitive offered.result)
+      → IsTarget s (targets.Service service id (option_map type_of_primitive offered.result))
+      (map type_of_primitive offered.parameters) (option_map type_of_primitive offered.result)
   class : {class : ℕ} {c : ClassSignature}
       → slice_get s.classes class ≡ Some c
       → IsTarget s (targets.Class class) c.parameters (Some (vars.Handle (objects.Class class)))
@@ -137,7 +143,8 @@ pub data IsChange : Change → VarType → Type 0 where
 -- an object is cast to a class or to an interface
 pub data IsCastType (s : Signatures) : ObjectType → Type 0 where
   to_class : {class : ℕ} → IsObjectType s (objects.Class class) → IsCastType s (objects.Class class)
-  to_interface : {interface : ℕ} → IsObjectType s (objects.Interface interface) → IsCastType s (objects.Interface interface)
+  to_interface : {interface : ℕ} → IsObjectType s (objects.Interface interface)
+      → IsCastType s (objects.Interface interface)
 
 -- a place of the type is assigned to: one of primitives or of handles, since objects are not assigned
 pub data IsAssigned : VarType → Type 0 where

@@ -1,9 +1,10 @@
--- Sound statements, by the typed tree alone: each of their expressions gives what is asked for, each local is declared in
--- the slot that follows those in scope, and a jump stands in what it leaves. One case for each node.
+-- Sound statements, by the typed tree alone: each of their expressions gives what is asked for, each local is declared
+-- in the slot that follows those in scope, and a jump stands in what it leaves. One case for each node.
 --
 -- `IsStmt scope s`: the statement `s` is sound in this scope, and declares no variable that is seen behind it.
 -- `AreStmts scope ss`: so are the statements of a block, each of which sees the variables that those before it declare.
-use Rattle.std.specs.Prelude.{◌≡◌, ◌≢◌, ◌<◌, ◌≤◌, ◌^◌, ℕ, zero, suc, ℤ, pos, negsuc, Bool, true, false, List, [], ◌∷◌, ◌++◌, Option, Some, None}
+use Rattle.std.specs.Prelude.{◌≡◌, ◌≢◌, ◌<◌, ◌≤◌, ◌^◌, ℕ, zero, suc, ℤ, pos, negsuc, Bool, true, false, List, [], ◌∷◌}
+use Rattle.std.specs.Prelude.{◌++◌, Option, Some, None}
 use Rattle.std.specs.List.{AllByRecursion}
 use Rattle.ash_tree.specs.declared.tree.statements.Label.{Label}
 use Rattle.ash_tree.specs.declared.tree.statements.Label.TheVariants as labels
@@ -18,14 +19,17 @@ use Rattle.ash_typed.specs.declared.tree.operations.Target.{Target}
 use Rattle.ash_typed.specs.declared.tree.operations.Target.TheVariants as targets
 use Rattle.ash_typed.specs.declared.tree.statements.Test.{Test}
 use Rattle.ash_typed.specs.Tree.{Expr, Call, Exprs}
-use Rattle.ash_typed.specs.StatementTree.{Initialization, Stmt, Empty, Declare, Evaluate, Block, If, no_branch, branch, Head, no_head, declared_head, evaluated_head, Repeat, For, Loop, repeated, Switch, Break, Continue, Return, Stmts, no_stmt, stmt, labelled, Cases, no_case, next_case}
+use Rattle.ash_typed.specs.StatementTree.{Initialization, Stmt, Empty, Declare, Evaluate, Block, If, no_branch, branch}
+use Rattle.ash_typed.specs.StatementTree.{Head, no_head, declared_head, evaluated_head, Repeat, For, Loop, repeated}
+use Rattle.ash_typed.specs.StatementTree.{Switch, Break, Continue, Return, Stmts, no_stmt, stmt, labelled, Cases}
+use Rattle.ash_typed.specs.StatementTree.{no_case, next_case}
 use Rattle.ash_typed.specs.TypeOf.{ValueType, value}
 use Rattle.ash_typed.specs.Signatures.{IsVariableType}
 use Rattle.ash_typed.specs.SoundOperations.{IsWithin}
 use Rattle.ash_typed.specs.SoundExpressions.{Environment, IsWellTyped, Fits}
 
--- what a statement sees: what its function gives, and whether it may break out of a loop or a `switch`, and go on with the
--- next turn of a loop
+-- what a statement sees: what its function gives, and whether it may break out of a loop or a `switch`, and go on with
+-- the next turn of a loop
 pub record Scope : Type 0 where
   pub env : Environment
   pub gives : Option VarType
@@ -36,7 +40,12 @@ abbrev pub with_locals : Environment → List VarType → Environment
 with_locals env types = record { signatures = env.signatures; this = env.this; locals = env.locals ++ types }
 
 abbrev pub declaring : Scope → List VarType → Scope
-declaring scope types = record { env = with_locals scope.env types; gives = scope.gives; may_break = scope.may_break; may_continue = scope.may_continue }
+declaring scope types = record {
+  env = with_locals scope.env types;
+  gives = scope.gives;
+  may_break = scope.may_break;
+  may_continue = scope.may_continue;
+}
 
 abbrev pub in_loop : Scope → Scope
 in_loop scope = record { env = scope.env; gives = scope.gives; may_break = true; may_continue = true }

@@ -6,8 +6,8 @@ use Rattle.ash_typed.specs.declared.types.VarType.{VarType}
 use Rattle.ash_typed.specs.declared.tree.statements.Test.{Test}
 use Rattle.ash_typed.specs.Tree.{Expr}
 
--- a variable that is declared: its name, its type, and what it begins with; where nothing is written, with zero, `false`
--- or null
+-- a variable that is declared: its name, its type, and what it begins with; where nothing is written, with zero,
+-- `false` or null
 pub record Initialization : Type 0 where
   pub name : List ℕ
   pub of : VarType

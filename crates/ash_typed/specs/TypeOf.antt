@@ -20,7 +20,8 @@ use Rattle.ash_typed.specs.declared.tree.operations.Operation.{Operation}
 use Rattle.ash_typed.specs.declared.tree.operations.Operation.TheVariants as operations
 use Rattle.ash_typed.specs.declared.tree.operations.Change.{Change}
 use Rattle.ash_typed.specs.declared.tree.operations.Change.TheVariants as changes
-use Rattle.ash_typed.specs.Tree.{Expr, Number, Truth, Null, This, Read, Invoke, Convert, Cast, Alter, Operate, Lazily, Conditional, Assign, Update, Count, Call, Place, Stored, Held, Indexed}
+use Rattle.ash_typed.specs.Tree.{Expr, Number, Truth, Null, This, Read, Invoke, Convert, Cast, Alter, Operate, Lazily}
+use Rattle.ash_typed.specs.Tree.{Conditional, Assign, Update, Count, Call, Place, Stored, Held, Indexed}
 
 abbrev pub type_of_variable : Variable → VarType
 type_of_variable (variables.Local slot of) = of

@@ -8,7 +8,9 @@ use Rattle.ash_typed.specs.declared.tree.expressions.Link as link
 use Rattle.ash_typed.specs.declared.tree.expressions.Link.TheVariants as links
 use Rattle.ash_typed.specs.declared.tree.expressions.Operand as operand
 use Rattle.ash_typed.specs.declared.tree.operations.Lazy.{Lazy}
-use Rattle.ash_typed.specs.Tree.{Expr, Number, Truth, Null, This, Read, Invoke, Convert, Cast, Alter, Operate, Lazily, Conditional, Assign, Update, Count, Call, Place, Stored, Held, Indexed, Exprs, no_expr, expr, converted}
+use Rattle.ash_typed.specs.Tree.{Expr, Number, Truth, Null, This, Read, Invoke, Convert, Cast, Alter, Operate, Lazily}
+use Rattle.ash_typed.specs.Tree.{Conditional, Assign, Update, Count, Call, Place, Stored, Held, Indexed, Exprs, no_expr}
+use Rattle.ash_typed.specs.Tree.{expr, converted}
 
 abbrev mutual
   pub expr_of : code.Expr → Expr
@@ -45,7 +47,8 @@ abbrev mutual
 
   pub chained_by : {n : _} → Expr → code.Row_of-Operand n → Expr
   chained_by e code.end_of-Operand = e
-  chained_by e (code.more_of-Operand before operation value rest) = chained_by (Operate operation (converted before e) (expr_of value)) rest
+  chained_by e (code.more_of-Operand before operation value rest) =
+      chained_by (Operate operation (converted before e) (expr_of value)) rest
 
   pub lazies_by : {n : _} → Lazy → Expr → code.Row_of-Expr n → Expr
   lazies_by op e code.end_of-Expr = e

@@ -3,7 +3,8 @@
 ghost use Rattle.std.specs.Prelude.{◌≡◌, [], ◌∷◌, ◌++◌, map, option_map, IfOk, Box, box_value};
 ghost use Rattle.std.specs.declared.alloc.Global.{Global};
 ghost use Rattle.ash_typed.specs.declared.tree.expressions.Expr.{Expr as IndexExpr};
-ghost use Rattle.ash_typed.specs.Tree.{Read, Held, Indexed, Invoke, Cast, Alter, Lazily, Conditional, Assign, Update, Count, Call, exprs, place_in, converted};
+ghost use Rattle.ash_typed.specs.Tree.{Read, Held, Indexed, Invoke, Cast, Alter, Lazily, Conditional, Assign, Update};
+ghost use Rattle.ash_typed.specs.Tree.{Count, Call, exprs, place_in, converted};
 ghost use Rattle.ash_typed.specs.StatementTree.{Block, Repeat, For, repeated, Switch, labelled, cases};
 ghost use Rattle.ash_typed.specs.Views.{expr_of, place_of, linked, chained, all_linked, all_chained, all_lazies};
 ghost use Rattle.ash_typed.specs.BodyViews.{stmt_of, head_of, loop_of, case_of, body_of};
@@ -69,10 +70,11 @@ pub fn member(alloc: Global, object: Expr, member: Member) -> Result<Expr, Alloc
 
 /// What an array has at an index of type `uint`.
 pub fn element(alloc: Global, array: Expr, index: Expr, of: Element) -> Result<Expr, AllocError>
-    ensures value { IfOk result (λ e. expr_of e ≡ Read (Indexed (expr_of array) (expr_of index) of)) }
+    ensures value { IfOk result (λ e.
+        expr_of e ≡ Read (Indexed (expr_of array) (expr_of index) of)) }
     ensures same_base { IfOk result (λ e. base_of e ≡ base_of array) }
-    ensures one_path { IfOk result (λ e. (boxed : Box IndexExpr Global) × (box_value boxed ≡ index) ×
-        (links_of e ≡ links_of array ++ Link.Index boxed of ∷ [])) }
+    ensures one_path { IfOk result (λ e. (boxed : Box IndexExpr Global) × (box_value boxed ≡ index)
+        × (links_of e ≡ links_of array ++ Link.Index boxed of ∷ [])) }
 {
     let index = Box::new(alloc, index)?;
     link(alloc, array, Link::Index { index, of })
@@ -87,9 +89,12 @@ pub fn invoke(
     parameters: Vec<VarType>,
     arguments: Vec<Expr>,
 ) -> Result<Expr, AllocError>
-    ensures value { IfOk result (λ e. expr_of e ≡ Invoke (expr_of object) method parameters.items (exprs (map expr_of arguments.items))) }
+    ensures value { IfOk result (λ e.
+        expr_of e ≡ Invoke (expr_of object) method parameters.items
+        (exprs (map expr_of arguments.items))) }
     ensures same_base { IfOk result (λ e. base_of e ≡ base_of object) }
-    ensures one_path { IfOk result (λ e. links_of e ≡ links_of object ++ Link.Invoke method parameters arguments ∷ []) }
+    ensures one_path { IfOk result (λ e.
+        links_of e ≡ links_of object ++ Link.Invoke method parameters arguments ∷ []) }
 {
     let next = Link::Invoke {
         method,
@@ -131,11 +136,13 @@ fn first_operator(alloc: Global, first: Expr, next: Operand) -> Result<Expr, All
     Ok(Expr::Chain { first, operands })
 }
 
-/// `&&` or `||` between two operands. A row of operands of the same operator takes one more, so that it nests no deeper.
+/// `&&` or `||` between two operands. A row of operands of the same operator takes one more, so that it nests no
+/// deeper.
 #[tactic(auto, using(crate::proofs::Rows::lazy_is, crate::proofs::Rows::all_lazies_append))]
 pub fn lazily(alloc: Global, operator: Lazy, first: Expr, next: Expr) -> Result<Expr, AllocError>
     ensures value { IfOk result (λ e. expr_of e ≡ Lazily operator (expr_of first) (expr_of next)) }
-    ensures one_row { IfOk result (λ e. others_of operator e ≡ others_of operator first ++ next ∷ []) }
+    ensures one_row { IfOk result (λ e.
+        others_of operator e ≡ others_of operator first ++ next ∷ []) }
 {
     match first {
         Expr::Lazy {
@@ -217,7 +224,8 @@ pub fn conditional(
     then: Expr,
     otherwise: Expr,
 ) -> Result<Expr, AllocError>
-    ensures { IfOk result (λ e. expr_of e ≡ Conditional (expr_of condition) (expr_of then) (expr_of otherwise)) }
+    ensures { IfOk result (λ e.
+        expr_of e ≡ Conditional (expr_of condition) (expr_of then) (expr_of otherwise)) }
 {
     let condition = Box::new(alloc, condition)?;
     let then = Box::new(alloc, then)?;
@@ -244,7 +252,8 @@ pub fn update(
     calculation: Calculation,
     value: Expr,
 ) -> Result<Expr, AllocError>
-    ensures { IfOk result (λ e. expr_of e ≡ Update (place_of place) of calculation (expr_of value)) }
+    ensures { IfOk result (λ e.
+        expr_of e ≡ Update (place_of place) of calculation (expr_of value)) }
 {
     let value = Box::new(alloc, value)?;
     Ok(Expr::Update {
@@ -292,7 +301,8 @@ fn member_of(
     base: Box<Expr>,
     mut links: Vec<Link>,
 ) -> Result<Option<Place>, AllocError>
-    ensures { IfOk result (λ found. option_map place_of found ≡ place_in (all_linked (expr_of base.value) links.items)) }
+    ensures { IfOk result (λ found.
+        option_map place_of found ≡ place_in (all_linked (expr_of base.value) links.items)) }
 {
     match links.pop() {
         Some(Link::Member(member)) => {
@@ -316,7 +326,8 @@ fn chain_place(
     first: Box<Expr>,
     operands: Vec<Operand>,
 ) -> Result<Option<Place>, AllocError>
-    ensures { IfOk result (λ found. option_map place_of found ≡ place_in (all_chained (expr_of first.value) operands.items)) }
+    ensures { IfOk result (λ found.
+        option_map place_of found ≡ place_in (all_chained (expr_of first.value) operands.items)) }
 {
     if operands.is_empty() {
         return place(alloc, Box::into_inner(first));
@@ -333,7 +344,9 @@ fn lazy_place(
     first: Box<Expr>,
     others: Vec<Expr>,
 ) -> Result<Option<Place>, AllocError>
-    ensures { IfOk result (λ found. option_map place_of found ≡ place_in (all_lazies operator (expr_of first.value) others.items)) }
+    ensures { IfOk result (λ found.
+        option_map place_of found
+        ≡ place_in (all_lazies operator (expr_of first.value) others.items)) }
 {
     if others.is_empty() {
         return place(alloc, Box::into_inner(first));
@@ -353,7 +366,9 @@ pub fn block(line: usize, body: Vec<Stmt>) -> Stmt
 
 /// What is repeated.
 pub fn repetition(test: Test, condition: Option<Expr>, steps: Vec<Expr>, body: Box<Stmt>) -> Loop
-    ensures { loop_of result ≡ repeated test (option_map expr_of condition) (map expr_of steps.items) (stmt_of body.value) }
+    ensures { loop_of result
+        ≡ repeated test (option_map expr_of condition) (map expr_of steps.items)
+        (stmt_of body.value) }
 {
     Loop {
         test,

@@ -30,11 +30,13 @@ no_fault f x h = cc
 pub same_ok : {A : Type 0} (x y : A) → ◌≡◌ {A = Checking A} (Ok x) (Ok y) → x ≡ y
 same_ok x y h = cc
 
-pub bind_ok : {A B : Type 0} (o : Checking A) (f : A → Checking B) (y : B) → (o >>= f) ≡ Ok y → (x : A) × (o ≡ Ok x) × (f x ≡ Ok y)
+pub bind_ok : {A B : Type 0} (o : Checking A) (f : A → Checking B) (y : B) → (o >>= f) ≡ Ok y
+    → (x : A) × (o ≡ Ok x) × (f x ≡ Ok y)
 bind_ok (Ok x) f y h = (x, refl, h)
 bind_ok (Err e) f y h = absurd (no_fault e y h)
 
-pub bound : {A B : Type 0} (o : Checking A) (f : A → Checking B) (x : A) (r : Checking B) → o ≡ Ok x → f x ≡ r → (o >>= f) ≡ r
+pub bound : {A B : Type 0} (o : Checking A) (f : A → Checking B) (x : A) (r : Checking B) → o ≡ Ok x → f x ≡ r
+    → (o >>= f) ≡ r
 bound o f x r e h = subst (λ (m : Checking _). (m >>= f) ≡ r) (sym e) h
 
 -- an answer without a fault
@@ -58,7 +60,8 @@ unconverted k t h = rw h (rw (same_kind k) refl)
 
 -- operands
 
-pub adapted_is : (s : Sort) (other t : Term) (at : ℕ) → adapted s other.form other.ty (placed at t) ≡ placed at (adapted_to s other t)
+pub adapted_is : (s : Sort) (other t : Term) (at : ℕ)
+    → adapted s other.form other.ty (placed at t) ≡ placed at (adapted_to s other t)
 unfolding adapted
 adapted_is s other t at = refl
 
@@ -69,7 +72,8 @@ known_alone sort.Logic adapted_to ty.Unknown h = cc
 known_alone s adapted_to ty.Unknown h = cc
 known_alone s adapted_to of h = refl
 
-pub meets_assumed : (s : Sort) (x y : Ty) (o : Operands) → meets s x y ≡ Some o → meets s (assumed s y x) (assumed s x y) ≡ Some o
+pub meets_assumed : (s : Sort) (x y : Ty) (o : Operands) → meets s x y ≡ Some o
+    → meets s (assumed s y x) (assumed s x y) ≡ Some o
 meets_assumed sort.Identity ty.Unknown ty.Unknown o h = h
 meets_assumed sort.Identity x ty.Unknown o h = h
 meets_assumed sort.Identity x y o h = h
@@ -80,9 +84,11 @@ meets_assumed s x y o h = h
 -- what calculates takes integers
 
 same_integers : (k : Kind) (o : Operands) → Some (operands.Integers k) ≡ Some o → o ≡ operands.Integers (integers_in o)
-same_integers k o h = subst (λ (x : Operands). x ≡ operands.Integers (integers_in x)) (same_Some (operands.Integers k) o h) refl
+same_integers k o h =
+    subst (λ (x : Operands). x ≡ operands.Integers (integers_in x)) (same_Some (operands.Integers k) o h) refl
 
-pub arithmetic_integers : (x y : Ty) (o : Operands) → meets sort.Arithmetic x y ≡ Some o → o ≡ operands.Integers (integers_in o)
+pub arithmetic_integers : (x y : Ty) (o : Operands) → meets sort.Arithmetic x y ≡ Some o
+    → o ≡ operands.Integers (integers_in o)
 arithmetic_integers (ty.Integer j) (ty.Integer k) o h = same_integers (meeting j k) o h
 arithmetic_integers _ _ o h = absurd (none-some o h)
 
@@ -90,7 +96,8 @@ pub shift_integers : (x y : Ty) (o : Operands) → meets sort.Shift x y ≡ Some
 shift_integers (ty.Integer j) (ty.Integer k) o h = same_integers j o h
 shift_integers _ _ o h = absurd (none-some o h)
 
-pub calculated_integers : (c : Calculator) (x y : Ty) (o : Operands) → meets (sort_of (binary_of c)) x y ≡ Some o → o ≡ operands.Integers (integers_in o)
+pub calculated_integers : (c : Calculator) (x y : Ty) (o : Operands) → meets (sort_of (binary_of c)) x y ≡ Some o
+    → o ≡ operands.Integers (integers_in o)
 calculated_integers calculators.Multiply x y o h = arithmetic_integers x y o h
 calculated_integers calculators.Divide x y o h = arithmetic_integers x y o h
 calculated_integers calculators.Remainder x y o h = arithmetic_integers x y o h
@@ -107,6 +114,11 @@ pub right_is : (s : Sort) (o : Operands) (b : ℕ) (u : Term) → right_by s o (
 right_is sort.Shift o b u = refl
 right_is _ o b u = refl
 
-pub met_is : (op : BinaryOp) (t u : Term) (o : Operands) (a b : ℕ) → Meet op t u o → met op (placed a t) (placed b u) ≡ Ok (record { left = placed a (adapted_to (sort_of op) u t); operands = o; right = right_of op o t u })
+pub met_is : (op : BinaryOp) (t u : Term) (o : Operands) (a b : ℕ) → Meet op t u o
+    → met op (placed a t) (placed b u)
+    ≡ Ok (record { left = placed a (adapted_to (sort_of op) u t); operands = o; right = right_of op o t u })
 unfolding met
-met_is op t u o a b h = rw (adapted_is (sort_of op) u t a, adapted_is (sort_of op) t u b, meets_assumed (sort_of op) (adapted_to (sort_of op) u t).ty (adapted_to (sort_of op) t u).ty o h, right_is (sort_of op) o b (adapted_to (sort_of op) t u)) refl
+met_is op t u o a b h =
+    rw (adapted_is (sort_of op) u t a, adapted_is (sort_of op) t u b,
+    meets_assumed (sort_of op) (adapted_to (sort_of op) u t).ty (adapted_to (sort_of op) t u).ty o h,
+    right_is (sort_of op) o b (adapted_to (sort_of op) t u)) refl

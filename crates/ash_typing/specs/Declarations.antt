@@ -1,7 +1,8 @@
 -- Variables, and what they begin with (AngelScript manual, "Variables"): an initialiser is walked, then the variable.
 use Rattle.std.specs.Prelude.{ℕ, length, false, List, [], ◌∷◌, Option, Some, None, Ok}
 use Rattle.ash_tree.specs.Tree as written
-use Rattle.ash_typing.specs.declared.fault.Rule.TheVariants.{UnknownType, TypeMismatch, NotAssignable, Misplaced, NoFactory}
+use Rattle.ash_typing.specs.declared.fault.Rule.TheVariants.{UnknownType, TypeMismatch, NotAssignable, Misplaced}
+use Rattle.ash_typing.specs.declared.fault.Rule.TheVariants.{NoFactory}
 use Rattle.ash_typed.specs.declared.types.ObjectType.TheVariants.{Interface as OfInterface}
 use Rattle.ash_typing.specs.declared.types.Ty.{Ty}
 use Rattle.ash_typing.specs.declared.types.Ty.TheVariants as ty
@@ -66,7 +67,8 @@ begun_by env of_at at of ts = begun_by_one env.heads.classes at of ts
 unfoldable pub initialized : Environment → ℕ → ℕ → Ty → written.Initializer → Checking (Option Expr)
 initialized env of_at at of written.Default = begun env of_at of
 initialized env of_at at of (written.Value e) = typed env false e >>= λ t. begun_with env.heads.classes at of t
-initialized env of_at at of (written.Arguments es) = all_typed env (written.exprs es) >>= λ ts. begun_by env of_at at of ts
+initialized env of_at at of (written.Arguments es) =
+    all_typed env (written.exprs es) >>= λ ts. begun_by env of_at at of ts
 
 -- a variable of this type, which is written at this offset
 unfoldable pub decl_typed : Environment → ℕ → Ty → written.Decl → Checking Initialization

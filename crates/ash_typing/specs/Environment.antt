@@ -1,5 +1,6 @@
 -- What an expression sees: what its module declares, what is registered, the class whose object runs, and the locals.
-use Rattle.std.specs.Prelude.{ℕ, codes, ◌+◌, Bool, List, [], ◌∷◌, Option, Some, None, map, find, slice_get, if◌then◌else◌}
+use Rattle.std.specs.Prelude.{ℕ, codes, ◌+◌, Bool, List, [], ◌∷◌, Option, Some, None, map, find, slice_get}
+use Rattle.std.specs.Prelude.{if◌then◌else◌}
 use Rattle.std.specs.Option.{option_and_then, option_map, option_or}
 use Rattle.std.specs.Str.{bytes_eq}
 use Rattle.ash_tree.specs.declared.tree.types.Primitive.{Primitive}
@@ -8,7 +9,8 @@ use Rattle.ash_typed.specs.declared.types.VarType.{VarType}
 use Rattle.ash_typed.specs.declared.types.ObjectType.{ObjectType}
 use Rattle.ash_typed.specs.declared.types.Kind.TheVariants.{Uint}
 use Rattle.ash_typed.specs.declared.types.Element.{Element}
-use Rattle.ash_typed.specs.declared.types.ObjectType.TheVariants.{Class as OfClass, Interface as OfInterface, Host as OfHost, Array as OfArray}
+use Rattle.ash_typed.specs.declared.types.ObjectType.TheVariants.{Class as OfClass, Interface as OfInterface}
+use Rattle.ash_typed.specs.declared.types.ObjectType.TheVariants.{Host as OfHost, Array as OfArray}
 use Rattle.ash_typing.specs.declared.types.Ty.{Ty}
 use Rattle.ash_typing.specs.declared.types.Ty.TheVariants as ty
 use Rattle.ash_typed.specs.declared.tree.operations.Variable.TheVariants as variables
@@ -102,7 +104,8 @@ is_interface_named name i = bytes_eq name i.name
 
 -- the class whose object runs
 abbrev pub this_class : Environment → Option (ℕ × Class)
-this_class env = option_and_then (λ (i : ℕ). option_map (λ (c : Class). (i, c)) (slice_get env.heads.classes i)) env.this
+this_class env =
+    option_and_then (λ (i : ℕ). option_map (λ (c : Class). (i, c)) (slice_get env.heads.classes i)) env.this
 
 -- A name alone is a local, the nearest one, else a field of the object that runs, else a global.
 
@@ -111,20 +114,31 @@ abbrev pub Known : Type 0
 Known = Expr × Ty
 
 abbrev pub local_in : List Declared → List ℕ → Option Known
-local_in locals name = option_map (λ (found : ℕ × Ty). (Read (Stored (variables.Local found.0 (var_type found.1))), found.1)) (last_named name 0 None locals)
+local_in locals name =
+    option_map (λ (found : ℕ × Ty). (Read (Stored (variables.Local found.0 (var_type found.1))), found.1))
+    (last_named name 0 None locals)
 
 -- a field of the class of this place
 abbrev pub field_in : ℕ → Class → List ℕ → Option (Member × Ty)
-field_in class c name = option_map (λ (found : ℕ × Declared). (members.Field class found.0 (var_type found.1.of), found.1.of)) (first_from (declares name) 0 c.fields)
+field_in class c name =
+    option_map (λ (found : ℕ × Declared). (members.Field class found.0 (var_type found.1.of), found.1.of))
+    (first_from (declares name) 0 c.fields)
 
 abbrev pub own_field_in : Environment → List ℕ → Option Known
-own_field_in env name = option_and_then (λ (c : ℕ × Class). option_map (λ (found : Member × Ty). (Read (Held (This c.0) found.0), found.1)) (field_in c.0 c.1 name)) (this_class env)
+own_field_in env name =
+    option_and_then
+    (λ (c : ℕ × Class).
+    option_map (λ (found : Member × Ty). (Read (Held (This c.0) found.0), found.1)) (field_in c.0 c.1 name))
+    (this_class env)
 
 abbrev pub global_in : List Declared → List ℕ → Option Known
-global_in globals name = option_map (λ (found : ℕ × Declared). (Read (Stored (variables.Global found.0 (var_type found.1.of))), found.1.of)) (first_from (declares name) 0 globals)
+global_in globals name =
+    option_map (λ (found : ℕ × Declared). (Read (Stored (variables.Global found.0 (var_type found.1.of))), found.1.of))
+    (first_from (declares name) 0 globals)
 
 unfoldable pub variable_in : Environment → List ℕ → Option Known
-variable_in env name = option_or (local_in env.locals name) (option_or (own_field_in env name) (global_in env.heads.globals name))
+variable_in env name =
+    option_or (local_in env.locals name) (option_or (own_field_in env name) (global_in env.heads.globals name))
 
 -- A name before brackets is a method of the object that runs, a function of the module, a registered function, a class,
 -- or a registered type.
@@ -140,17 +154,42 @@ result_of None = ty.Void
 result_of (Some primitive) = ty_of primitive
 
 abbrev pub own_method_in : Environment → List ℕ → Option Callee
-own_method_in env name = option_and_then (λ (c : ℕ × Class). option_map (λ (found : ℕ × Function). record { target = callables.OwnMethod c.0 found.0 (result_type found.1.result); result = found.1.result; parameters = Some found.1.parameters }) (first_from (is_called name) 0 c.1.methods)) (this_class env)
+own_method_in env name =
+    option_and_then
+    (λ (c : ℕ × Class).
+    option_map (λ (found : ℕ × Function).
+    record {
+      target = callables.OwnMethod c.0 found.0 (result_type found.1.result);
+      result = found.1.result;
+      parameters = Some found.1.parameters;
+    }) (first_from (is_called name) 0 c.1.methods)) (this_class env)
 
 abbrev pub function_in : List Function → List ℕ → Option Callee
-function_in functions name = option_map (λ (found : ℕ × Function). record { target = callables.Target (targets.Function found.0 (result_type found.1.result)); result = found.1.result; parameters = Some found.1.parameters }) (first_from (is_called name) 0 functions)
+function_in functions name =
+    option_map (λ (found : ℕ × Function).
+    record {
+      target = callables.Target (targets.Function found.0 (result_type found.1.result));
+      result = found.1.result;
+      parameters = Some found.1.parameters;
+    }) (first_from (is_called name) 0 functions)
 
 abbrev pub service_function : host.Call → Option Callee
-service_function (host.AFunction service id operation) = Some (record { target = callables.Target (targets.Service service id (result_type (result_of operation.result))); result = result_of operation.result; parameters = Some (map ty_of operation.parameters) })
+service_function (host.AFunction service id operation) =
+    Some (record {
+      target = callables.Target (targets.Service service id (result_type (result_of operation.result)));
+      result = result_of operation.result;
+      parameters = Some (map ty_of operation.parameters);
+    })
 service_function _ = None
 
 abbrev pub class_in : List Class → List ℕ → Option Callee
-class_in classes name = option_map (λ (found : ℕ × Class). record { target = callables.Target (targets.Class found.0); result = ty.Handle (OfClass found.0); parameters = Some found.1.parameters }) (first_from (is_class name) 0 classes)
+class_in classes name =
+    option_map (λ (found : ℕ × Class).
+    record {
+      target = callables.Target (targets.Class found.0);
+      result = ty.Handle (OfClass found.0);
+      parameters = Some found.1.parameters;
+    }) (first_from (is_class name) 0 classes)
 
 abbrev pub factory_parameters : host.Call → Option (List Ty)
 factory_parameters (host.AFactory of parameters) = Some (map ty_of parameters)
@@ -160,7 +199,11 @@ unfoldable pub factory_in : List host.Call → List ℕ → Option (List Ty)
 factory_in calls of = option_and_then factory_parameters (find (host.is_factory_of of) calls)
 
 abbrev pub host_type : List host.Call → host.Call → Option Callee
-host_type calls (host.AType name kind) = Some (record { target = callables.Target (targets.Host kind); result = ty.Handle (OfHost kind); parameters = factory_in calls name })
+host_type calls (host.AType name kind) = Some (record {
+  target = callables.Target (targets.Host kind);
+  result = ty.Handle (OfHost kind);
+  parameters = factory_in calls name;
+})
 host_type calls _ = None
 
 abbrev pub named_in : List host.Call → List ℕ → Option host.Call
@@ -168,10 +211,14 @@ named_in calls name = find (host.takes_name name) calls
 
 -- what is neither a method nor a function of the module
 abbrev pub callee_beside : Environment → List ℕ → Option Callee
-callee_beside env name = option_or (option_and_then service_function (named_in env.registered name)) (option_or (class_in env.heads.classes name) (option_and_then (host_type env.registered) (named_in env.registered name)))
+callee_beside env name =
+    option_or (option_and_then service_function (named_in env.registered name))
+    (option_or (class_in env.heads.classes name)
+    (option_and_then (host_type env.registered) (named_in env.registered name)))
 
 unfoldable pub callee_in : Environment → List ℕ → Option Callee
-callee_in env name = option_or (own_method_in env name) (option_or (function_in env.heads.functions name) (callee_beside env name))
+callee_in env name =
+    option_or (own_method_in env name) (option_or (function_in env.heads.functions name) (callee_beside env name))
 
 -- Members of an object.
 
@@ -205,17 +252,33 @@ pub record Invoked : Type 0 where
   pub parameters : List Ty
 
 abbrev pub host_method : host.Call → Option Invoked
-host_method (host.AMethod of id operation) = Some (record { method = methods.Host id (result_type (result_of operation.result)); result = result_of operation.result; parameters = map ty_of operation.parameters })
+host_method (host.AMethod of id operation) = Some (record {
+  method = methods.Host id (result_type (result_of operation.result));
+  result = result_of operation.result;
+  parameters = map ty_of operation.parameters;
+})
 host_method _ = None
 
 abbrev pub class_method : ℕ → List ℕ → Class → Option Invoked
-class_method i name c = option_map (λ (found : ℕ × Function). record { method = methods.Script i found.0 (result_type found.1.result); result = found.1.result; parameters = found.1.parameters }) (first_from (is_called name) 0 c.methods)
+class_method i name c =
+    option_map (λ (found : ℕ × Function).
+    record {
+      method = methods.Script i found.0 (result_type found.1.result);
+      result = found.1.result;
+      parameters = found.1.parameters;
+    }) (first_from (is_called name) 0 c.methods)
 
 unfoldable pub method_of_class : List Class → ℕ → List ℕ → Option Invoked
 method_of_class classes i name = option_and_then (class_method i name) (slice_get classes i)
 
 abbrev pub interface_method : ℕ → List ℕ → Interface → Option Invoked
-interface_method i name of = option_map (λ (found : ℕ × Function). record { method = methods.Interface i found.0 (result_type found.1.result); result = found.1.result; parameters = found.1.parameters }) (first_from (is_called name) 0 of.methods)
+interface_method i name of =
+    option_map (λ (found : ℕ × Function).
+    record {
+      method = methods.Interface i found.0 (result_type found.1.result);
+      result = found.1.result;
+      parameters = found.1.parameters;
+    }) (first_from (is_called name) 0 of.methods)
 
 unfoldable pub method_of_interface : List Interface → ℕ → List ℕ → Option Invoked
 method_of_interface interfaces i name = option_and_then (interface_method i name) (slice_get interfaces i)
@@ -231,17 +294,24 @@ array_method_name arrays.IsEmpty = codes "isEmpty"
 
 -- what it gives, and what it takes, where the elements are of a type
 abbrev pub array_method_of : Element → ArrayMethod → Invoked
-array_method_of of arrays.Length = record { method = methods.Array arrays.Length; result = ty.Integer Uint; parameters = [] }
-array_method_of of arrays.Resize = record { method = methods.Array arrays.Resize; result = ty.Void; parameters = ty.Integer Uint ∷ [] }
-array_method_of of arrays.InsertLast = record { method = methods.Array arrays.InsertLast; result = ty.Void; parameters = ty_of_element of ∷ [] }
-array_method_of of arrays.RemoveLast = record { method = methods.Array arrays.RemoveLast; result = ty.Void; parameters = [] }
+array_method_of of arrays.Length =
+    record { method = methods.Array arrays.Length; result = ty.Integer Uint; parameters = [] }
+array_method_of of arrays.Resize =
+    record { method = methods.Array arrays.Resize; result = ty.Void; parameters = ty.Integer Uint ∷ [] }
+array_method_of of arrays.InsertLast =
+    record { method = methods.Array arrays.InsertLast; result = ty.Void; parameters = ty_of_element of ∷ [] }
+array_method_of of arrays.RemoveLast =
+    record { method = methods.Array arrays.RemoveLast; result = ty.Void; parameters = [] }
 array_method_of of arrays.IsEmpty = record { method = methods.Array arrays.IsEmpty; result = ty.Bool; parameters = [] }
 
 abbrev pub is_array_method : List ℕ → ArrayMethod → Bool
 is_array_method name m = bytes_eq name (array_method_name m)
 
 unfoldable pub method_of_array : Element → List ℕ → Option Invoked
-method_of_array of name = option_map (array_method_of of) (find (is_array_method name) (arrays.Length ∷ arrays.Resize ∷ arrays.InsertLast ∷ arrays.RemoveLast ∷ arrays.IsEmpty ∷ []))
+method_of_array of name =
+    option_map (array_method_of of)
+    (find (is_array_method name)
+    (arrays.Length ∷ arrays.Resize ∷ arrays.InsertLast ∷ arrays.RemoveLast ∷ arrays.IsEmpty ∷ []))
 
 unfoldable pub method_of_kind : List host.Call → ℕ → List ℕ → Option Invoked
 method_of_kind calls kind name = option_and_then host_method (host_member_in calls kind name)
@@ -255,7 +325,11 @@ method_in env (OfArray of) name = method_of_array of name
 -- Objects are constructed.
 
 abbrev pub class_built : ℕ → Class → Callee
-class_built place c = record { target = callables.Target (targets.Class place); result = ty.Handle (OfClass place); parameters = Some c.parameters }
+class_built place c = record {
+  target = callables.Target (targets.Class place);
+  result = ty.Handle (OfClass place);
+  parameters = Some c.parameters;
+}
 
 unfoldable pub class_construction : List Class → ℕ → Option Callee
 class_construction classes place = option_map (class_built place) (slice_get classes place)
@@ -264,7 +338,11 @@ unfoldable pub kind_construction : List host.Call → ℕ → Option Callee
 kind_construction calls kind = option_and_then (host_type calls) (find (host.takes_kind kind) calls)
 
 abbrev pub array_built : Element → ℕ → Callee
-array_built of count = record { target = callables.Target (targets.Array of); result = ty.Handle (OfArray of); parameters = Some (array_parameters count) }
+array_built of count = record {
+  target = callables.Target (targets.Array of);
+  result = ty.Handle (OfArray of);
+  parameters = Some (array_parameters count);
+}
 
 -- the construction of an object by so many arguments
 unfoldable pub construction : Environment → ObjectType → ℕ → Option Callee

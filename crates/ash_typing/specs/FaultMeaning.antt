@@ -1,6 +1,8 @@
--- What is wrong where the fault of a module is told, for each rule: a phrase that breaks the rule stands there, with what
--- it sees. It is not said that nothing before is wrong: which fault is the first is in the definitions of the walk.
-use Rattle.std.specs.Prelude.{◌≡◌, ℕ, ◌+◌, Bool, true, false, ◌&&◌, ◌||◌, List, [], ◌∷◌, Option, Some, None, Ok, option_map, length, nat_eq, nat_le}
+-- What is wrong where the fault of a module is told, for each rule: a phrase that breaks the rule stands there, with
+-- what it sees. It is not said that nothing before is wrong: which fault is the first is in the definitions of the
+-- walk.
+use Rattle.std.specs.Prelude.{◌≡◌, ℕ, ◌+◌, Bool, true, false, ◌&&◌, ◌||◌, List, [], ◌∷◌, Option, Some, None, Ok}
+use Rattle.std.specs.Prelude.{option_map, length, nat_eq, nat_le}
 use Rattle.std.specs.List.{Any, list_any}
 use Rattle.std.specs.Option.{is_some}
 use Rattle.std.specs.Str.{bytes_eq}
@@ -24,7 +26,8 @@ use Rattle.ash_typing.specs.declared.fault.Fault.{Fault}
 use Rattle.ash_typing.specs.declared.types.Ty.{Ty}
 use Rattle.ash_typing.specs.declared.types.Ty.TheVariants as ty
 use Rattle.ash_typing.specs.Types.{is_interface, object_of}
-use Rattle.ash_typing.specs.Environment.{Environment, Callee, Invoked, declares, variable_in, callee_in, member_in, method_in, construction}
+use Rattle.ash_typing.specs.Environment.{Environment, Callee, Invoked, declares, variable_in, callee_in, member_in}
+use Rattle.ash_typing.specs.Environment.{method_in, construction}
 use Rattle.ash_typing.specs.Heads.{heads, object_named, ty_named}
 use Rattle.ash_typing.specs.Expressions.{Typed, is_void, is_assign, typed}
 use Rattle.ash_typing.specs.Terms.{assignable, is_stored, array_parameters}
@@ -38,7 +41,9 @@ use Rattle.ash_typing.specs.Items.{is_taken}
 use Rattle.ash_tree.specs.Items.{Routine, classes_of, interfaces_of}
 use Rattle.ash_typing.specs.FaultPlaces.{breaks_at}
 use Rattle.ash_typing.specs.Mismatches.{counts_after, Mismatches}
-use Rattle.ash_typing.specs.Phrases.{names_before, names_of_members, names_of_methods, names_listed, Phrase, Expression, Suffixes, Initializer, Locals, Statement, Cases, Parameters, ARoutine, Variables, Methods, Interfaces, ClassMembers, Items, Occurs}
+use Rattle.ash_typing.specs.Phrases.{names_before, names_of_members, names_of_methods, names_listed, Phrase, Expression}
+use Rattle.ash_typing.specs.Phrases.{Suffixes, Initializer, Locals, Statement, Cases, Parameters, ARoutine, Variables}
+use Rattle.ash_typing.specs.Phrases.{Methods, Interfaces, ClassMembers, Items, Occurs}
 
 -- how many arguments are given
 
@@ -85,11 +90,15 @@ has_constructor (written.AField v ∷ ms) = has_constructor ms
 -- before, a method of the interface before, an interface that the class lists before, a parameter before, or a local of
 -- the block. A class has one constructor.
 abbrev pub named_by : Phrase → Option Naming
-named_by (Items env before (written.AClass c ∷ is)) = naming c.place c.name (is_taken (names_before env.registered before) c.name)
-named_by (Items env before (written.AnInterface i ∷ is)) = naming i.place i.name (is_taken (names_before env.registered before) i.name)
-named_by (Items env before (written.AFunction f ∷ is)) = naming f.place f.name (is_taken (names_before env.registered before) f.name)
+named_by (Items env before (written.AClass c ∷ is)) =
+    naming c.place c.name (is_taken (names_before env.registered before) c.name)
+named_by (Items env before (written.AnInterface i ∷ is)) =
+    naming i.place i.name (is_taken (names_before env.registered before) i.name)
+named_by (Items env before (written.AFunction f ∷ is)) =
+    naming f.place f.name (is_taken (names_before env.registered before) f.name)
 named_by (Variables env at of names (d ∷ ds)) = naming d.place d.name (is_taken names d.name)
-named_by (ClassMembers env class before (written.AMethod f ∷ ms)) = naming f.place f.name (is_taken (names_of_members before) f.name)
+named_by (ClassMembers env class before (written.AMethod f ∷ ms)) =
+    naming f.place f.name (is_taken (names_of_members before) f.name)
 named_by (ClassMembers env class before (written.AConstructor c ∷ ms)) = naming c.place c.name (has_constructor before)
 named_by (Methods env before (m ∷ ms)) = naming m.place m.name (is_taken (names_of_methods before) m.name)
 named_by (Interfaces env place before (n ∷ ns)) = naming n.place n.name (is_taken (names_listed before) n.name)
@@ -100,10 +109,13 @@ named_by _ = None
 -- What the first of these declares, where there may be only so many, and whether there are that many before it: 256
 -- classes and interfaces and 256 variables in a module, 32 members of a class or methods of an interface.
 abbrev pub counted_by : Phrase → Option Naming
-counted_by (Items env before (written.AClass c ∷ is)) = naming c.place c.name (nat_le 256 (length (classes_of before) + length (interfaces_of before)))
-counted_by (Items env before (written.AnInterface i ∷ is)) = naming i.place i.name (nat_le 256 (length (classes_of before) + length (interfaces_of before)))
+counted_by (Items env before (written.AClass c ∷ is)) =
+    naming c.place c.name (nat_le 256 (length (classes_of before) + length (interfaces_of before)))
+counted_by (Items env before (written.AnInterface i ∷ is)) =
+    naming i.place i.name (nat_le 256 (length (classes_of before) + length (interfaces_of before)))
 counted_by (Variables env at of names (d ∷ ds)) = naming d.place d.name (nat_eq names.room 0)
-counted_by (ClassMembers env class before (written.AMethod f ∷ ms)) = naming f.place f.name (nat_eq (names_of_members before).room 0)
+counted_by (ClassMembers env class before (written.AMethod f ∷ ms)) =
+    naming f.place f.name (nat_eq (names_of_members before).room 0)
 counted_by (Methods env before (m ∷ ms)) = naming m.place m.name (nat_eq (names_of_methods before).room 0)
 counted_by _ = None
 
@@ -169,7 +181,8 @@ pub data IsWrong (calls : List Call) (script : List written.Item) : Rule → ℕ
       → object_of t.ty ≡ Some o
       → member_in env o text ≡ None
       → IsWrong calls script rules.UnknownName p.at (name text)
-  no_method : {env : Environment} {t : Typed} {p : Place} {text : List ℕ} {es : written.Exprs} {ss : written.Suffixes} {o : ObjectType}
+  no_method : {env : Environment} {t : Typed} {p : Place} {text : List ℕ} {es : written.Exprs} {ss : written.Suffixes}
+      {o : ObjectType}
       → Occurs calls script (Suffixes env t (written.suffix (written.Method p text es) ss))
       → object_of t.ty ≡ Some o
       → method_in env o text ≡ None
@@ -189,7 +202,8 @@ pub data IsWrong (calls : List Call) (script : List written.Item) : Rule → ℕ
       → object_named calls (heads calls script) text ≡ None
       → IsWrong calls script rules.UnknownType at.at (name text)
   -- a class lists what is neither an interface nor a class
-  no_interface : {env : Environment} {place : ℕ} {before : List written.TypeName} {n : written.TypeName} {ns : List written.TypeName}
+  no_interface : {env : Environment} {place : ℕ} {before : List written.TypeName} {n : written.TypeName}
+      {ns : List written.TypeName}
       → Occurs calls script (Interfaces env place before (n ∷ ns))
       → is_declared (object_named calls (heads calls script) n.name) ≡ false
       → IsWrong calls script rules.UnknownType n.place.at (name n.name)
@@ -212,13 +226,15 @@ pub data IsWrong (calls : List Call) (script : List written.Item) : Rule → ℕ
       → returns_in r.body ≡ false
       → IsWrong calls script rules.NoReturn r.place.at (name r.name)
   -- what is called takes another number of arguments than it is given
-  call_count : {env : Environment} {p : Place} {text : List ℕ} {es : written.Exprs} {callee : Callee} {parameters : List Ty}
+  call_count : {env : Environment} {p : Place} {text : List ℕ} {es : written.Exprs} {callee : Callee}
+      {parameters : List Ty}
       → Occurs calls script (Expression env (written.Call p text es))
       → callee_in env text ≡ Some callee
       → callee.parameters ≡ Some parameters
       → nat_eq (length parameters) (argument_count es) ≡ false
       → IsWrong calls script rules.WrongArgumentCount p.at (name text)
-  method_count : {env : Environment} {t : Typed} {p : Place} {text : List ℕ} {es : written.Exprs} {ss : written.Suffixes} {o : ObjectType} {m : Invoked}
+  method_count : {env : Environment} {t : Typed} {p : Place} {text : List ℕ} {es : written.Exprs}
+      {ss : written.Suffixes} {o : ObjectType} {m : Invoked}
       → Occurs calls script (Suffixes env t (written.suffix (written.Method p text es) ss))
       → object_of t.ty ≡ Some o
       → method_in env o text ≡ Some m
@@ -228,7 +244,8 @@ pub data IsWrong (calls : List Call) (script : List written.Item) : Rule → ℕ
       → Occurs calls script (Expression env (written.NewArray p of es))
       → nat_eq (length (array_parameters (argument_count es))) (argument_count es) ≡ false
       → IsWrong calls script rules.WrongArgumentCount p.at (reserved words.Array)
-  variable_count : {env : Environment} {of_at at : ℕ} {o : ObjectType} {i : written.Initializer} {callee : Callee} {parameters : List Ty} {m : Meaning}
+  variable_count : {env : Environment} {of_at at : ℕ} {o : ObjectType} {i : written.Initializer} {callee : Callee}
+      {parameters : List Ty} {m : Meaning}
       → Occurs calls script (Initializer env of_at at (ty.Object o) i)
       → construction env o (initial_count i) ≡ Some callee
       → callee.parameters ≡ Some parameters
@@ -245,12 +262,14 @@ pub data IsWrong (calls : List Call) (script : List written.Item) : Rule → ℕ
       → is_constructible (construction env o (initial_count i)) ≡ false
       → IsWrong calls script rules.NoFactory of_at m
   -- the type of the value of a `switch` does not hold the constant of a label
-  out_of_range : {scope : Scope} {kind : Option Kind} {before : List Label} {p : Place} {l : Label} {ss : written.Stmts} {cs : written.Cases} {m : Meaning}
+  out_of_range : {scope : Scope} {kind : Option Kind} {before : List Label} {p : Place} {l : Label} {ss : written.Stmts}
+      {cs : written.Cases} {m : Meaning}
       → Occurs calls script (Cases scope kind before (written.next_case (written.labelled p l ss) cs))
       → is_within kind l ≡ false
       → IsWrong calls script rules.ConstantOutOfRange p.at m
   -- a label before has the same constant
-  duplicate : {scope : Scope} {kind : Option Kind} {before : List Label} {p : Place} {l : Label} {ss : written.Stmts} {cs : written.Cases} {m : Meaning}
+  duplicate : {scope : Scope} {kind : Option Kind} {before : List Label} {p : Place} {l : Label} {ss : written.Stmts}
+      {cs : written.Cases} {m : Meaning}
       → Occurs calls script (Cases scope kind before (written.next_case (written.labelled p l ss) cs))
       → list_any (is_same_constant l) before ≡ true
       → IsWrong calls script rules.DuplicateCase p.at m
@@ -269,7 +288,8 @@ pub data IsWrong (calls : List Call) (script : List written.Item) : Rule → ℕ
       → scope.in_loop ≡ false
       → IsWrong calls script rules.Misplaced p.at (reserved words.Continue)
   -- `default` before another label
-  early_default : {scope : Scope} {kind : Option Kind} {before : List Label} {p : Place} {ss : written.Stmts} {cs : written.Cases}
+  early_default : {scope : Scope} {kind : Option Kind} {before : List Label} {p : Place} {ss : written.Stmts}
+      {cs : written.Cases}
       → Occurs calls script (Cases scope kind before (written.next_case (written.labelled p labels.Default ss) cs))
       → is_last cs ≡ false
       → IsWrong calls script rules.Misplaced p.at (reserved words.Default)
@@ -281,12 +301,14 @@ pub data IsWrong (calls : List Call) (script : List written.Item) : Rule → ℕ
       → is_misplaced used o ≡ true
       → IsWrong calls script rules.Misplaced (at_type used.of) m
   -- a class lists a class
-  listed_class : {env : Environment} {place class : ℕ} {before : List written.TypeName} {n : written.TypeName} {ns : List written.TypeName}
+  listed_class : {env : Environment} {place class : ℕ} {before : List written.TypeName} {n : written.TypeName}
+      {ns : List written.TypeName}
       → Occurs calls script (Interfaces env place before (n ∷ ns))
       → object_named calls (heads calls script) n.name ≡ Some (objects.Class class)
       → IsWrong calls script rules.Misplaced n.place.at (name n.name)
   -- a constructor has another name than its class
-  other_constructor : {env : Environment} {class : List ℕ} {before : List written.Member} {c : written.Constructor} {ms : List written.Member}
+  other_constructor : {env : Environment} {class : List ℕ} {before : List written.Member} {c : written.Constructor}
+      {ms : List written.Member}
       → Occurs calls script (ClassMembers env class before (written.AConstructor c ∷ ms))
       → bytes_eq c.name class ≡ false
       → IsWrong calls script rules.Misplaced c.place.at (name c.name)
@@ -317,7 +339,9 @@ pub data IsWrong (calls : List Call) (script : List written.Item) : Rule → ℕ
       → Occurs calls script (Initializer env of_at at (ty.Object o) (written.Value e))
       → IsWrong calls script rules.NotAssignable at m
 
--- A token of the list has its first byte at the offset of the fault, means what one of its rule may, and there the rule is
--- broken.
+-- A token of the list has its first byte at the offset of the fault, means what one of its rule may, and there the rule
+-- is broken.
 abbrev pub IsBrokenAt : List Call → List written.Item → Tokens → Fault → Type 0
-IsBrokenAt calls script tokens f = Any (λ token. (token.1.at ≡ f.at) × (breaks_at f.rule token.0 ≡ true) × IsWrong calls script f.rule f.at token.0) tokens
+IsBrokenAt calls script tokens f =
+    Any (λ token. (token.1.at ≡ f.at) × (breaks_at f.rule token.0 ≡ true) × IsWrong calls script f.rule f.at token.0)
+    tokens

@@ -1,6 +1,7 @@
--- Where the types of a phrase of a module do not fit: the parts of the phrase have types, and one of them is none that the
--- phrase takes. Types that are unknown fit, since the fault is at the type.
-use Rattle.std.specs.Prelude.{◌≡◌, ℕ, List, [], ◌∷◌, Bool, true, false, Option, Some, None, Ok, length, nat_eq, if◌then◌else◌}
+-- Where the types of a phrase of a module do not fit: the parts of the phrase have types, and one of them is none that
+-- the phrase takes. Types that are unknown fit, since the fault is at the type.
+use Rattle.std.specs.Prelude.{◌≡◌, ℕ, List, [], ◌∷◌, Bool, true, false, Option, Some, None, Ok, length, nat_eq}
+use Rattle.std.specs.Prelude.{if◌then◌else◌}
 use Rattle.ash_registrations.specs.Calls.{Call}
 use Rattle.ash_tree.specs.Tree as written
 use Rattle.ash_tree.specs.declared.tree.places.Place.{Place}
@@ -106,14 +107,16 @@ pub data IsUnfit (classes : List Class) : List Ty → List Typed → ℕ → Typ
 -- Types do not fit at this offset: in the module of this script, where these calls are registered.
 pub data Mismatches (calls : List Call) (script : List written.Item) : ℕ → Type 0 where
   -- an argument does not fit its parameter
-  of_call : {env : Environment} {p : Place} {text : List ℕ} {es : written.Exprs} {callee : Callee} {parameters : List Ty} {ts : List Typed} {at : ℕ}
+  of_call : {env : Environment} {p : Place} {text : List ℕ} {es : written.Exprs} {callee : Callee}
+      {parameters : List Ty} {ts : List Typed} {at : ℕ}
       → Occurs calls script (Expression env (written.Call p text es))
       → callee_in env text ≡ Some callee
       → callee.parameters ≡ Some parameters
       → all_typed env es ≡ Ok ts
       → IsUnfit env.heads.classes parameters ts at
       → Mismatches calls script at
-  of_method : {env : Environment} {t : Typed} {p : Place} {text : List ℕ} {es : written.Exprs} {ss : written.Suffixes} {o : ObjectType} {m : Invoked} {ts : List Typed} {at : ℕ}
+  of_method : {env : Environment} {t : Typed} {p : Place} {text : List ℕ} {es : written.Exprs} {ss : written.Suffixes}
+      {o : ObjectType} {m : Invoked} {ts : List Typed} {at : ℕ}
       → Occurs calls script (Suffixes env t (written.suffix (written.Method p text es) ss))
       → object_of t.ty ≡ Some o
       → method_in env o text ≡ Some m
@@ -125,7 +128,8 @@ pub data Mismatches (calls : List Call) (script : List written.Item) : ℕ → T
       → all_typed env es ≡ Ok ts
       → IsUnfit env.heads.classes (array_parameters (length ts)) ts at
       → Mismatches calls script at
-  of_variable : {env : Environment} {of_at at : ℕ} {o : ObjectType} {es : List written.Expr} {callee : Callee} {parameters : List Ty} {ts : List Typed} {arg_at : ℕ}
+  of_variable : {env : Environment} {of_at at : ℕ} {o : ObjectType} {es : List written.Expr} {callee : Callee}
+      {parameters : List Ty} {ts : List Typed} {arg_at : ℕ}
       → Occurs calls script (Initializer env of_at at (ty.Object o) (written.Arguments es))
       → all_typed env (written.exprs es) ≡ Ok ts
       → construction env o (length ts) ≡ Some callee
@@ -239,7 +243,8 @@ pub data Mismatches (calls : List Call) (script : List written.Item) : ℕ → T
       → typed scope.env false c ≡ Ok t
       → may_be_bool t.ty ≡ false
       → Mismatches calls script t.at
-  for_condition : {scope : Scope} {p : Place} {f s : written.Stmt} {c : written.Expr} {es : List written.Expr} {t : Typed}
+  for_condition : {scope : Scope} {p : Place} {f s : written.Stmt} {c : written.Expr} {es : List written.Expr}
+      {t : Typed}
       → Occurs calls script (Statement scope (written.For p f (Some c) es s))
       → typed (behind (block_of scope) f).env false c ≡ Ok t
       → may_be_bool t.ty ≡ false
@@ -264,7 +269,8 @@ pub data Mismatches (calls : List Call) (script : List written.Item) : ℕ → T
       → gives_nothing scope.gives ≡ false
       → Mismatches calls script p.at
   -- a class lacks a method of an interface that it lists, or has it with other types
-  lacks_method : {env : Environment} {place interface : ℕ} {before : List written.TypeName} {n : written.TypeName} {ns : List written.TypeName}
+  lacks_method : {env : Environment} {place interface : ℕ} {before : List written.TypeName} {n : written.TypeName}
+      {ns : List written.TypeName}
       → Occurs calls script (Interfaces env place before (n ∷ ns))
       → object_named calls (heads calls script) n.name ≡ Some (objects.Interface interface)
       → implemented env place interface ≡ None

@@ -2,7 +2,8 @@
 -- statement stands, as after a condition or a label.
 use Rattle.std.specs.Prelude.{List}
 use Rattle.std.specs.List.{AllByRecursion}
-use Rattle.ash_tree.specs.Tree.{Stmt, Declare, Block, If, IfElse, While, DoWhile, For, Switch, Stmts, no_stmt, stmt, stmts, labelled, Cases, no_case, next_case, Function, Constructor, Class, Item}
+use Rattle.ash_tree.specs.Tree.{Stmt, Declare, Block, If, IfElse, While, DoWhile, For, Switch, Stmts, no_stmt, stmt}
+use Rattle.ash_tree.specs.Tree.{stmts, labelled, Cases, no_case, next_case, Function, Constructor, Class, Item}
 use Rattle.ash_tree.specs.Items.{classes_of, functions_of, methods_of, constructors_of}
 
 abbrev pub IsNoDeclaration : Stmt → Type 0

@@ -21,20 +21,24 @@ parameters_of_factory (host.AFactory of parameters) = Some parameters
 parameters_of_factory _ = None
 
 abbrev pub factory_at : List host.Call → ℕ → host.Call → Option (List Primitive)
-factory_at calls kind (host.AType name other) = if nat_eq kind other then option_and_then parameters_of_factory (find (host.is_factory_of name) calls) else None
+factory_at calls kind (host.AType name other) =
+    if nat_eq kind other then option_and_then parameters_of_factory (find (host.is_factory_of name) calls) else None
 factory_at calls kind _ = None
 
 -- the method, the property and the function of a number
 abbrev pub method_at : List ℕ → ℕ → host.Call → Option HostSignature
-method_at of id (host.AMethod other taken operation) = if bytes_eq of other && nat_eq id taken then Some (host_signature operation) else None
+method_at of id (host.AMethod other taken operation) =
+    if bytes_eq of other && nat_eq id taken then Some (host_signature operation) else None
 method_at of id _ = None
 
 abbrev pub property_at : List ℕ → ℕ → host.Call → Option Primitive
-property_at of id (host.AProperty other taken value name) = if bytes_eq of other && nat_eq id taken then Some value else None
+property_at of id (host.AProperty other taken value name) =
+    if bytes_eq of other && nat_eq id taken then Some value else None
 property_at of id _ = None
 
 abbrev pub function_at : ℕ → ℕ → host.Call → Option HostSignature
-function_at service id (host.AFunction other taken operation) = if nat_eq service other && nat_eq id taken then Some (host_signature operation) else None
+function_at service id (host.AFunction other taken operation) =
+    if nat_eq service other && nat_eq id taken then Some (host_signature operation) else None
 function_at service id _ = None
 
 -- what is offered where these calls are accepted

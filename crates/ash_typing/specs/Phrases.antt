@@ -19,18 +19,21 @@ use Rattle.ash_typing.specs.Declarations.{at_type, known_ty}
 use Rattle.ash_typing.specs.Switches.{kind_in}
 use Rattle.ash_typing.specs.Scopes.{Scope, block_of, loop_of, switch_of, with_variables, behind, body_scope}
 use Rattle.ash_typing.specs.Items.{Names, passed_ty, result_typed, parameters_typed}
-use Rattle.ash_tree.specs.Items.{Routine, routine_of, constructing, classes_of, globals_of, variable_names, member_names, item_names}
+use Rattle.ash_tree.specs.Items.{Routine, routine_of, constructing, classes_of, globals_of, variable_names}
+use Rattle.ash_tree.specs.Items.{member_names, item_names}
 use Rattle.ash_typing.specs.TypedModules.{signature_name, listed_name, environment}
 
 -- names that are taken
 
 -- Those that are registered, and those of the items before. There are at most 256 variables in a module.
 abbrev pub names_before : List Call → List written.Item → Names
-names_before calls before = record { registered = calls; taken = item_names before; room = 256 - length (variable_names (globals_of before)) }
+names_before calls before =
+    record { registered = calls; taken = item_names before; room = 256 - length (variable_names (globals_of before)) }
 
 -- Those of the members before. There are at most 32 fields and methods in a class.
 abbrev pub names_of_members : List written.Member → Names
-names_of_members before = record { registered = []; taken = member_names before; room = 32 - length (member_names before) }
+names_of_members before =
+    record { registered = []; taken = member_names before; room = 32 - length (member_names before) }
 
 -- Those of the methods before. There are at most 32 in an interface.
 abbrev pub names_of_methods : List written.InterfaceMethod → Names
@@ -157,7 +160,8 @@ pub data Occurs (calls : List Call) (script : List written.Item) : Phrase → Ty
       → typed env false e ≡ Ok u
       → operate op t u ≡ Ok next
       → Occurs calls script (Links env next ls)
-  method_arguments : {env : Environment} {t : Typed} {p : Place} {text : List ℕ} {es : written.Exprs} {ss : written.Suffixes}
+  method_arguments : {env : Environment} {t : Typed} {p : Place} {text : List ℕ} {es : written.Exprs}
+      {ss : written.Suffixes}
       → Occurs calls script (Suffixes env t (written.suffix (written.Method p text es) ss))
       → Occurs calls script (Arguments env es)
   index : {env : Environment} {t : Typed} {e : written.Expr} {ss : written.Suffixes}
@@ -246,17 +250,20 @@ pub data Occurs (calls : List Call) (script : List written.Item) : Phrase → Ty
   other_statements : {scope : Scope} {s : written.Stmt} {ss : written.Stmts}
       → Occurs calls script (Statements scope (written.stmt s ss))
       → Occurs calls script (Statements (behind scope s) ss)
-  labelled : {scope : Scope} {kind : Option Kind} {before : List Label} {p : Place} {l : Label} {ss : written.Stmts} {cs : written.Cases}
+  labelled : {scope : Scope} {kind : Option Kind} {before : List Label} {p : Place} {l : Label} {ss : written.Stmts}
+      {cs : written.Cases}
       → Occurs calls script (Cases scope kind before (written.next_case (written.labelled p l ss) cs))
       → Occurs calls script (Statements scope ss)
-  other_cases : {scope : Scope} {kind : Option Kind} {before : List Label} {p : Place} {l : Label} {ss : written.Stmts} {cs : written.Cases}
+  other_cases : {scope : Scope} {kind : Option Kind} {before : List Label} {p : Place} {l : Label} {ss : written.Stmts}
+      {cs : written.Cases}
       → Occurs calls script (Cases scope kind before (written.next_case (written.labelled p l ss) cs))
       → Occurs calls script (Cases scope kind (before ++ l ∷ []) cs)
   -- functions
   parameters : {env : Environment} {of : Ty} {r : Routine}
       → Occurs calls script (ARoutine env of r)
       → Occurs calls script (Parameters env [] r.parameters)
-  other_parameters : {env : Environment} {before : List Declared} {x : written.Parameter} {xs : List written.Parameter} {of : Ty}
+  other_parameters : {env : Environment} {before : List Declared} {x : written.Parameter} {xs : List written.Parameter}
+      {of : Ty}
       → Occurs calls script (Parameters env before (x ∷ xs))
       → passed_ty x.of (ty_in env x.of) ≡ Ok of
       → Occurs calls script (Parameters env (before ++ record { name = x.name; of = of } ∷ []) xs)
@@ -272,28 +279,35 @@ pub data Occurs (calls : List Call) (script : List written.Item) : Phrase → Ty
       → Occurs calls script (Variables env at of names (d ∷ ds))
       → Occurs calls script (Variables env at of (with_decl names d) ds)
   -- interfaces
-  method_parameters : {env : Environment} {before : List written.InterfaceMethod} {m : written.InterfaceMethod} {ms : List written.InterfaceMethod}
+  method_parameters : {env : Environment} {before : List written.InterfaceMethod} {m : written.InterfaceMethod}
+      {ms : List written.InterfaceMethod}
       → Occurs calls script (Methods env before (m ∷ ms))
       → Occurs calls script (Parameters env [] m.parameters)
-  other_methods : {env : Environment} {before : List written.InterfaceMethod} {m : written.InterfaceMethod} {ms : List written.InterfaceMethod}
+  other_methods : {env : Environment} {before : List written.InterfaceMethod} {m : written.InterfaceMethod}
+      {ms : List written.InterfaceMethod}
       → Occurs calls script (Methods env before (m ∷ ms))
       → Occurs calls script (Methods env (before ++ m ∷ []) ms)
   -- classes
-  other_interfaces : {env : Environment} {place : ℕ} {before : List written.TypeName} {n : written.TypeName} {ns : List written.TypeName}
+  other_interfaces : {env : Environment} {place : ℕ} {before : List written.TypeName} {n : written.TypeName}
+      {ns : List written.TypeName}
       → Occurs calls script (Interfaces env place before (n ∷ ns))
       → Occurs calls script (Interfaces env place (before ++ n ∷ []) ns)
-  fields : {env : Environment} {class : List ℕ} {before : List written.Member} {v : written.Vars} {ms : List written.Member} {of : Ty}
+  fields : {env : Environment} {class : List ℕ} {before : List written.Member} {v : written.Vars}
+      {ms : List written.Member} {of : Ty}
       → Occurs calls script (ClassMembers env class before (written.AField v ∷ ms))
       → known_ty v.of (ty_in env v.of) ≡ Ok of
       → Occurs calls script (Variables env (at_type v.of) of (names_of_members before) v.decls)
-  method : {env : Environment} {class : List ℕ} {before : List written.Member} {f : written.Function} {ms : List written.Member} {of : Ty}
+  method : {env : Environment} {class : List ℕ} {before : List written.Member} {f : written.Function}
+      {ms : List written.Member} {of : Ty}
       → Occurs calls script (ClassMembers env class before (written.AMethod f ∷ ms))
       → result_typed env f.result ≡ Ok of
       → Occurs calls script (ARoutine env of (routine_of f))
-  constructor : {env : Environment} {class : List ℕ} {before : List written.Member} {c : written.Constructor} {ms : List written.Member}
+  constructor : {env : Environment} {class : List ℕ} {before : List written.Member} {c : written.Constructor}
+      {ms : List written.Member}
       → Occurs calls script (ClassMembers env class before (written.AConstructor c ∷ ms))
       → Occurs calls script (ARoutine env ty.Void (constructing c))
-  other_members : {env : Environment} {class : List ℕ} {before : List written.Member} {m : written.Member} {ms : List written.Member}
+  other_members : {env : Environment} {class : List ℕ} {before : List written.Member} {m : written.Member}
+      {ms : List written.Member}
       → Occurs calls script (ClassMembers env class before (m ∷ ms))
       → Occurs calls script (ClassMembers env class (before ++ m ∷ []) ms)
   -- items

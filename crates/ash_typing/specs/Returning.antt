@@ -2,7 +2,8 @@
 use Rattle.std.specs.Prelude.{Bool, true, false, not, ◌&&◌, ◌||◌, List}
 use Rattle.ash_tree.specs.declared.tree.statements.Label.{Label}
 use Rattle.ash_tree.specs.declared.tree.statements.Label.TheVariants as labels
-use Rattle.ash_tree.specs.Tree.{Stmt, Stmts, Case, Cases, Block, If, IfElse, Switch, Break, Return, no_stmt, stmt, stmts, labelled, no_case, next_case}
+use Rattle.ash_tree.specs.Tree.{Stmt, Stmts, Case, Cases, Block, If, IfElse, Switch, Break, Return, no_stmt, stmt}
+use Rattle.ash_tree.specs.Tree.{stmts, labelled, no_case, next_case}
 
 -- a `break` that leaves what the statement stands in, and no loop or `switch` inside it
 abbrev mutual

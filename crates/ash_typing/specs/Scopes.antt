@@ -16,16 +16,30 @@ pub record Scope : Type 0 where
 
 -- in a block none of its names is taken yet
 abbrev pub block_of : Scope → Scope
-block_of scope = record { env = scope.env; first = length scope.env.locals; gives = scope.gives; in_loop = scope.in_loop; in_switch = scope.in_switch }
+block_of scope = record {
+  env = scope.env;
+  first = length scope.env.locals;
+  gives = scope.gives;
+  in_loop = scope.in_loop;
+  in_switch = scope.in_switch;
+}
 
 abbrev pub loop_of : Scope → Scope
-loop_of scope = record { env = scope.env; first = scope.first; gives = scope.gives; in_loop = true; in_switch = scope.in_switch }
+loop_of scope =
+    record { env = scope.env; first = scope.first; gives = scope.gives; in_loop = true; in_switch = scope.in_switch }
 
 abbrev pub switch_of : Scope → Scope
-switch_of scope = record { env = scope.env; first = scope.first; gives = scope.gives; in_loop = scope.in_loop; in_switch = true }
+switch_of scope =
+    record { env = scope.env; first = scope.first; gives = scope.gives; in_loop = scope.in_loop; in_switch = true }
 
 abbrev pub with_variables : Scope → List Declared → Scope
-with_variables scope vs = record { env = with_locals scope.env (scope.env.locals ++ vs); first = scope.first; gives = scope.gives; in_loop = scope.in_loop; in_switch = scope.in_switch }
+with_variables scope vs = record {
+  env = with_locals scope.env (scope.env.locals ++ vs);
+  first = scope.first;
+  gives = scope.gives;
+  in_loop = scope.in_loop;
+  in_switch = scope.in_switch;
+}
 
 abbrev pub declared_in : Scope → written.Vars → List Declared
 declared_in scope v = variables scope.env.registered scope.env.heads v

@@ -23,7 +23,9 @@ is_within (Some k) l = holds_label k l
 
 -- the constant of a label at this offset, behind the labels before it
 unfoldable pub constant_typed : Option Kind → List Label → ℕ → Label → Checking Label
-constant_typed kind before at l = if is_within kind l then (if list_any (is_same_constant l) before then broken DuplicateCase at else Ok l) else broken ConstantOutOfRange at
+constant_typed kind before at l =
+    if is_within kind l then (if list_any (is_same_constant l) before then broken DuplicateCase at else Ok l)
+    else broken ConstantOutOfRange at
 
 -- a label at this offset: `default` has to be the last one
 unfoldable pub label_typed : Option Kind → List Label → Bool → ℕ → Label → Checking Label

@@ -62,7 +62,8 @@ converted_to of t = converted (conversion of t.ty) t.tree
 -- A number alone takes the type of the other operand, where that holds it and the other is no number.
 abbrev pub taking : Form → Ty → Form → Term → Term
 taking (form.Number m) of (form.Number n) t = t
-taking _ (ty.Integer k) (form.Number n) t = if holds k n then record { ty = ty.Integer k; form = form.Number n; tree = Number k n } else t
+taking _ (ty.Integer k) (form.Number n) t =
+    if holds k n then record { ty = ty.Integer k; form = form.Number n; tree = Number k n } else t
 taking _ _ _ t = t
 
 -- the operand of an operator beside one of this form and type: the two of a shift have a type each
@@ -86,7 +87,8 @@ right_by _ o u = converted_to (operand_type o) u
 
 -- what an operator makes of its operands
 abbrev pub applied_by : Operator → Operands → Expr → Expr → Expr
-applied_by (operators.Calculate c) o a b = Operate (operations.Calculate (record { operator = c; of = integers_in o })) a b
+applied_by (operators.Calculate c) o a b =
+    Operate (operations.Calculate (record { operator = c; of = integers_in o })) a b
 applied_by (operators.Compare c) o a b = Operate (operations.Compare c o) a b
 applied_by (operators.Lazy l) o a b = Lazily l a b
 
@@ -139,7 +141,8 @@ is_stored _ _ = false
 
 -- a call says its parameters' types; a method is called on the object that runs
 abbrev pub call_of : Callable → List VarType → Exprs → Expr
-call_of (callables.OwnMethod class method result) parameters es = Invoke (This class) (methods.Script class method result) parameters es
+call_of (callables.OwnMethod class method result) parameters es =
+    Invoke (This class) (methods.Script class method result) parameters es
 call_of (callables.Target target) parameters es = Call target parameters es
 
 -- what the construction of an array takes, of so many arguments: at most one, how many elements it has

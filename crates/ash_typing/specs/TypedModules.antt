@@ -1,6 +1,7 @@
 -- The typed tree of a module, one case for each phrase. Items see each other in any order, so that each is typed in the
 -- environment that all of them make.
-use Rattle.std.specs.Prelude.{◌≡◌, ◌≤◌, ◌⊎◌, ◌+◌, ℕ, List, [], ◌∷◌, ◌++◌, Bool, true, false, Option, Some, None, map, length}
+use Rattle.std.specs.Prelude.{◌≡◌, ◌≤◌, ◌⊎◌, ◌+◌, ℕ, List, [], ◌∷◌, ◌++◌, Bool, true, false, Option, Some, None, map}
+use Rattle.std.specs.Prelude.{length}
 use Rattle.std.specs.Bool.{IsTrue}
 use Rattle.std.specs.List.{AllByRecursion, AllZip, IsDistinct}
 use Rattle.std.specs.Str.{bytes_eq}
@@ -19,7 +20,9 @@ use Rattle.ash_typing.specs.TypedStatements.{AreStmts}
 use Rattle.ash_typed.specs.Modules.{Variables, Function, Signature, Interface, Implementation, Class, Module}
 use Rattle.ash_typing.specs.Scopes.{body_scope}
 use Rattle.ash_typing.specs.Returning.{returns_in}
-use Rattle.ash_tree.specs.Items.{Routine, routine_of, constructing, classes_of, interfaces_of, classes_before, functions_of, globals_of, fields_of, methods_of, constructors_of, variable_names, member_names, item_names, parameter_name}
+use Rattle.ash_tree.specs.Items.{Routine, routine_of, constructing, classes_of, interfaces_of, classes_before}
+use Rattle.ash_tree.specs.Items.{functions_of, globals_of, fields_of, methods_of, constructors_of, variable_names}
+use Rattle.ash_tree.specs.Items.{member_names, item_names, parameter_name}
 use Rattle.ash_typing.specs.Implementations.{implemented}
 
 -- names
@@ -60,7 +63,9 @@ pub record AreVariables (env : Environment) (v : written.Vars) (typed : Variable
 -- the fields of a class: the variables of each declaration, in source order
 abbrev pub AreFields : Environment → List written.Vars → List Initialization → Type 0
 AreFields env [] typed = typed ≡ []
-AreFields env (v ∷ vs) typed = (values : List Initialization) × (more : List Initialization) × IsVariableType (ty_in env v.of) × AllZip (IsDeclared env (ty_in env v.of)) v.decls values × AreFields env vs more × (typed ≡ values ++ more)
+AreFields env (v ∷ vs) typed =
+    (values : List Initialization) × (more : List Initialization) × IsVariableType (ty_in env v.of)
+    × AllZip (IsDeclared env (ty_in env v.of)) v.decls values × AreFields env vs more × (typed ≡ values ++ more)
 
 -- functions
 
@@ -68,8 +73,8 @@ AreFields env (v ∷ vs) typed = (values : List Initialization) × (more : List 
 abbrev pub IsBody : Environment → Ty → List written.Stmt → Body → Type 0
 IsBody env of body typed = AreStmts (body_scope env of) (written.stmts body) typed
 
--- A function, a method or a constructor that gives this type. Its parameters differ in name, and a function with a result
--- returns however its conditions turn out.
+-- A function, a method or a constructor that gives this type. Its parameters differ in name, and a function with a
+-- result returns however its conditions turn out.
 pub record IsRoutine (env : Environment) (of : Ty) (r : Routine) (typed : Function) : Type 0 where
   pub name : typed.name ≡ r.name
   pub line : typed.line ≡ r.place.line
@@ -116,7 +121,8 @@ pub record IsInterface (env : Environment) (i : written.Interface) (classes : �
 -- interfaces, each behind so many classes
 abbrev pub AreInterfaces : Environment → List written.Interface → List ℕ → List Interface → Type 0
 AreInterfaces env [] [] [] = Unit {0}
-AreInterfaces env (i ∷ is) (before ∷ befores) (typed ∷ more) = IsInterface env i before typed × AreInterfaces env is befores more
+AreInterfaces env (i ∷ is) (before ∷ befores) (typed ∷ more) =
+    IsInterface env i before typed × AreInterfaces env is befores more
 AreInterfaces env _ _ _ = ⊥
 
 -- classes
@@ -130,7 +136,8 @@ pub record IsListed (env : Environment) (class : ℕ) (n : written.TypeName) (ty
   pub methods : implemented env class typed.interface ≡ Some typed.methods
 
 -- a constructor has its class's name
-pub record IsConstructor (env : Environment) (class : List ℕ) (c : written.Constructor) (typed : Function) : Type 0 where
+pub record IsConstructor (env : Environment) (class : List ℕ) (c : written.Constructor)
+    (typed : Function) : Type 0 where
   pub named : c.name ≡ class
   pub routine : IsRoutine env ty.Void (constructing c) typed
 

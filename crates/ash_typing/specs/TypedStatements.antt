@@ -1,6 +1,6 @@
--- The rules of typing of statements (AngelScript manual, "Statements"), one case for each, where every type that is named
--- is known. A rule says when a statement has a typed tree, and which; it says neither in which order its parts are walked
--- nor what is told where it does not hold.
+-- The rules of typing of statements (AngelScript manual, "Statements"), one case for each, where every type that is
+-- named is known. A rule says when a statement has a typed tree, and which; it says neither in which order its parts
+-- are walked nor what is told where it does not hold.
 --
 -- `IsStmt scope s t`: in this scope the statement `s` has the typed tree `t`.
 use Rattle.std.specs.Prelude.{◌≡◌, List, [], ◌∷◌, ◌++◌, Bool, true, false, ◌||◌, Option, Some, None, map}
@@ -15,7 +15,10 @@ use Rattle.ash_typing.specs.declared.types.Ty.TheVariants as ty
 use Rattle.ash_typing.specs.Fitting.{fits}
 use Rattle.ash_typed.specs.declared.tree.statements.Test.TheVariants.{First, Last}
 use Rattle.ash_typed.specs.Tree.{Expr}
-use Rattle.ash_typed.specs.StatementTree.{Initialization, Stmt, Empty, Declare, Evaluate, Block, If, no_branch, branch, Head, no_head, declared_head, evaluated_head, Repeat, For, repeated, Switch, Break, Continue, Return, Stmts, no_stmt, stmt, labelled, Cases, no_case, next_case}
+use Rattle.ash_typed.specs.StatementTree.{Initialization, Stmt, Empty, Declare, Evaluate, Block, If, no_branch, branch}
+use Rattle.ash_typed.specs.StatementTree.{Head, no_head, declared_head, evaluated_head, Repeat, For, repeated, Switch}
+use Rattle.ash_typed.specs.StatementTree.{Break, Continue, Return, Stmts, no_stmt, stmt, labelled, Cases, no_case}
+use Rattle.ash_typed.specs.StatementTree.{next_case}
 use Rattle.ash_typing.specs.Environment.{Environment}
 use Rattle.ash_typing.specs.Heads.{declared, ty_in}
 use Rattle.ash_typing.specs.Terms.{Term, converted_to}
@@ -32,7 +35,8 @@ pub record IsKnownScope (scope : Scope) : Type 0 where
 -- variables of a type, each seen from the end of its own on: none of their names is taken in the block
 pub data AreDeclared : Scope → Ty → List written.Decl → List Initialization → Type 0 where
   none_declared : {scope : Scope} {of : Ty} → AreDeclared scope of [] []
-  and_declared : {scope : Scope} {of : Ty} {d : written.Decl} {ds : List written.Decl} {value : Initialization} {values : List Initialization}
+  and_declared : {scope : Scope} {of : Ty} {d : written.Decl} {ds : List written.Decl} {value : Initialization}
+      {values : List Initialization}
       → is_taken scope d.name ≡ false
       → IsDeclared scope.env of d value
       → AreDeclared (with_variables scope (declared of d ∷ [])) of ds values
@@ -114,14 +118,16 @@ mutual
         → IsCondition scope.env c tree
         → IsStmt scope (written.DoWhile p s c) (Repeat p.line (repeated Last (Some tree) [] t))
     -- for (f c; e ..) s: what f declares is seen by the others
-    for_loop : {scope : Scope} {p : place.Place} {f s : written.Stmt} {c : Option written.Expr} {es : List written.Expr} {h : Head} {t : Stmt} {tree : Option Expr} {ts : List Term}
+    for_loop : {scope : Scope} {p : place.Place} {f s : written.Stmt} {c : Option written.Expr} {es : List written.Expr}
+        {h : Head} {t : Stmt} {tree : Option Expr} {ts : List Term}
         → IsHead (block_of scope) f h
         → MayBeCondition (behind (block_of scope) f).env c tree
         → AllHaveType (behind (block_of scope) f).env (written.exprs es) ts
         → IsStmt (loop_of (behind (block_of scope) f)) s t
         → IsStmt scope (written.For p f c es s) (For p.line h (repeated First tree (map tree_of_term ts) t))
     -- switch (e) { case .. }
-    switch : {scope : Scope} {p : place.Place} {e : written.Expr} {cs : written.Cases} {t : Term} {k : Kind} {rows : Cases}
+    switch : {scope : Scope} {p : place.Place} {e : written.Expr} {cs : written.Cases} {t : Term} {k : Kind}
+        {rows : Cases}
         → HasType scope.env false e t
         → t.ty ≡ ty.Integer k
         → AreCases (switch_of scope) k [] cs rows
@@ -155,7 +161,8 @@ mutual
   pub data AreCases : Scope → Kind → List Label → written.Cases → Cases → Type 0 where
     no_more_cases : {scope : Scope} {k : Kind} {before : List Label}
         → AreCases scope k before written.no_case no_case
-    more_cases : {scope : Scope} {k : Kind} {before : List Label} {p : place.Place} {l : Label} {ss : written.Stmts} {cs : written.Cases} {ts : Stmts} {rows : Cases}
+    more_cases : {scope : Scope} {k : Kind} {before : List Label} {p : place.Place} {l : Label} {ss : written.Stmts}
+        {cs : written.Cases} {ts : Stmts} {rows : Cases}
         → IsLabel k before (is_last cs) l
         → AreStmts scope ss ts
         → AreCases scope k (before ++ l ∷ []) cs rows

@@ -159,7 +159,8 @@ ty_of_var (vars.Integer k) = ty.Integer k
 ty_of_var (vars.Object o) = ty.Object o
 ty_of_var (vars.Handle o) = ty.Handle o
 
--- What an expression of a type gives: no value, null, or a value of a type of variables; an object is given by its handle.
+-- What an expression of a type gives: no value, null, or a value of a type of variables; an object is given by its
+-- handle.
 abbrev pub value_type : Ty → ValueType
 value_type ty.Void = no_value
 value_type ty.Null = null_value

@@ -1,9 +1,9 @@
--- The rules of typing of expressions and of variables (AngelScript manual, "Expressions", "Conversions" and "Variables"),
--- one case for each, where every type that is named is known. A rule says when a phrase has a type, and by which typed
--- tree; it says neither in which order its parts are walked nor what is told where it does not hold.
+-- The rules of typing of expressions and of variables (AngelScript manual, "Expressions", "Conversions" and
+-- "Variables"), one case for each, where every type that is named is known. A rule says when a phrase has a type, and
+-- by which typed tree; it says neither in which order its parts are walked nor what is told where it does not hold.
 --
--- `HasType env left e t`: the expression `e` has the type of the term `t`, and its tree. `left` says that `e` stands left
--- of `=`, where `@e` is what is written to.
+-- `HasType env left e t`: the expression `e` has the type of the term `t`, and its tree. `left` says that `e` stands
+-- left of `=`, where `@e` is what is written to.
 use Rattle.std.specs.Prelude.{◌≡◌, ℕ, length, List, [], ◌∷◌, Bool, true, false, Option, Some, None, map}
 use Rattle.std.specs.List.{AllByRecursion}
 use Rattle.ash_tree.specs.declared.tree.places.Place as place
@@ -29,13 +29,18 @@ use Rattle.ash_typed.specs.declared.tree.operations.Calculator.{Calculator}
 use Rattle.ash_typed.specs.declared.tree.operations.Operands.{Operands}
 use Rattle.ash_typed.specs.declared.tree.operations.Operands.TheVariants as operands
 use Rattle.ash_typed.specs.declared.tree.operations.Step.TheVariants as steps
-use Rattle.ash_typing.specs.Types.{is_variable, is_result, var_type, signed, common, object_of, ty_of, ty_of_element, sort_of, binary_of, meets, outcome}
-use Rattle.ash_typed.specs.Tree.{Expr, Truth, Null, This, Read, Invoke, Cast, Call, Alter, Conditional, Assign, Update, Count, Place, Held, Indexed, Exprs, no_expr, expr}
+use Rattle.ash_typing.specs.Types.{is_variable, is_result, var_type, signed, common, object_of, ty_of, ty_of_element}
+use Rattle.ash_typing.specs.Types.{sort_of, binary_of, meets, outcome}
+use Rattle.ash_typed.specs.Tree.{Expr, Truth, Null, This, Read, Invoke, Cast, Call, Alter, Conditional, Assign, Update}
+use Rattle.ash_typed.specs.Tree.{Count, Place, Held, Indexed, Exprs, no_expr, expr}
 use Rattle.ash_typing.specs.Fitting.{fits}
 use Rattle.ash_typing.specs.Heads.{object_named, element_named}
-use Rattle.ash_typing.specs.Environment.{Environment, Declared, Function, Interface, Class, Known, Callee, Invoked, variable_in, callee_in, member_in, method_in, construction}
+use Rattle.ash_typing.specs.Environment.{Environment, Declared, Function, Interface, Class, Known, Callee, Invoked}
+use Rattle.ash_typing.specs.Environment.{variable_in, callee_in, member_in, method_in, construction}
 use Rattle.ash_typed.specs.StatementTree.{Initialization}
-use Rattle.ash_typing.specs.Terms.{operand_type, applied, operator_of, is_stored, call_of, assignable, bracketed, handle_form, array_parameters, initialization, Term, term, read_term, number_term, converted_to, adapted_to, right_by}
+use Rattle.ash_typing.specs.Terms.{operand_type, applied, operator_of, is_stored, call_of, assignable, bracketed}
+use Rattle.ash_typing.specs.Terms.{handle_form, array_parameters, initialization, Term, term, read_term, number_term}
+use Rattle.ash_typing.specs.Terms.{converted_to, adapted_to, right_by}
 
 -- an environment whose types are known
 
@@ -115,12 +120,14 @@ mutual
     name : {left : Bool} {p : place.Place} {text : List ℕ} {known : Known}
         → variable_in env text ≡ Some known
         → HasType env left (written.Name p text) (read_term known.1 known.0)
-    call : {left : Bool} {p : place.Place} {text : List ℕ} {es : written.Exprs} {callee : Callee} {parameters : List Ty} {ts : List Term} {trees : Exprs}
+    call : {left : Bool} {p : place.Place} {text : List ℕ} {es : written.Exprs} {callee : Callee} {parameters : List Ty}
+        {ts : List Term} {trees : Exprs}
         → callee_in env text ≡ Some callee
         → callee.parameters ≡ Some parameters
         → AllHaveType env es ts
         → AreArguments env.heads.classes parameters ts trees
-        → HasType env left (written.Call p text es) (term callee.result (call_of callee.target (map var_type parameters) trees))
+        → HasType env left (written.Call p text es)
+        (term callee.result (call_of callee.target (map var_type parameters) trees))
     -- (e), which is no number alone; what can be assigned still can
     brackets : {left : Bool} {p : place.Place} {e : written.Expr} {t : Term}
         → HasType env false e t
@@ -137,11 +144,14 @@ mutual
         → t.ty ≡ ty.Bool
         → HasType env left (written.Convert p to e) (term ty.Bool t.tree)
     -- `array<T>(e ..)`, of none or one argument
-    new_array : {left : Bool} {p : place.Place} {of : written.Element} {es : written.Exprs} {elements : Element} {ts : List Term} {trees : Exprs}
+    new_array : {left : Bool} {p : place.Place} {of : written.Element} {es : written.Exprs} {elements : Element}
+        {ts : List Term} {trees : Exprs}
         → element_named env.registered env.heads of ≡ Some elements
         → AllHaveType env es ts
         → AreArguments env.heads.classes (array_parameters (length ts)) ts trees
-        → HasType env left (written.NewArray p of es) (term (ty.Handle (objects.Array elements)) (Call (targets.Array elements) (map var_type (array_parameters (length ts))) trees))
+        → HasType env left (written.NewArray p of es)
+        (term (ty.Handle (objects.Array elements))
+        (Call (targets.Array elements) (map var_type (array_parameters (length ts))) trees))
     -- `cast<T>(e)`, of an object or a handle
     cast : {left : Bool} {p : place.Place} {to : written.TypeName} {e : written.Expr} {t : Term} {o from : ObjectType}
         → object_named env.registered env.heads to.name ≡ Some o
@@ -162,7 +172,8 @@ mutual
     minus : {left : Bool} {p : place.Place} {e : written.Expr} {t : Term} {k : Kind}
         → HasType env false e t
         → t.ty ≡ ty.Integer k
-        → HasType env left (written.Unary p unary.Minus e) (term (ty.Integer (signed k)) (Alter (changes.Negate (signed k)) (converted_to (ty.Integer (signed k)) t)))
+        → HasType env left (written.Unary p unary.Minus e)
+        (term (ty.Integer (signed k)) (Alter (changes.Negate (signed k)) (converted_to (ty.Integer (signed k)) t)))
     complement : {left : Bool} {p : place.Place} {e : written.Expr} {t : Term} {k : Kind}
         → HasType env false e t
         → t.ty ≡ ty.Integer k
@@ -190,7 +201,8 @@ mutual
         → HasType env false (written.Unary p unary.Handle e) (term (ty.Handle o) t.tree)
     handle_written : {p : place.Place} {e : written.Expr} {t : Term}
         → HasType env false e t
-        → HasType env true (written.Unary p unary.Handle e) (record { ty = t.ty; form = handle_form t.form; tree = t.tree })
+        → HasType env true (written.Unary p unary.Handle e)
+        (record { ty = t.ty; form = handle_form t.form; tree = t.tree })
     -- operators of one level, which group to the left
     binary : {left : Bool} {p : place.Place} {e : written.Expr} {ls : written.Links} {t u : Term}
         → HasType env false e t
@@ -203,7 +215,8 @@ mutual
         → HasType env false a x
         → HasType env false b y
         → common x.ty y.ty ≡ Some of
-        → HasType env left (written.Conditional p c a b) (term of (Conditional t.tree (converted_to of x) (converted_to of y)))
+        → HasType env left (written.Conditional p c a b)
+        (term of (Conditional t.tree (converted_to of x) (converted_to of y)))
     -- e = v, where e is a place of a primitive type, or `@` with a place of a handle
     assign : {left : Bool} {p : place.Place} {e v : written.Expr} {t u : Term} {at : Place}
         → HasType env true e t
@@ -213,7 +226,8 @@ mutual
         → fits env.heads.classes t.ty u.ty ≡ true
         → HasType env left (written.Assign p e assigns.Assign v) (term t.ty (Assign at (converted_to t.ty u)))
     -- e op= v, where e is a place of an integer type: what stands there is an operand of its type
-    update : {left : Bool} {p : place.Place} {op : AssignOp} {c : Calculator} {e v : written.Expr} {t u : Term} {at : Place} {j k : Kind}
+    update : {left : Bool} {p : place.Place} {op : AssignOp} {c : Calculator} {e v : written.Expr} {t u : Term}
+        {at : Place} {j k : Kind}
         → operator_of op ≡ Some c
         → HasType env false e t
         → assignable t.form t.tree ≡ Some at
@@ -221,7 +235,9 @@ mutual
         → t.ty ≡ ty.Integer k
         → HasType env false v u
         → Meet (binary_of c) (term t.ty Null) u (operands.Integers j)
-        → HasType env left (written.Assign p e op v) (term t.ty (Update at k (record { operator = c; of = j }) (right_of (binary_of c) (operands.Integers j) (term t.ty Null) u)))
+        → HasType env left (written.Assign p e op v)
+        (term t.ty (Update at k (record { operator = c; of = j })
+        (right_of (binary_of c) (operands.Integers j) (term t.ty Null) u)))
 
   -- each of the arguments
   pub data AllHaveType (env : Environment) : written.Exprs → List Term → Type 0 where
@@ -255,18 +271,21 @@ mutual
         → member_in env o text ≡ Some found
         → SuffixHasType env t (written.Field p text) (read_term found.1 (Read (Held t.tree found.0)))
     -- .name(e ..)
-    method : {p : place.Place} {text : List ℕ} {es : written.Exprs} {t : Term} {o : ObjectType} {m : Invoked} {ts : List Term} {trees : Exprs}
+    method : {p : place.Place} {text : List ℕ} {es : written.Exprs} {t : Term} {o : ObjectType} {m : Invoked}
+        {ts : List Term} {trees : Exprs}
         → object_of t.ty ≡ Some o
         → method_in env o text ≡ Some m
         → AllHaveType env es ts
         → AreArguments env.heads.classes m.parameters ts trees
-        → SuffixHasType env t (written.Method p text es) (term m.result (Invoke t.tree m.method (map var_type m.parameters) trees))
+        → SuffixHasType env t (written.Method p text es)
+        (term m.result (Invoke t.tree m.method (map var_type m.parameters) trees))
     -- [e], of an array
     index : {e : written.Expr} {t u : Term} {elements : Element} {k : Kind}
         → object_of t.ty ≡ Some (objects.Array elements)
         → HasType env false e u
         → u.ty ≡ ty.Integer k
-        → SuffixHasType env t (written.Index e) (read_term (ty_of_element elements) (Read (Indexed t.tree (converted_to (ty.Integer Uint) u) elements)))
+        → SuffixHasType env t (written.Index e)
+        (read_term (ty_of_element elements) (Read (Indexed t.tree (converted_to (ty.Integer Uint) u) elements)))
     -- ++
     increment_after : {t : Term} {at : Place} {k : Kind}
         → assignable t.form t.tree ≡ Some at

@@ -11,7 +11,11 @@ invariant-loop-gate g l =
       steady : g.D.Disk.failures l.disk ≡ g.D.Disk.failures l.fn.disk;
       within : l.end < l.len;
       goes_on : l.at ≤ l.end;
-      answer : (generation : ℕ) (image rest : List ℕ) → IsTrue (g.D.Disk.honest l.fn.disk) → l.len ≡ length (g.D.Disk.seen l.fn.disk) → Fits generation image [] → g.D.Disk.seen l.fn.disk ≡ solid generation image [] ++ l.first ∷ rest → l.at ≡ length (solid generation image []) → IsReadTo generation image l.records.items l.end l.gate (g.D.Disk.seen l.fn.disk);
+      answer : (generation : ℕ) (image rest : List ℕ) → IsTrue (g.D.Disk.honest l.fn.disk)
+          → l.len ≡ length (g.D.Disk.seen l.fn.disk) → Fits generation image []
+          → g.D.Disk.seen l.fn.disk ≡ solid generation image [] ++ l.first ∷ rest
+          → l.at ≡ length (solid generation image [])
+          → IsReadTo generation image l.records.items l.end l.gate (g.D.Disk.seen l.fn.disk);
     }
 
 abbrev pub decreases-loop-gate : goal.decreases-loop-gate
