@@ -1,4 +1,5 @@
--- Relations that hold of the same places have the same ranks and the same way round; and at most one way round is told.
+-- Relations that hold of the same places have the same ranks and the same way round; and at most one way round is
+-- reported.
 use Rattle.std.proofs.Common.{◌≡◌, ℕ, ◌<◌, ◌↔◌, List, [], ◌∷◌, length, Vec, Global, Result, Ok, Err, IfOk, IfErr, OnOk}
 use Rattle.std.proofs.Common.{inl, inr, refl, sym, ap₂, subst, subst₂, arith}
 use Rattle.std.proofs.lemmas.List.{length-map}

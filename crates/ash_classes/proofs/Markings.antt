@@ -123,7 +123,7 @@ marks_read_none place distance marks found None within h s =
     marks_new place distance marks found within (read_at marks place None within h)
 marks_read_none place distance marks found (Some at) within h s = cc
 
--- the next place of a row is marked, behind those before it
+-- the next place of a row is marked, after those before it
 pub marks_more : (row : List ℕ) (i distance : ℕ) (old mid new : List (Option ℕ)) (before between found : List ℕ)
     → i < length row → Marks (λ p. Contains (take i row) p) distance old mid before between
     → Marks (λ p. p ≡ get_or row i 0) distance mid new between found

@@ -139,7 +139,7 @@ seen_at classes i x within is =
 pub length-seen : (classes : List (Bor code_class.Class)) → length (seen classes) ≡ length classes
 length-seen classes = length-map classes (λ (c : Bor code_class.Class). class_of c.now)
 
--- the rows with one more behind them
+-- the rows with one more after them
 pub rows_of-push : (table : List (Vec ℕ Global)) (row : Vec ℕ Global)
     → rows_of (table ++ row ∷ []) ≡ rows_of table ++ row.items ∷ []
 rows_of-push table row = map-append (λ (v : Vec ℕ Global). v.items) table (row ∷ [])

@@ -30,7 +30,7 @@ row_within table to row n within at h e =
         (subst (λ (r : List ℕ). Contains r (get_or row.items i 0)) (sym (row_read table to row at h)) here) in
     omega (arith, less, length-map table (λ (v : Vec ℕ Global). v.items), e))
 
--- the places that go to the next of a level are marked, behind those that go to the ones before it
+-- the places that go to the next of a level are marked, after those that go to the ones before it
 pub marks_further : (rows : List (List ℕ)) (level row : List ℕ) (i distance : ℕ) (old mid new : List (Option ℕ))
     (before between found : List ℕ) → i < length level → get_or rows (get_or level i 0) [] ≡ row
     → Marks (GoesToOne (Goes rows) (take i level)) distance old mid before between

@@ -2,7 +2,7 @@
 use Rattle.std.proofs.Common.{◌≡◌, ℕ, zero, suc, ◌+◌, ◌<◌, ◌≤◌, ◌⊎◌, List, [], ◌∷◌, length, drop, get_or, inl, inr, sym}
 use Rattle.std.proofs.Common.{subst, arith, add-one, drop-cons, drop_of_length-le}
 
--- what has one that passes: as lists have it that begin with that one, or have it behind
+-- what has one that passes: as lists have it that begin with that one, or have it after
 pub record IsAnyOf {X : Type 0} (Has : List X → Type 0) (Passes : X → Type 0) : Type 0 where
   pub first : (x : X) (xs : List X) → Passes x → Has (x ∷ xs)
   pub later : (x : X) (xs : List X) → Has xs → Has (x ∷ xs)

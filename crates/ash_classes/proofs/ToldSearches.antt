@@ -1,4 +1,4 @@
--- The search for a cycle finds the one that is told, and none where there is none.
+-- The search for a cycle finds the one that is reported, and none where there is none.
 use Rattle.std.proofs.Common.{◌≡◌, ℕ, zero, suc, ◌<◌, ◌⊎◌, ◌↔◌, Bool, true, false, cond, List, [], ◌∷◌, length, Option}
 use Rattle.std.proofs.Common.{Some, None, Decides, slice_get, option_map, inl, inr, refl, sym, ap, ◌∙◌, subst, arith}
 use Rattle.std.proofs.lemmas.Bool.{cases_lt}
@@ -240,7 +240,7 @@ refers_at-Decides classes from to = refers-Decides (slice_get classes from) (sli
 place_within : (classes : List Class) (from to : ℕ) → Refers classes from to → to < length classes
 place_within classes from to h = slice_get_within classes to h.0 h.1
 
--- what the search answers is what is told
+-- what the search finds is what is reported
 
 pub cycle_if_some : (classes : List Class) (first : ℕ) (others : List ℕ) → told_cycle classes ≡ Some (first, others)
     → IsTold (Refers classes) first others

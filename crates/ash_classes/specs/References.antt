@@ -42,6 +42,6 @@ RefersAt classes from other = (one : Class) × (slice_get classes from ≡ Some 
 abbrev pub Refers : List Class → ℕ → ℕ → Type 0
 Refers classes from to = (other : Class) × (slice_get classes to ≡ Some other) × RefersAt classes from other
 
--- what classes that are borrowed stand for
+-- what classes that are borrowed represent
 abbrev pub seen : List (Bor code.Class) → List Class
 seen classes = map (λ class. class_of class.now) classes

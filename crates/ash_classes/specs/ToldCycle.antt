@@ -1,5 +1,5 @@
--- The cycle that is told of classes, as a reader would look for it: from the first class that leads back to itself, by
--- the first of its shortest ways.
+-- The cycle that is reported of classes, as a reader would look for it: from the first class that leads back to itself,
+-- by the first of its shortest ways.
 use Rattle.std.specs.Prelude.{ℕ, zero, suc, Bool, false, ◌||◌, List, [], ◌∷◌, length, Option, Some, None, option_map}
 use Rattle.std.specs.Prelude.{slice_get, if◌then◌else◌}
 use Rattle.std.specs.Option.{option_or}
@@ -68,6 +68,6 @@ abbrev pub first_round : (ℕ → ℕ → Bool) → ℕ → Option (ℕ × List 
 first_round goes places =
     first_below (λ first. option_map (λ others. (first, others)) (shortest_back goes places first)) places
 
--- the cycle that is told of classes, by their places; none where no class leads back to itself
+-- the cycle that is reported of classes, by their places; none where no class leads back to itself
 abbrev pub told_cycle : List Class → Option (ℕ × List ℕ)
 told_cycle classes = first_round (refers_at classes) (length classes)

@@ -1,4 +1,4 @@
--- Ways from place to place by a relation between them, ranks of the places, and the way round that is told.
+-- Ways from place to place by a relation between them, ranks of the places, and the way round that is reported.
 use Rattle.std.specs.Prelude.{◌≡◌, ℕ, ◌<◌, ◌≤◌, ◌⊎◌, List, [], ◌∷◌, length, slice_index, All}
 
 -- from one place to another by those in between
@@ -22,7 +22,7 @@ pub record IsForemost (Goes : ℕ → ℕ → Type 0) (from : ℕ) (between : Li
   pub shortest : (other : List ℕ) → IsWay Goes from other to → length between ≤ length other
   pub foremost : (other : List ℕ) → IsWay Goes from other to → length other ≡ length between → IsNoLater between other
 
--- the way round that is told: from the first place that reaches itself, by the foremost of its shortest ways back
+-- the way round that is reported: from the first place that reaches itself, by the foremost of its shortest ways back
 pub record IsTold (Goes : ℕ → ℕ → Type 0) (first : ℕ) (others : List ℕ) : Type 0 where
   pub round : IsForemost Goes first others first
   pub earliest : (other : ℕ) → Reaches Goes other other → first ≤ other

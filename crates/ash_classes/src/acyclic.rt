@@ -12,7 +12,8 @@ use crate::references::{classes, referrers};
 use ash_tree::Module;
 use std::alloc::{AllocError, Global};
 
-/// A rank for each class of a module, by its place among them; where a class reaches itself, the cycle that is told.
+/// A rank for each class of a module, by its place among them; where a class reaches itself, the cycle that is
+/// reported.
 ///
 /// Handles let objects hold one another, and nothing would take objects back that do so in a ring. So a class that
 /// reaches itself by what its fields hold is refused. (AngelScript collects such objects instead.)
@@ -38,7 +39,7 @@ pub fn class_ranks(alloc: Global, script: &Module) -> Result<Result<Vec<usize>, 
     ranks(alloc, &referrers)
 }
 
-/// The search for a cycle answers the one that is told, and none exactly where no class reaches itself.
+/// The search for a cycle finds the one that is reported, and none exactly where no class reaches itself.
 pub fn search_is_exact()
     ensures told { (classes : List Class) (first : ℕ) (others : List ℕ)
         → (told_cycle classes ≡ Some (first, others)) ↔ IsTold (Refers classes) first others }

@@ -74,7 +74,7 @@ fn refers(from: &Class, to: &Class) -> bool
     any_holds(&from.members, to)
 }
 
-/// The classes of a module, in the order in which they stand.
+/// The classes of a module, in their order.
 pub fn classes(alloc: Global, items: &[Item]) -> Result<Vec<&Class>, AllocError>
     ensures { IfOk result (λ classes. seen classes.items ≡ classes_of (map item_of items.now)) }
 {

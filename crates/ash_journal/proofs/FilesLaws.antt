@@ -32,7 +32,7 @@ other_aside false Older g file ready is =
 other_aside false Stray g file ready is = absurd ready
 other_aside true other_state g file ready is = absurd ready
 
--- what is behind a record's gate, with the next gate
+-- what is after a record's gate, with the next gate
 pub block_growing : (prefix body suffix image : List ℕ) → WhileCommitted prefix (block body ++ 0 ∷ []) suffix image
     → IsGrowing prefix body image
 block_growing prefix body suffix image (inl rests) = inl rests
@@ -43,7 +43,7 @@ block_growing prefix body suffix image (inr whole) =
 pub record_long : (body : List ℕ) → length (block body ++ 0 ∷ []) ≡ 5 + length body
 record_long body = omega (arith, length-append (block body) (0 ∷ []), length-block body)
 
--- a generation behind its gate, with the next gate
+-- a generation after its gate, with the next gate
 pub generation_append : (generation : ℕ) (image rest : List ℕ)
     → (mark generation ++ (block image ++ 0 ∷ [])) ++ rest ≡ mark generation ++ (block image ++ 0 ∷ rest)
 generation_append generation image rest =
@@ -281,7 +281,7 @@ module _ {D : Type 0} (device : Device D) where
             (replaced_leaves stray other_state number (number + 1) image (device.seen o) y ready files.other_is q)
         ))
 
-  -- ---- gates that are owed
+  -- ---- gates that are stray
 
   module _ (number end size : ℕ) (stray : Bool) (other_state : OtherState) (c c' o o' : D) (image : List ℕ)
       (bodies : List (List ℕ)) (files : FilesAre device number end size stray other_state c o image bodies) where

@@ -38,7 +38,7 @@ shut_torn prefix [] at long new torn =
         (omega (arith, torn.no_longer, length-append prefix [], length-drop (length prefix) new)) stays
 shut_torn prefix (b ∷ rest) at long new torn = inr (byte_torn prefix b rest at new (sym long) torn)
 
--- The bytes are behind a gate that stays 0.
+-- The bytes are after a gate that stays 0.
 pub bytes_written : (prefix bytes suffix : List ℕ) (gate at : ℕ) → length prefix ≡ gate → at ≡ gate + 1
     → after_write (prefix ++ 0 ∷ suffix) at bytes ≡ prefix ++ 0 ∷ (bytes ++ drop (length bytes) suffix)
 bytes_written prefix bytes suffix gate at long at_is =
@@ -77,7 +77,7 @@ pub on_ok_both : {T E P Q S : Type 0} (r : Result T E) → (P → Q → S) → O
 on_ok_both (Ok x) so p q = so p q
 on_ok_both (Err e) so p q = tt
 
--- a gate that is shut where it was not owed a repair is shut in any case
+-- a gate that is shut where it was not stray is shut in any case
 pub repaired_shut : (stray : Bool) (file : List ℕ) → (stray ≡ false → IsShut file)
     → repaired stray file ≡ 0 ∷ drop 1 file
 repaired_shut true file shut = refl

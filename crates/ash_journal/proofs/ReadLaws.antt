@@ -138,7 +138,7 @@ after_gate prefix suffix file at gate is at_is =
     ap (λ (l : List ℕ). drop (at + 1) l) (is ∙ sym (append_assoc prefix (gate ∷ []) suffix))
         ∙ drop_at (prefix ++ gate ∷ []) suffix (at + 1) (omega (arith, at_is, length-append prefix (gate ∷ [])))
 
--- an open gate with nothing whole behind it
+-- an open gate with nothing whole after it
 pub read_cut : (g : ℕ) (image file : List ℕ) (found : List Record) (at gate : ℕ) → gate ≡ 1
     → IsReadTo g image found at gate file → IsCut (drop (at + 1) file) → IsCutAt at file
 read_cut g image file found at gate is_open so_far cut =
@@ -191,7 +191,7 @@ after_mark g file marked =
 pub image_cut : (g : ℕ) (file : List ℕ) → HasMark g file → IsCut (drop 17 file) → IsCutAt 0 file
 image_cut g file marked cut = inl (g, marked.rest, marked.bytes, subst IsCut (after_mark g file marked) cut, refl)
 
--- the image behind a mark, and the first gate behind it
+-- the image after a mark, and the first gate after it
 pub image_read : (g : ℕ) (file image : List ℕ) (gate : ℕ) → HasMark g file → IsBlock image gate (drop 17 file)
     → Fits g image [] × (rest : List ℕ) × (file ≡ solid g image [] ++ gate ∷ rest)
 image_read g file image gate marked is_block = (

@@ -21,7 +21,7 @@ left_then leaves now s x early left = let is : s ≡ min s now = omega (arith, e
     subst (λ (t : ℕ). leaves t x) is left
 
 module _ {D : Type 0} (device : Device D) where
-  -- Calls of both disks go on. What their new images settle on, beside what the images settled on that were left when
+  -- Calls of both disks go on. What their new images settle on, with what the images settled on that were left when
   -- the calls began, is all that has to be shown.
   pub extends_by : (c o c' o' : D) (x0 y0 : List ℕ) (P Q : List ℕ → Type 0) (IsNew : Said)
       → device.leaves c (device.clock c) x0 → device.leaves o (device.clock o) y0 → Throughout device c c' P

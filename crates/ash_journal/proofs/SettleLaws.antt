@@ -89,7 +89,7 @@ same_contents g h image other bodies others file one two =
     same_file g h image other bodies others one.gate two.gate one.behind two.behind one.fits two.fits one.shut two.shut
         (sym one.bytes ∙ two.bytes)
 
--- a file with a mark that stands behind another has the smaller number
+-- a file with a mark that is no newer than a generation has a smaller number
 pub mark_behind : (g h : ℕ) (x : List ℕ) → HasMark g x → IsBehind h x → g < h
 mark_behind g h x marked (inl closed) = absurd (mark_closed g x marked closed)
 mark_behind g h x marked (inr older) = let same : g ≡ older.0 = same_mark g older.0 x marked older.1 in
@@ -98,12 +98,12 @@ mark_behind g h x marked (inr older) = let same : g ≡ older.0 = same_mark g ol
 pub older_by_mark : (g h : ℕ) (x : List ℕ) → HasMark g x → g < h → IsBehind h x
 older_by_mark g h x marked less = inr (g, marked, less)
 
--- the other file is current, with a greater number, and stands for one of these
+-- the other file is current, with a greater number, and represents one of these
 abbrev pub IsAhead : ℕ → Said → List ℕ → Type 0
 IsAhead g P y =
     (h : ℕ) × (image : List ℕ) × (bodies : List (List ℕ)) × IsFile h image bodies y × (g < h) × P (image, bodies)
 
--- of two files that stand for one of these, a file of a generation is current, or the other is ahead
+-- of two files that represent one of these, a file of a generation is current, or the other is ahead
 pub current_or_ahead : (g : ℕ) (image : List ℕ) (bodies : List (List ℕ)) (P : Said) (x y : List ℕ)
     → IsFile g image bodies x → RepresentOne P x y → IsBehind g y × P (image, bodies) ⊎ IsAhead g P y
 current_or_ahead g image bodies P x y file (pair, among, inl is_current) =
@@ -133,7 +133,7 @@ pub represent_once : (contents other : Contents) (x y : List ℕ) → Represent 
 represent_once contents other x y (inl one) two = one_current contents other x y one two
 represent_once contents other x y (inr one) two = one_current contents other y x one (represent_turned other x y two)
 
--- ---- what files settle on, and others beside them
+-- ---- what files settle on, whatever the other file
 
 -- what files that settle may settle on is as they settle
 pub may_settle : (P : Said) (x y : List ℕ) → SettleOn P x y → Follow (MaySettleOn x y) P
@@ -169,14 +169,14 @@ further_turned IsNew u v x y more settle =
     may_turned u v contents (n, s, t, times, stand) =
         (n, t, s, times_turned n u v s t times, represent_turned contents s t stand)
 
--- ---- a current file that changes behind its mark
+-- ---- a current file that changes after its mark
 
 -- one file is this one, and with another in its place they settle
 abbrev Rests : Said → List ℕ → List ℕ → List ℕ → List ℕ → Type 0
 Rests P x w a b = (a ≡ w) × SettleOn P x b
 
 -- A file of the same generation at rest in place of the first: they settle on what they did, and what the new file
--- stands for.
+-- represents.
 pub rest_settles : (P Q : Said) (g : ℕ) (image image' : List ℕ) (bodies bodies' : List (List ℕ)) (x w rest y : List ℕ)
     → IsFile g image bodies x → w ≡ solid g image' bodies' ++ 0 ∷ rest → Fits g image' bodies'
     → (P (image, bodies) → Q (image', bodies')) → Follow P Q → SettleOn P x y → SettleOn Q w y
@@ -258,7 +258,7 @@ other_for g image bodies x w b t file one =
       opened = one.opened;
     }, refl))
 
--- a gate of the other, ahead of a file, is put to 1 whatever stands behind the mark of that file
+-- a gate of the other, ahead of a file, is put to 1 whatever follows the mark of that file
 end_for : (g : ℕ) (x w b t : List ℕ) → HasMark g x → HasMark g w → EndReopens b w t → Reopens x b x t
 end_for g x w b t x_marked w_marked one =
     inr (inl (
@@ -282,7 +282,7 @@ end_for g x w b t x_marked w_marked one =
 abbrev Turns : Said → Said → List ℕ → List ℕ → List ℕ → List ℕ → Type 0
 Turns P Q x u a b = Rests P x u a b ⊎ SettleOn Q a b
 
--- A file in place of the first that differs from it from the gate behind its last open record on, and has no 1 there:
+-- A file in place of the first that differs from it from the gate after its last open record on, and has no 1 there:
 -- they settle so, where they do with 1 there.
 pub end_settles : (P Q : Said) (g : ℕ) (image : List ℕ) (bodies : List (List ℕ)) (x : List ℕ) (c : ℕ) (rest y : List ℕ)
     → IsFile g image bodies x → c ≢ 1 → Follow P Q
@@ -348,7 +348,7 @@ pub follower_settles : (P : Said) (g h : ℕ) (x u y : List ℕ) → HasMark g x
 follower_settles P g h x u y x_marked marked y_marked less settle =
     by_invariant P (Follows P h x u) represents preserved u y ((refl, settle), y_marked)
   where
-    -- no file with the greater number is behind the smaller one
+    -- no file with the greater number is older than the smaller one
     not_older : (b : List ℕ) (g' : ℕ) → HasMark h b → g' ≡ g → IsBehind g' b → ⊥
     not_older b g' b_marked is older = let above : h < g' = mark_behind h g' b b_marked older in
         omega (arith, above, is, less)
@@ -389,7 +389,7 @@ follower_settles P g h x u y x_marked marked y_marked less settle =
         )
     preserved a b s t holds (inr (inr one)) = absurd (mark_closed g u marked (subst IsClosed holds.0.0 one.0.closed))
 
--- Whatever byte is in place of a gate that a repair writes over, beside any image of the other file with which the file
+-- Whatever byte is in place of a gate that a repair writes over, with any image of the other file with which the file
 -- as it was settled: they settle on the same.
 pub end_repair_settles : (P : Said) (g : ℕ) (image : List ℕ) (bodies : List (List ℕ)) (x : List ℕ) (k c : ℕ)
     (rest y : List ℕ) → x ≡ solid g image bodies ++ k ∷ rest → Fits g image bodies → k ≢ 1 → k ≢ 0 → SettleOn P x y
@@ -434,7 +434,7 @@ end_repair_settles P g image bodies x k c rest y is fits not_open not_shut settl
 abbrev Stays : Said → List ℕ → List ℕ → List ℕ → List ℕ → Type 0
 Stays P y y' a b = (b ≡ y') × SettleOn P a y ⊎ SettleOn P a b
 
--- Whatever byte is in place of the other's first gate, beside any image of the current file with which the other as it
+-- Whatever byte is in place of the other's first gate, with any image of the current file with which the other as it
 -- was settled: they settle on the same.
 pub other_repair_settles : (P : Said) (x y y' : List ℕ) → IsClosed y → (IsShut y → ⊥) → reopened y' ≡ reopened y
     → SettleOn P x y → SettleOn P x y'
@@ -523,7 +523,7 @@ other_repair_settles P x y y' closed not_shut alike settle = elim (open_or_close
 abbrev pub IsAside : ℕ → List ℕ → Type 0
 IsAside generation file = IsShut file ⊎ ((older : ℕ) × HasMark older (reopened file) × (older < generation))
 
--- a whole generation without records behind any first gate
+-- a whole generation without records after any first gate
 abbrev pub IsComing : ℕ → List ℕ → List ℕ → Type 0
 IsComing generation image file =
     (gate : ℕ) × (rest : List ℕ) × (file ≡ gate ∷ (mark generation ++ (block image ++ 0 ∷ rest)))
@@ -558,7 +558,7 @@ aside_reopened g file (inr older) not_shut =
 abbrev Installs : ℕ → ℕ → List ℕ → List ℕ → List ℕ → List ℕ → Type 0
 Installs g n image x a b = (a ≡ x) × (IsAside g b ⊎ IsComing n image b)
 
--- A current file at rest, and beside it the other, on its way to a new generation: they settle on the new and the old.
+-- A current file at rest, and the other, on its way to a new generation: they settle on the new and the old.
 pub install_settles : (g n : ℕ) (image image' : List ℕ) (bodies : List (List ℕ)) (x rest y : List ℕ)
     → x ≡ solid g image bodies ++ 0 ∷ rest → Fits g image bodies → Fits n image' [] → g < n
     → IsAside g y ⊎ IsComing n image' y → SettleOn (Either (Is (image', [])) (Is (image, bodies))) x y
@@ -641,7 +641,7 @@ install_settles g n image image' bodies x rest y is fits fits_new less coming =
 
 -- ---- one record more in the current file
 
--- a record behind the gate of a file at rest, with any byte for that gate
+-- a record after the gate of a file at rest, with any byte for that gate
 abbrev pub IsGrowing : List ℕ → List ℕ → List ℕ → Type 0
 IsGrowing prefix body file =
     ((rest : List ℕ) × (file ≡ prefix ++ 0 ∷ rest))
@@ -668,7 +668,7 @@ grown g image bodies body rest =
     sym (append_assoc (solid g image bodies) (1 ∷ block body) rest)
         ∙ ap (λ (l : List ℕ). l ++ rest) (sym (solid-push g image bodies body))
 
--- A file at rest settles, beside any other, on what it did or on one record more, while that record is written.
+-- A file at rest settles, with any other, on what it did or on one record more, while that record is written.
 pub append_settles : (P : Said) (g : ℕ) (image : List ℕ) (bodies : List (List ℕ)) (body x rest u y : List ℕ)
     → x ≡ solid g image bodies ++ 0 ∷ rest → Fits g image bodies → length body < 2 ^ 32
     → IsGrowing (solid g image bodies) body u → SettleOn P x y
@@ -701,7 +701,7 @@ append_settles P g image bodies body x rest u y is fits short growing settle = f
               grown_settles (solid g image bodies ++ 1 ∷ (block body ++ 0 ∷ whole.1)) whole.1 v refl settles) settle)
     ]
 
--- A current file at rest beside one that is shut or older: they settle on what it stands for alone.
+-- A current file at rest and one that is shut or older: they settle on what the first represents alone.
 pub repaired_settles : (g : ℕ) (image : List ℕ) (bodies : List (List ℕ)) (x rest y : List ℕ)
     → x ≡ solid g image bodies ++ 0 ∷ rest → Fits g image bodies → IsAside g y → SettleOn (Is (image, bodies)) x y
 repaired_settles g image bodies x rest y is fits aside =
@@ -750,7 +750,7 @@ idle_reopened [] idle not_shut = inl (omega arith)
 idle_reopened (gate ∷ rest) (inl tiny) not_shut = inl (omega (arith, tiny))
 idle_reopened (gate ∷ rest) (inr shut) not_shut = absurd (not_shut shut)
 
--- A file at rest beside one that was never in use: they settle on what it stands for.
+-- A file at rest and one that was never in use: they settle on what the first represents.
 created_settles : (g : ℕ) (image x rest y : List ℕ) → x ≡ solid g image [] ++ 0 ∷ rest → Fits g image [] → IsIdle y
     → SettleOn (Is (image, [])) x y
 created_settles g image x rest y is fits idle =

@@ -38,7 +38,7 @@ abbrev pub reopened : List ℕ → List ℕ
 reopened [] = 1 ∷ []
 reopened (gate ∷ rest) = 1 ∷ rest
 
--- The first file is current, and 1 is put for the gate behind its last open record, which a repair would write
+-- The first file is current, and 1 is put for the gate after its last open record, which a repair would write
 -- over since it is neither 0 nor 1.
 pub record EndReopens (current other after : List ℕ) : Type 0 where
   pub generation : ℕ

@@ -40,7 +40,7 @@ generation j = j.generation
 abbrev pub record_bytes : {D : Type 0} → Journal D → ℕ
 record_bytes j = j.record_bytes
 
--- the gate behind the last open record is 0, or is still to be written over
+-- the gate after the last open record is 0, or is still to be written over
 abbrev pub EndIs : Bool → ℕ → Type 0
 EndIs false gate = gate ≡ 0
 EndIs true gate = gate ≢ 0
@@ -69,7 +69,7 @@ pub record FilesAre {D : Type 0} (device : Device D) (number end size : ℕ) (st
   pub current_durable : IsDurable device current
   pub other_durable : IsDurable device other
 
--- The files hold this image and these records, as `open` finds them: gates may be owed a repair.
+-- The files hold this image and these records, as `open` finds them: gates may have to be repaired.
 abbrev pub Finds : {D : Type 0} → Device D → Journal D → List ℕ → List (List ℕ) → Type 0
 Finds device j image bodies =
     FilesAre device j.generation j.end j.record_bytes j.stray j.other_state j.current j.other image bodies
@@ -107,7 +107,7 @@ KeepsOther old new = KeepsOtherOf old.swapped (first_disk old) (second_disk old)
 abbrev pub KeepsUnowed : {D : Type 0} → Journal D → Journal D → Type 0
 KeepsUnowed old new = (old.stray ≡ false → KeepsOne old new) × (is_stray old.other_state ≡ false → KeepsOther old new)
 
--- Nothing was written to a journal's disks but the gates that a repair writes over: of the current file the one behind
+-- Nothing was written to a journal's disks but the gates that a repair writes over: of the current file the one after
 -- its last open record, and of the other its first.
 pub record WritesGates {D : Type 0} (device : Device D) (old new : Journal D) : Type 0 where
   pub in_first : WritesByte device (first_of old.swapped old.end 0) (first_disk old) (first_disk new)

@@ -1,8 +1,8 @@
--- The bytes of a file, by what they stand for.
+-- The bytes of a file, by what they represent.
 use Rattle.std.specs.Prelude.{◌≡◌, ◌≢◌, ◌⊎◌, ℕ, ◌<◌, ◌≤◌, ◌^◌, List, [], ◌∷◌, ◌++◌, length, codes}
 use Rattle.byteorder.specs.Endian.{little_bytes}
 
--- what a file begins with, behind its first gate
+-- what a file begins with, after its first gate
 unfoldable pub magic : List ℕ
 magic = codes "ASHOST01"
 
@@ -22,12 +22,12 @@ mark generation = magic ++ eight_bytes generation
 unfoldable pub block : List ℕ → List ℕ
 block body = four_bytes (length body) ++ body
 
--- records, each behind a gate that is open
+-- records, each after a gate that is open
 unfoldable pub records : List (List ℕ) → List ℕ
 records [] = []
 records (body ∷ bodies) = 1 ∷ (block body ++ records bodies)
 
--- all of a file that counts, up to the gate behind its last open record
+-- all of a file that counts, up to the gate after its last open record
 unfoldable pub solid : ℕ → List ℕ → List (List ℕ) → List ℕ
 solid generation image bodies = 1 ∷ (mark generation ++ (block image ++ records bodies))
 
@@ -42,8 +42,8 @@ pub record Fits (generation : ℕ) (image : List ℕ) (bodies : List (List ℕ))
   pub image_short : length image < 2 ^ 32
   pub bodies_short : AreShort bodies
 
--- The file of this generation, with this image and these records. The gate behind the last of them is no 1, and
--- anything may stand behind it.
+-- The file of this generation, with this image and these records. The gate after the last of them is no 1, and
+-- anything may follow it.
 pub record IsFile (generation : ℕ) (image : List ℕ) (bodies : List (List ℕ)) (file : List ℕ) : Type 0 where
   pub gate : ℕ
   pub behind : List ℕ
@@ -51,13 +51,13 @@ pub record IsFile (generation : ℕ) (image : List ℕ) (bodies : List (List ℕ
   pub bytes : file ≡ solid generation image bodies ++ gate ∷ suffix
   pub fits : Fits generation image bodies
 
--- the first gate is 1, and something stands behind it
+-- the first gate is 1, and something follows it
 abbrev pub IsOpen : List ℕ → Type 0
 IsOpen [] = ⊥
 IsOpen (gate ∷ []) = ⊥
 IsOpen (gate ∷ second ∷ rest) = gate ≡ 1
 
--- the first gate is no 1, or nothing stands behind it
+-- the first gate is no 1, or nothing follows it
 abbrev pub IsClosed : List ℕ → Type 0
 IsClosed [] = Unit {0}
 IsClosed (gate ∷ []) = Unit {0}
@@ -74,7 +74,7 @@ pub record HasMark (generation : ℕ) (file : List ℕ) : Type 0 where
   pub bytes : file ≡ 1 ∷ (mark generation ++ rest)
   pub numbered : generation < 2 ^ 64
 
--- a length is cut short, or what it tells the length of, or the gate behind that
+-- a length is cut short, or what it is the length of, or the gate after that
 abbrev pub IsCut : List ℕ → Type 0
 IsCut rest =
     (length rest < 4) ⊎ ((n : ℕ) × (more : List ℕ) × (n < 2 ^ 32) × (rest ≡ four_bytes n ++ more) × (length more ≤ n))
@@ -83,7 +83,7 @@ IsCut rest =
 abbrev pub LacksMark : List ℕ → Type 0
 LacksMark file = IsOpen file × ((generation : ℕ) → HasMark generation file → ⊥)
 
--- An open file is cut short, as told by this offset: 0 where its image is, else the gate before the record that is.
+-- An open file is cut short, as this offset says: 0 where its image is, else the gate before the record that is.
 abbrev pub IsCutAt : ℕ → List ℕ → Type 0
 IsCutAt at file =
     ((generation : ℕ) × (rest : List ℕ) × (file ≡ 1 ∷ (mark generation ++ rest)) × IsCut rest × (at ≡ 0))

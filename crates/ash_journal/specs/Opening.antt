@@ -28,7 +28,7 @@ HasCurrent first second =
     ((generation : ℕ) × HasMark generation first × IsBehind generation second)
     ⊎ ((generation : ℕ) × HasMark generation second × IsBehind generation first)
 
--- what makes a fault that is told of two files
+-- what two files are like of which a fault is reported
 abbrev pub FaultIs : OpenFault → List ℕ → List ℕ → Type 0
 FaultIs DeviceFailed first second = Unit {0}
 FaultIs NoMemory first second = HasCurrent first second
@@ -36,7 +36,7 @@ FaultIs NoGeneration first second = IsClosed first × IsClosed second
 FaultIs (Damaged at) first second =
     (IsUnsound first second × (at ≡ 0)) ⊎ (IsCutCurrent at first second ⊎ IsCutCurrent at second first)
 
--- the current file, and how the other stands beside it
+-- the current file, and the state of the other
 abbrev pub ChoiceIs : Choice → List ℕ → List ℕ → Type 0
 ChoiceIs choice first second =
     HasMark choice.generation (first_of choice.swapped first second)
@@ -49,7 +49,7 @@ ContentsAre choice current_file first second =
         current_file.tail.gate (first_of choice.swapped first second)
     × OtherIs choice.other_state choice.generation (second_of choice.swapped first second)
 
--- how two files stand, and their lengths
+-- the headers of two files, and their lengths
 pub record HeadersAre (headers : Headers) (first second : List ℕ) : Type 0 where
   pub first_header : HeaderIs headers.first first
   pub second_header : HeaderIs headers.second second

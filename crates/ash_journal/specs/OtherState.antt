@@ -1,4 +1,4 @@
--- How the file that is not current stands.
+-- The state of the file that is not current.
 use Rattle.std.specs.Prelude.{Bool, true, false, ℕ, ◌<◌, List}
 use Rattle.ash_journal.specs.declared.other_state.OtherState.{OtherState}
 use Rattle.ash_journal.specs.declared.other_state.OtherState.TheVariants.{Shut, Older, Stray}
@@ -16,7 +16,7 @@ is_stray Shut = false
 is_stray Older = false
 is_stray Stray = true
 
--- once a gate that is owed is written over
+-- the state once a stray gate is written over
 abbrev pub repaired : OtherState → OtherState
 repaired Shut = Shut
 repaired Older = Older

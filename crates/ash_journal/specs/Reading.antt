@@ -14,7 +14,7 @@ abbrev pub ShutIs : Bool → List ℕ → Type 0
 ShutIs true file = IsShut file
 ShutIs false file = IsShut file → ⊥
 
--- how a file stands
+-- the header of a file
 abbrev pub HeaderIs : FileHeader → List ℕ → Type 0
 HeaderIs (Closed shut) file = IsClosed file × ShutIs shut file
 HeaderIs Unmarked file = LacksMark file
@@ -26,7 +26,7 @@ pub record Counts (failed : Type 0) (before after : ℕ) : Type 0 where
   pub reported : failed → Rose before after
   pub none : (failed → ⊥) → after ≡ before
 
--- a block stands here, with this gate behind it
+-- the bytes begin with a block and this gate
 abbrev pub IsBlock : List ℕ → ℕ → List ℕ → Type 0
 IsBlock body gate bytes = (length body < 2 ^ 32) × (more : List ℕ) × (bytes ≡ block body ++ gate ∷ more)
 
@@ -34,12 +34,12 @@ IsBlock body gate bytes = (length body < 2 ^ 32) × (more : List ℕ) × (bytes 
 abbrev pub bodies_of : List Record → List (List ℕ)
 bodies_of found = map (λ r. r.body.items) found
 
--- the gates before records stand one after the other, from an offset on
+-- the gates before records follow one another, from an offset on
 abbrev pub AreAt : ℕ → List Record → Type 0
 AreAt at [] = Unit {0}
 AreAt at (r ∷ found) = (r.gate ≡ at) × AreAt (at + 5 + length r.body.items) found
 
--- A generation up to a gate: its records from the first gate behind its image on, and that gate.
+-- A generation up to a gate: its records from the first gate after its image on, and that gate.
 pub record IsReadTo (generation : ℕ) (image : List ℕ) (found : List Record) (end : ℕ) (gate : ℕ)
     (file : List ℕ) : Type 0 where
   pub behind : List ℕ
@@ -52,19 +52,19 @@ pub record IsReadTo (generation : ℕ) (image : List ℕ) (found : List Record) 
 abbrev pub IsRead : ℕ → List ℕ → List Record → ℕ → ℕ → List ℕ → Type 0
 IsRead generation image found end gate file = IsReadTo generation image found end gate file × (gate ≢ 1)
 
--- what makes a fault that was told while a current file was read
+-- what a current file is like where this fault is reported as it is read
 abbrev pub IsCutFault : OpenFault → List ℕ → Type 0
 IsCutFault DeviceFailed file = Unit {0}
 IsCutFault NoMemory file = Unit {0}
 IsCutFault NoGeneration file = ⊥
 IsCutFault (Damaged at) file = IsCutAt at file
 
--- a failure of the device, or want of memory
+-- a failure of the device, or no memory
 abbrev pub IsUnread : OpenFault → Type 0
 IsUnread DeviceFailed = Unit {0}
 IsUnread NoMemory = Unit {0}
 IsUnread _ = ⊥
 
--- nothing but a failure of the device or want of memory is told
+-- nothing but a failure of the device or no memory is reported
 abbrev pub IsFailure : {T : Type 0} → Result T OpenFault → Type 0
 IsFailure result = IfErr result IsUnread

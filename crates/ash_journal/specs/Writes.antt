@@ -26,19 +26,19 @@ pub record WritesByte {D : Type 0} (device : Device D) (at : ℕ) (old new : D) 
 abbrev pub WhileShut : List ℕ → List ℕ → List ℕ → Type 0
 WhileShut prefix suffix image = (image ≡ prefix ++ suffix) ⊎ ((gate : ℕ) × (image ≡ prefix ++ gate ∷ drop 1 suffix))
 
--- What a crash may leave while bytes are written behind a gate that is 0, and then 1 over the gate: until the bytes
--- are on the device the gate is 0, and while the gate is written they stand whole behind it.
+-- What a crash may leave while bytes are written after a gate that is 0, and then 1 over the gate: until the bytes
+-- are on the device the gate is 0, and while the gate is written they are whole after it.
 abbrev pub WhileCommitted : List ℕ → List ℕ → List ℕ → List ℕ → Type 0
 WhileCommitted prefix bytes suffix image =
     ((rest : List ℕ) × (image ≡ prefix ++ 0 ∷ rest))
     ⊎ ((gate : ℕ) × (image ≡ prefix ++ gate ∷ (bytes ++ drop (length bytes) suffix)))
 
--- with 0 for the first of these bytes, where that is owed
+-- these bytes, with 0 for the first of them where it is stray
 abbrev pub repaired : Bool → List ℕ → List ℕ
 repaired true suffix = 0 ∷ drop 1 suffix
 repaired false suffix = suffix
 
--- what a crash may leave while a gate is repaired, where that is owed
+-- what a crash may leave while a gate is repaired, where it is stray
 abbrev pub WhileRepaired : Bool → List ℕ → List ℕ → List ℕ → Type 0
 WhileRepaired stray prefix suffix image =
     (image ≡ prefix ++ suffix) ⊎ ((stray ≡ true) × (gate : ℕ) × (image ≡ prefix ++ gate ∷ drop 1 suffix))

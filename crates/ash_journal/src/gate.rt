@@ -1,5 +1,5 @@
-//! How a file is changed: a gate is shut, or bytes are committed behind one that is shut. A repair and the replacing of
-//! what a file holds are made of these. Nothing else in the crate writes, but for `clear` in `creating`, which writes 0
+//! How a file is changed: a gate is shut, or bytes are committed after one that is shut. A repair and the replacing of
+//! what a file holds are made of these. Nothing else in the crate writes, but for `clear` in `creation`, which writes 0
 //! over the first gate of a file that is not open.
 ghost use Rattle.std.specs.Prelude.{◌≡◌, false, IsTrue, ◌+◌, ◌<◌, ◌^◌, ◌∷◌, ◌++◌, [], ℕ, List, length, drop, OnOk};
 ghost use Rattle.ash_disk.specs.Failures.{CountsFailure};
@@ -28,7 +28,7 @@ pub(crate) fn shut_gate<D: Disk>(disk: &mut D, gate: u64) -> Result<(), DeviceFa
     write_durably(disk, gate, &[0])
 }
 
-/// Writes bytes behind a gate that is 0 on the device, and syncs; then writes 1 over the gate, and syncs. Only then do
+/// Writes bytes after a gate that is 0 on the device, and syncs; then writes 1 over the gate, and syncs. Only then do
 /// the bytes count, and a crash on the way leaves them whole or not at all.
 pub(crate) fn commit<D: Disk>(disk: &mut D, gate: u64, bytes: &[u8]) -> Result<(), DeviceFailed>
     requires { gate + 1 < 2 ^ 64 }
@@ -47,7 +47,7 @@ pub(crate) fn commit<D: Disk>(disk: &mut D, gate: u64, bytes: &[u8]) -> Result<(
     write_durably(disk, gate, &[1])
 }
 
-/// Writes 0 over a gate where it is owed, and syncs.
+/// Writes 0 over a gate where it is stray, and syncs.
 #[tactic(auto, using(crate::proofs::GateLaws::unwritten))]
 pub(crate) fn repair<D: Disk>(disk: &mut D, stray: bool, gate: u64) -> Result<(), DeviceFailed>
     ensures repaired { OnOk result ((prefix suffix : List ℕ)
@@ -70,7 +70,7 @@ pub(crate) fn repair<D: Disk>(disk: &mut D, stray: bool, gate: u64) -> Result<()
     Ok(())
 }
 
-/// Puts bytes in place of what a file holds: shuts its first gate, where that is open, and commits them behind it.
+/// Puts bytes in place of what a file holds: shuts its first gate, where that is open, and commits them after it.
 pub(crate) fn replace<D: Disk>(
     disk: &mut D,
     is_open: bool,

@@ -21,7 +21,7 @@ pub struct Journal<D> {
     /// Whether the current disk was handed over as the second.
     swapped: bool,
     generation: u64,
-    /// The offset of the gate behind the last open record.
+    /// The offset of the gate after the last open record.
     end: u64,
     record_bytes: u64,
     /// Whether that gate is still to be written over.
@@ -143,7 +143,7 @@ impl<D: Disk> Journal<D> {
     }
 
     /// Opens two disks: syncs them, and reads which is current, its image and its open records, in order, with memory
-    /// for these. It writes nothing, and leaves gates that are owed a repair to `settle`, which comes before the first
+    /// for these. It writes nothing, and leaves gates that are to be repaired to `settle`, which comes before the first
     /// record or image.
     ///
     /// Refusals: `NoGeneration` where no file is open; `Damaged` where an open file has no magic and generation, two
@@ -299,7 +299,7 @@ impl<D: Disk> Journal<D> {
         swap_if(swapped, current, other)
     }
 
-    /// Writes 0 over the gates that a crash left with another value: the one behind the last open record, and the first
+    /// Writes 0 over the gates that a crash left with another value: the one after the last open record, and the first
     /// of the file that isn't current unless that is an older generation. Each only where it isn't 0, and with its own
     /// sync. At `Ok` a journal is ready for records, unless one of its calls has failed before. It takes no memory.
     ///

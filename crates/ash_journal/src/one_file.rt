@@ -13,7 +13,7 @@ use ash_disk::{DeviceFailed, Disk};
 use byteorder::{ByteOrder, LittleEndian};
 use std::alloc::Global;
 
-/// How a file stands by itself.
+/// What the first bytes of a file say of it.
 #[derive(Clone, Copy)]
 pub(crate) enum FileHeader {
     /// It is closed, with 0 for its first gate or not.
@@ -30,7 +30,7 @@ fn is_shut(prefix: &[u8]) -> bool
     !prefix.is_empty() && prefix[0] == 0
 }
 
-// The generation behind a magic, where these bytes are both.
+// The generation after a magic, where these bytes are both.
 fn mark_of(bytes: &[u8]) -> Option<u64>
     requires { length bytes.now ≤ 16 }
     ensures { MatchOption result
@@ -47,7 +47,7 @@ fn mark_of(bytes: &[u8]) -> Option<u64>
     Some(LittleEndian::read_u64(number))
 }
 
-/// How a file stands whose first 17 bytes, or all of fewer, are these.
+/// The header of a file whose first 17 bytes, or all of fewer, are these.
 pub(crate) fn header_of(prefix: &[u8]) -> FileHeader
     requires { length prefix.now ≤ 17 }
     ensures { (file : List ℕ) → prefix.now ≡ take 17 file → HeaderIs result file }
@@ -63,7 +63,7 @@ pub(crate) fn header_of(prefix: &[u8]) -> FileHeader
     }
 }
 
-/// How a file stands, and its length.
+/// The header of a file, and its length.
 pub(crate) fn read_header<D: Disk>(disk: &mut D) -> Result<(FileHeader, u64), DeviceFailed>
     ensures answer { IfOk result (λ x. IsTrue (D.honest disk.old)
         → HeaderIs x.0 (D.seen disk.old) × (x.1 ≡ length (D.seen disk.old))) }
@@ -77,14 +77,14 @@ pub(crate) fn read_header<D: Disk>(disk: &mut D) -> Result<(FileHeader, u64), De
     Ok((header_of(&prefix[..size]), len))
 }
 
-/// Bytes that stand behind a gate, and the gate behind them.
+/// Bytes that follow a gate, and the gate after them.
 #[derive(Drop)]
 pub(crate) struct Block {
     body: Vec<u8>,
     gate: u8,
 }
 
-// The length that four bytes tell.
+// The length in four bytes.
 fn size_of(bytes: &[u8]) -> u32
     requires { length bytes.now ≡ 4 }
     ensures { four_bytes result ≡ bytes.now }
@@ -176,7 +176,7 @@ fn read_block<D: Disk>(
 #[derive(Drop)]
 pub(crate) struct Tail {
     pub(crate) records: Vec<Record>,
-    /// The offset of the gate behind the last of them.
+    /// The offset of the gate after the last of them.
     pub(crate) end: u64,
     /// That gate.
     pub(crate) gate: u8,

@@ -1,8 +1,8 @@
-//! Which of two disks holds the current file, and how the other stands.
+//! The state of the file that is not current.
 ghost use Rattle.std.specs.Prelude.{◌≡◌};
 ghost use Rattle.ash_journal.specs.OtherState.{is_older, is_stray, repaired, first_of, second_of};
 
-/// How the other file stands beside the current one.
+/// The state of the file that is not current.
 #[derive(Clone, Copy)]
 pub(crate) enum OtherState {
     /// Its first gate is 0.
@@ -26,7 +26,7 @@ impl OtherState {
         matches!(self, OtherState::Stray)
     }
 
-    /// How it stands once a gate that is owed is written over.
+    /// The state once a stray gate is written over.
     pub(crate) fn repaired(self) -> OtherState
         ensures { result ≡ repaired self }
     {

@@ -13,7 +13,7 @@ use crate::one_file::{CurrentFile, FileHeader, read_header, read_current};
 use ash_disk::{DeviceFailed, Disk};
 use std::alloc::Global;
 
-/// Which of two files is current, and how the other stands beside it.
+/// Which of two files is current, and the state of the other.
 #[derive(Clone, Copy)]
 pub(crate) struct Choice {
     pub(crate) swapped: bool,
@@ -98,7 +98,7 @@ fn sync_both<D: Disk>(first: &mut D, second: &mut D) -> Result<(), DeviceFailed>
     second.sync()
 }
 
-/// How two files stand, and how long they are.
+/// The headers of two files, and their lengths.
 #[derive(Drop)]
 pub(crate) struct Headers {
     first: FileHeader,

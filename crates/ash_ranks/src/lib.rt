@@ -2,7 +2,7 @@
 //!
 //! `ash_classes` finds ranks of a script's classes, along what their fields name. This crate says that they fall along
 //! what the fields of the typed module's classes hold, so that what walks the typed module alone may rely on them. It
-//! stands on `ash_classes`, on the rules of typing and on typed trees. It computes nothing.
+//! uses `ash_classes`, the rules of typing and typed trees. It computes nothing.
 #![tactic(auto)]
 
 ghost use Rattle.std.specs.Prelude.{ℕ, List, length};

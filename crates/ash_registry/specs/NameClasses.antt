@@ -1,4 +1,4 @@
--- What the code tells of a name.
+-- What the code says of a name.
 use Rattle.std.specs.Prelude.{ℕ, ◌&&◌, List, [], ◌∷◌, nat_eq, if◌then◌else◌}
 use Rattle.ash_lex.specs.Tokens.{Meaning, name, reserved, unsupported, Lexeme}
 use Rattle.ash_registry.specs.declared.texts.NameKind.{NameKind}

@@ -79,7 +79,7 @@ primitive_operation s = record {
   parameters = filter_map primitive_of s.parameters;
 }
 
--- A call is accepted where no cause speaks against it, and is then added; else its cause is told, or that memory
+-- A call is accepted where no cause speaks against it, and is then added; else its cause is reported, or that memory
 -- ran out, and nothing changes.
 pub record RegisteredIf {A : Type 0} (refusal : Option RegistryFault) (call : List Call)
     (result : Result A RegistryFault) (old new : List Call) : Type 0 where
@@ -88,7 +88,7 @@ pub record RegisteredIf {A : Type 0} (refusal : Option RegistryFault) (call : Li
   pub refused : IfErr result (λ fault. (refusal ≡ Some fault) ⊎ (fault ≡ NoMemory))
   pub unchanged : OnErr result (new ≡ old)
 
--- Where the first test of a call speaks against it that is told, whether memory is there or not.
+-- Where the first test of a call speaks against it, that is reported, whether memory is there or not.
 abbrev pub RefusedWithoutAllocating : {A : Type 0} → Bool → RegistryFault → Result A RegistryFault → Type 0
 RefusedWithoutAllocating test fault result = test ≡ true → result ≡ Err fault
 

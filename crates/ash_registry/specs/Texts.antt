@@ -42,7 +42,7 @@ HasNameClass text ANoName = (¬ IsWord text (name text)) × (¬ IsNoNameWord tex
 abbrev pub placed_lexeme : Lexeme → Meaning × Place
 placed_lexeme t = (t.meaning, record { at = t.from; line = t.line })
 
--- the text is a declaration, with nothing behind it
+-- the text is a declaration, with nothing after it
 pub record IsDeclaring (text : List ℕ) (declared : Declaration) : Type 0 where
   pub tokens : List Lexeme
   pub cut : IsCutInto text tokens

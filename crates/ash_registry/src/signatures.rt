@@ -1,4 +1,4 @@
-//! Signatures as they are tested and kept.
+//! Signatures as they are tested and registered.
 ghost use Rattle.std.specs.Prelude.{◌≡◌, IfOk, Some, map};
 ghost use Rattle.std.specs.List.{list_any, filter_map};
 ghost use Rattle.ash_registrations.specs.Calls.{operation_of};

@@ -1,4 +1,4 @@
--- What the code's typed statements stand for.
+-- What the code's typed statements represent.
 use Rattle.std.specs.Prelude.{ℕ, List, map, option_map, string_bytes}
 use Rattle.ash_typed.specs.declared.tree.statements.StmtKind as stmt_kind
 use Rattle.ash_typed.specs.declared.tree.statements.StmtKind.TheVariants as kinds

@@ -58,7 +58,7 @@ pub record Module : Type 0 where
   pub functions : List Function
   pub globals : List Variables
 
--- what the code's typed modules stand for
+-- what the code's typed modules represent
 
 abbrev pub variables_of : variables.Variables → Variables
 variables_of v = record { line = v.line; values = map value_of v.initializations.items }

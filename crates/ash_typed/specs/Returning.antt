@@ -1,4 +1,4 @@
--- Which typed statements return, however their conditions turn out. Control never gets behind one of them.
+-- Which typed statements return, however their conditions turn out. Control never gets past one of them.
 use Rattle.std.specs.Prelude.{ℕ, Option}
 use Rattle.ash_tree.specs.declared.tree.statements.Label.{Label}
 use Rattle.ash_tree.specs.declared.tree.statements.Label.TheVariants as labels
@@ -7,7 +7,7 @@ use Rattle.ash_typed.specs.Tree.{Expr}
 use Rattle.ash_typed.specs.StatementTree.{Stmt, Block, If, Branch, branch, Switch, Break, Return, Stmts, stmt, Case}
 use Rattle.ash_typed.specs.StatementTree.{labelled, Cases, no_case, next_case}
 
--- a `break` that leaves what the statement stands in, and no loop or `switch` inside it
+-- a `break` that leaves what the statement is in, and no loop or `switch` inside it
 mutual
   pub data Breaks : Stmt → Type 0 where
     break_out : {line : ℕ} → Breaks (Break line)
@@ -42,7 +42,7 @@ mutual
     first_returns : {s : Stmt} {ss : Stmts} → Returns s → AnyReturns (stmt s ss)
     later_returns : {s : Stmt} {ss : Stmts} → AnyReturns ss → AnyReturns (stmt s ss)
 
-  -- one of the statements behind the last label returns
+  -- one of the statements after the last label returns
   pub data LastReturns : Cases → Type 0 where
     last_case : {l : Label} {ss : Stmts} → AnyReturns ss → LastReturns (next_case (labelled l ss) no_case)
     not_last_case : {c : Case} {cs : Cases} → LastReturns cs → LastReturns (next_case c cs)

@@ -130,7 +130,7 @@ abbrev pub IsResultType : Signatures → Option VarType → Type 0
 IsResultType s None = Unit {0}
 IsResultType s (Some of) = IsPassedType s of
 
--- A value of the first type may stand where one of the second is awaited: null where there may be any object, and an
+-- A value of the first type may be where one of the second is awaited: null where there may be any object, and an
 -- object of a class where there is one of an interface that it lists.
 pub data IsSubtype (s : Signatures) : ValueType → ValueType → Type 0 where
   same : {of : ValueType} → IsSubtype s of of

@@ -1,7 +1,7 @@
 -- Sound statements, by the typed tree alone: each of their expressions gives what is asked for, each local is declared
--- in the slot that follows those in scope, and a jump stands in what it leaves. One case for each node.
+-- in the slot that follows those in scope, and a jump is within what it leaves. One case for each node.
 --
--- `IsStmt scope s`: the statement `s` is sound in this scope, and declares no variable that is seen behind it.
+-- `IsStmt scope s`: the statement `s` is sound in this scope, and declares no variable that is seen after it.
 -- `AreStmts scope ss`: so are the statements of a block, each of which sees the variables that those before it declare.
 use Rattle.std.specs.Prelude.{◌≡◌, ◌≢◌, ◌<◌, ◌≤◌, ◌^◌, ℕ, zero, suc, ℤ, pos, negsuc, Bool, true, false, List, [], ◌∷◌}
 use Rattle.std.specs.Prelude.{◌++◌, Option, Some, None}
@@ -207,7 +207,7 @@ mutual
         → AreStmts scope ss
         → AreStmts scope (stmt s ss)
 
-  -- labels, behind those before them, with the statements behind each, none of which declares variables
+  -- labels, after those before them, with the statements after each, none of which declares variables
   pub data AreCases : Scope → Kind → List Label → Cases → Type 0 where
     no_cases : {scope : Scope} {kind : Kind} {before : List Label} → AreCases scope kind before no_case
     more_cases : {scope : Scope} {kind : Kind} {before : List Label} {l : Label} {ss : Stmts} {cs : Cases}

@@ -46,7 +46,7 @@ mutual
     no_stmt : Stmts
     stmt : Stmt → Stmts → Stmts
 
-  -- a label of a switch, with the statements behind it
+  -- a label of a switch, with the statements after it
   pub data Case : Type 0 where
     labelled : Label → Stmts → Case
 

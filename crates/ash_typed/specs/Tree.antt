@@ -1,5 +1,5 @@
 -- The typed tree of an expression, without where its parts lie in memory. Operators group to the left, and a suffix is
--- applied to what stands before it.
+-- applied to what is before it.
 use Rattle.std.specs.Prelude.{ℕ, List, [], ◌∷◌, Bool, Option, Some, None}
 use Rattle.ash_typed.specs.declared.types.Kind.{Kind}
 use Rattle.ash_typed.specs.declared.types.Element.{Element}

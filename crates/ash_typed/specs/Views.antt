@@ -1,4 +1,4 @@
--- What the code's typed trees stand for.
+-- What the code's typed trees represent.
 use Rattle.std.specs.Prelude.{List, [], ◌∷◌}
 use Rattle.ash_typed.specs.declared.tree.expressions.Expr as code
 use Rattle.ash_typed.specs.declared.tree.expressions.Expr.TheVariants as variants
@@ -58,11 +58,11 @@ abbrev mutual
   exprs_of code.end_of-Expr = no_expr
   exprs_of (code.more_of-Expr e rest) = expr (expr_of e) (exprs_of rest)
 
--- an operator with its right operand, behind what stands before it
+-- an operator with its right operand, after its left operand
 abbrev pub chained : Expr → operand.Operand → Expr
 chained e o = Operate o.operation (converted o.before e) (expr_of o.value)
 
--- links, operators and operands, where they stand in a vector
+-- links, operators and operands, where they are in a vector
 abbrev pub all_linked : Expr → List link.Link → Expr
 all_linked e [] = e
 all_linked e (l ∷ ls) = all_linked (linked e l) ls

@@ -6,7 +6,7 @@
 //! `specs/SoundModules.antt` says which trees are so, of the tree alone. `specs/` has the same trees without where
 //! their parts lie in memory, and `nodes` makes them. The rules of typing, which say which script has which typed tree,
 //! are in `ash_typing`, above this crate, with the proof that what they type is sound: what walks typed trees alone
-//! does not load them. The crate stands on `ash_tree`, for the labels that a script writes.
+//! does not load them. The crate uses `ash_tree`, for the labels that a script writes.
 //!
 //! In reading order: `types`, `tree`: `operations`, `expressions`, `statements`, `items`; `nodes`, `soundness`.
 #![tactic(auto)]

@@ -318,7 +318,7 @@ fn member_of(
     }
 }
 
-/// A place stands alone.
+/// A place that is alone.
 #[cycle(places)]
 #[tactic(auto, using(crate::proofs::Rows::chain_is, crate::proofs::Rows::no_place_chained))]
 fn chain_place(
@@ -335,7 +335,7 @@ fn chain_place(
     Ok(None)
 }
 
-/// A place stands alone.
+/// A place that is alone.
 #[cycle(places)]
 #[tactic(auto, using(crate::proofs::Rows::no_place_lazies))]
 fn lazy_place(
@@ -412,7 +412,7 @@ pub fn switch(line: usize, of: Kind, value: Expr, labels: Vec<Case>) -> Stmt
     }
 }
 
-/// A label with the statements behind it.
+/// A label with the statements after it.
 pub fn case(label: Label, body: Vec<Stmt>) -> Case
     ensures { case_of result ≡ labelled label (body_of body.items) }
 {

@@ -312,7 +312,7 @@ this_in script env p (Some class) h r e = fine (reserved words.This, h, refl)
 
 -- suffixes
 
--- a field and a method behind what is typed so
+-- a field and a method after what is typed so
 abbrev pub AtField : Script → Environment → Typed → place.Place → List ℕ → written.Suffixes → Type 0
 AtField script env t p text ss = OccursIn script (phrases.Suffixes env t (written.suffix (written.Field p text) ss))
 

@@ -130,7 +130,7 @@ decls_in script env at of row (d ∷ ds) w h r =
     (record { names = with_one row.names d.name; variables = with_variable row.variables value }) ds w h.1
     (phrases.other_variables r)))
 
--- where the variables of a type that is known stand
+-- where the variables of a type that is known are
 vars_in : (script : Script) (env : Environment) (names : Names) (v : written.Vars) → VarsIn script.tokens v
     → Miswritten script env (stored_use v.of)
     → ((of : Ty) → known_ty v.of (ty_in env v.of) ≡ Ok of
@@ -274,7 +274,7 @@ abbrev pub AtMember : Script → Environment → List ℕ → List written.Membe
     → Type 0
 AtMember script env class before m ms = OccursIn script (phrases.ClassMembers env class before (m ∷ ms))
 
--- a class so far, behind these members
+-- a class so far, after these members
 pub record HasMembers (class : List ℕ) (before : List written.Member) (ms : Members) : Type 0 where
   pub names : ms.names ≡ names_of_members before
   pub name : ms.class.name ≡ class
@@ -364,7 +364,7 @@ class_in script env before c is h r =
 
 -- modules
 
--- a module so far, behind these items
+-- a module so far, after these items
 pub record HasItems (calls : List Call) (before : List written.Item) (w : Walked) : Type 0 where
   pub names : w.names ≡ names_before calls before
   pub classes : length w.typed.classes ≡ length (classes_of before)

@@ -1,4 +1,4 @@
--- The names that are taken where a phrase stands, and those behind it.
+-- The names that are taken where a phrase is, and those after it.
 use Rattle.std.proofs.Common.{◌≡◌, ℕ, suc, ◌+◌, ◌-◌, List, [], ◌∷◌, ◌++◌, map, length, refl, sym, ◌∙◌, ap, arith}
 use Rattle.std.proofs.lemmas.List.{append_assoc, append-nil, length-append, length-map}
 use Rattle.ash_registrations.specs.Calls.{Call}
@@ -60,7 +60,7 @@ globals_counted (written.AGlobal v ∷ is) i =
     let rest = globals_counted is i in
     omega arith
 
--- what is taken behind an item of these names, of which so many are variables
+-- what is taken after an item of these names, of which so many are variables
 after_item : (calls : List Call) (before : List written.Item) (i : written.Item) (names : List (List ℕ)) (count : ℕ)
     → item_names (i ∷ []) ≡ names → globals_in (i ∷ []) ≡ count
     → names_with (names_before calls before) (item_names before ++ names) (256 - globals_in before - count)
@@ -71,7 +71,7 @@ after_item calls before i names count e k =
         (256 - globals_in before - count) (256 - globals_in (before ++ i ∷ []))
         (ap (λ ns. item_names before ++ ns) (sym e) ∙ sym (items_named before i)) (omega arith)
 
--- behind an item that declares one name, and no variable
+-- after an item that declares one name, and no variable
 pub names_after_item : (calls : List Call) (before : List written.Item) (i : written.Item) (text : List ℕ)
     → item_names (i ∷ []) ≡ text ∷ [] → globals_in (i ∷ []) ≡ 0
     → with_name (names_before calls before) text ≡ names_before calls (before ++ i ∷ [])

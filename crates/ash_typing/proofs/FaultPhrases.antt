@@ -20,7 +20,7 @@ use Rattle.ash_typing.specs.Phrases.{returned, body, variable, method, construct
 abbrev pub Sees : List Call → List written.Item → Environment → Type 0
 Sees calls is env = (env.heads ≡ heads calls is) × (env.registered ≡ calls)
 
--- a statement changes only the locals that are seen behind it
+-- a statement changes only the locals that are seen after it
 seen_after : (calls : List Call) (is : List written.Item) (scope : Scope) (s : written.Stmt) → Sees calls is scope.env
     → Sees calls is (behind scope s).env
 seen_after calls is scope (written.Declare p v) h = h

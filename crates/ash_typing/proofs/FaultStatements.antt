@@ -491,7 +491,7 @@ return_in script scope p (Some e) h k r =
     (λ b. mismatches.returned r a b))
     (λ value u. fine tt))
 
--- labels, each with the statements behind it and the other labels
+-- labels, each with the statements after it and the other labels
 abbrev pub AtLabel : Script → Scope → Option Kind → List Label → place.Place → Label → written.Stmts → written.Cases
     → Type 0
 AtLabel script scope kind before p l ss cs =

@@ -1,4 +1,4 @@
--- What names stand for is in range, and has the types that a sound typed tree says.
+-- What names are is in range, and has the types that a sound typed tree says.
 use Rattle.std.specs.List.{AllByRecursion, cons_option}
 use Rattle.std.specs.Option.{option_and_then, option_map, option_or}
 use Rattle.std.proofs.lemmas.Bool.{eq-eqb}
@@ -388,7 +388,7 @@ method_sound env (OfArray of) text known = let found =
     (arrays.Length ∷ arrays.Resize ∷ arrays.InsertLast ∷ arrays.RemoveLast ∷ arrays.IsEmpty ∷ []) in
     if_map (IsSoundMethod env (OfArray of)) (array_method_of of) found (if_all found (array_method_sound env of))
 
--- what a name before brackets stands for
+-- what a name before brackets is
 
 -- it takes these parameters and gives this
 abbrev pub IsCalled : Environment → Callable → List VarType → Option VarType → Type 0

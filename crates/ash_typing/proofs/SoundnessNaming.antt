@@ -22,7 +22,7 @@ unfolding IsDistinct
 distinct_rest [] ys h = h
 distinct_rest (x ∷ xs) ys h = distinct_rest xs ys h.1
 
--- fewer names behind the same ones
+-- fewer names after the same ones
 distinct_fewer : (xs ys zs : List (List ℕ)) → ((P : List ℕ → Type 0) → AllByRecursion P ys → AllByRecursion P zs)
     → Distinct zs → Distinct (xs ++ ys) → Distinct (xs ++ zs)
 unfolding IsDistinct

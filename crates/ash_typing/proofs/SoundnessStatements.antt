@@ -53,7 +53,7 @@ loop_known scope k = record { env = k.env; gives = k.gives }
 switch_known : (scope : Scope) → IsKnownScope scope → IsKnownScope (switch_of scope)
 switch_known scope k = record { env = k.env; gives = k.gives }
 
--- what is seen behind variables
+-- what is seen after variables
 declaring_is : (scope : Scope) (v : written.Vars)
     → seen_at (with_variables scope (declared_in scope v))
     ≡ sound_statements.declaring (seen_at scope) (map type_declared (declared_in scope v))
@@ -104,7 +104,7 @@ steps_sound : {env : Environment} {es : written.Exprs} {ts : List Term} → AllH
 steps_sound none_left known = tt
 steps_sound (each h rest) known = ((_, (term_sound h known).gives), steps_sound rest known)
 
--- the head of a `for`, and what is seen behind it
+-- the head of a `for`, and what is seen after it
 record IsSoundHead (scope : Scope) (f : written.Stmt) (h : Head) : Type 0 where
   types : List VarType
   head : sound_statements.IsHead (seen_in scope.env) h types

@@ -114,7 +114,7 @@ taking_sound env (form.Number m) of (form.Number n) t h = h
 taking_sound env a (ty.Integer k) (form.Number n) t h = taken_sound env k n t (holds k n) refl h
 taking_sound env a of b t h = h
 
--- the operand of an operator beside another one
+-- the operand of an operator whose other operand is this
 pub adapted_sound : (env : Environment) (s : Sort) (other t : Term) → GivesType env t.tree t.ty
     → GivesType env (adapted_to s other t).tree (adapted_to s other t).ty
 adapted_sound env sort.Shift other t h = h

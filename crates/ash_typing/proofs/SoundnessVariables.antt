@@ -215,7 +215,7 @@ pub map-append : {A B : Type 0} (f : A → B) (xs ys : List A) → map f (xs ++ 
 map-append f [] ys = refl
 map-append f (x ∷ xs) ys = ap (λ zs. f x ∷ zs) (map-append f xs ys)
 
--- what is seen behind variables
+-- what is seen after variables
 pub seen_with : (env : Environment) (vs : List Declared)
     → seen_in (with_locals env (env.locals ++ vs)) ≡ sound_statements.with_locals (seen_in env) (map type_declared vs)
 seen_with env vs =

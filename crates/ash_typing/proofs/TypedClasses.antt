@@ -70,7 +70,7 @@ count_names v rest = length-append (names_of v) rest ∙ ap (λ (n : ℕ). n + l
 
 -- constructors
 
--- those that stand behind the one so far
+-- those that come after the one so far
 abbrev Constructs : Environment → List ℕ → Option Function → List written.Constructor → Option Function → Type 0
 Constructs env class None cs after = HasConstructor env class cs after
 Constructs env class (Some f) [] after = after ≡ Some f

@@ -84,7 +84,7 @@ known_sound env at (written.Handle p name) t h = some_handle_sound at (object_na
 known_sound env at (written.Array p of) t h = some_object_sound at (array_named env.registered env.heads of) t h
 known_sound env at (written.ArrayHandle p of) t h = some_handle_sound at (array_named env.registered env.heads of) t h
 
--- more variables behind those so far
+-- more variables after those so far
 
 abbrev row_with : Row → List (List ℕ) → ℕ → List Initialization → Row
 row_with row names k values = record {

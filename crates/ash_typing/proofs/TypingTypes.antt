@@ -57,7 +57,7 @@ use Rattle.ash_typing.proofs.TypingWords.{arithmetic_integers, shift_integers}
 use Rattle.ash_typing.proofs.TypingKnown.{known_type, variable_known, callee_known, member_known, method_known, at_some}
 use Rattle.ash_typing.proofs.TypingKnown.{if_map, if_or, if_then, if_weaker, if_any, if_all}
 
--- what names stand for
+-- what names are
 
 abbrev IsTyped : Known → Type 0
 IsTyped known = type_of known.0 ≡ value (as_value (var_type known.1))

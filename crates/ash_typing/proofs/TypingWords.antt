@@ -1,4 +1,4 @@
--- The words of the typing rules, beside those of the walk.
+-- The words of the typing rules, and those of the walk.
 use Rattle.std.proofs.lemmas.Option.{none-some, same_Some}
 use Rattle.std.proofs.Common.{◌≡◌, ℕ, IsOk, Bool, true, false, cond, Some, Ok, Err, refl, sym, subst}
 use Rattle.ash_tree.specs.declared.tree.operators.BinaryOp.{BinaryOp}

@@ -24,7 +24,7 @@ at_type_name (written.Array p of) = at_element of
 at_type_name (written.ArrayHandle p of) = at_element of
 at_type_name of = at_type of
 
--- the type of variables: none stands for an object of an interface
+-- the type of variables: none is itself an object of an interface
 unfoldable pub known_ty : written.Named → Ty → Checking Ty
 known_ty of ty.Unknown = broken UnknownType (at_type_name of)
 known_ty of (ty.Object (OfInterface i)) = broken Misplaced (at_type of)

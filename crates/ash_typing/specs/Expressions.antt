@@ -1,6 +1,6 @@
 -- The typing of expressions (AngelScript manual, "Expressions"), as a function whose order is that of the walk: the
 -- parts of a phrase in the order of the text, then the phrase. Of several faults of one phrase the one at the earliest
--- token is told.
+-- token is reported.
 use Rattle.std.specs.Prelude.{ℕ, List, [], ◌∷◌, Bool, true, false, Option, Some, None, Ok, map, length, nat_eq}
 use Rattle.std.specs.Prelude.{if◌then◌else◌}
 use Rattle.ash_tree.specs.declared.tree.types.Primitive.{Primitive}
@@ -91,7 +91,7 @@ handle_of at (ty.Handle o) = Ok (ty.Handle o)
 handle_of at ty.Unknown = Ok ty.Unknown
 handle_of at _ = broken TypeMismatch at
 
--- the operand of an operator, beside one of this form and type
+-- the operand of an operator, where the other has this form and type
 unfoldable pub adapted : Sort → Form → Ty → Typed → Typed
 adapted s other of t = placed t.at (adapted_by s other of (term_of t))
 
@@ -170,7 +170,7 @@ choice c a b = bool_of c.at c.ty >>= λ yes. chosen c a b (common a.ty b.ty)
 
 -- assignments
 
--- what stands at a place is an operand of its type
+-- what is at a place is an operand of its type
 abbrev pub updated : ℕ → Ty → Place → Calculator → Typed → Checking Typed
 updated at of p c v =
     met (binary_of c) (made at of Null) v >>= λ m. integer_of at of
@@ -311,7 +311,7 @@ cast_type at None = broken UnknownType at
 unfoldable pub cast_at : ℕ → ObjectType → Typed → Checking Typed
 cast_at at to t = handle_of t.at t.ty >>= λ h. Ok (made at (ty.Handle to) (Cast to t.tree))
 
--- The walk. `left` is whether the expression stands left of `=`.
+-- The walk. `left` is whether the expression is left of `=`.
 abbrev mutual
   pub typed : Environment → Bool → written.Expr → Checking Typed
   typed env left (written.Number p n) = Ok (placed p.at (number_term n))
@@ -339,7 +339,7 @@ abbrev mutual
   all_typed env written.no_expr = Ok []
   all_typed env (written.expr e es) = typed env false e >>= λ t. all_typed env es >>= λ ts. Ok (t ∷ ts)
 
-  -- operators of one level, each with what stands before it
+  -- operators of one level, each with what is before it
   pub links_typed : Environment → Typed → written.Links → Checking Typed
   links_typed env t written.no_link = Ok t
   links_typed env t (written.link op e ls) =
@@ -358,7 +358,7 @@ abbrev mutual
 
 -- offsets
 
--- where the first token of an expression stands
+-- where the first token of an expression is
 abbrev pub first_at : written.Expr → ℕ
 first_at (written.Postfix p e ss) = first_at e
 first_at (written.Binary p e ls) = first_at e

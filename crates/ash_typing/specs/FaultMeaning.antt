@@ -1,4 +1,4 @@
--- What is wrong where the fault of a module is told, for each rule: a phrase that breaks the rule stands there, with
+-- What is wrong where the fault of a module is reported, for each rule: a phrase that breaks the rule is there, with
 -- what it sees. It is not said that nothing before is wrong: which fault is the first is in the definitions of the
 -- walk.
 use Rattle.std.specs.Prelude.{◌≡◌, ℕ, ◌+◌, Bool, true, false, ◌&&◌, ◌||◌, List, [], ◌∷◌, Option, Some, None, Ok}
@@ -79,7 +79,7 @@ pub record Naming : Type 0 where
 abbrev pub naming : Place → List ℕ → Bool → Option Naming
 naming p text b = Some (record { at = p.at; text = text; is_refused = b })
 
--- whether a constructor stands among the members before
+-- whether a constructor is among the members before
 abbrev pub has_constructor : List written.Member → Bool
 has_constructor [] = false
 has_constructor (written.AConstructor c ∷ ms) = true
@@ -145,7 +145,7 @@ written_by (ClassMembers env class before (written.AMethod f ∷ ms)) = option_m
 written_by (Methods env before (m ∷ ms)) = option_map passed m.result
 written_by _ = None
 
--- whether an object of this type may not stand so: objects are passed by handles, and no variable stands for an object
+-- whether an object of this type may not be so: objects are passed by handles, and no variable is itself an object
 -- of an interface
 abbrev pub is_misplaced : TypeUse → ObjectType → Bool
 is_misplaced used o = used.is_passed || is_interface o
@@ -175,7 +175,7 @@ pub data IsWrong (calls : List Call) (script : List written.Item) : Rule → ℕ
       → Occurs calls script (Expression env (written.Call p text es))
       → callee_in env text ≡ None
       → IsWrong calls script rules.UnknownName p.at (name text)
-  -- objects of the type of what stands before the point have no field and no property of this name, or no method
+  -- objects of the type of what is before the point have no field and no property of this name, or no method
   no_member : {env : Environment} {t : Typed} {p : Place} {text : List ℕ} {ss : written.Suffixes} {o : ObjectType}
       → Occurs calls script (Suffixes env t (written.suffix (written.Field p text) ss))
       → object_of t.ty ≡ Some o
@@ -293,7 +293,7 @@ pub data IsWrong (calls : List Call) (script : List written.Item) : Rule → ℕ
       → Occurs calls script (Cases scope kind before (written.next_case (written.labelled p labels.Default ss) cs))
       → is_last cs ≡ false
       → IsWrong calls script rules.Misplaced p.at (reserved words.Default)
-  -- a type of objects is written where none of them may stand
+  -- a type of objects is written where none of them may be
   misplaced_type : {x : Phrase} {used : TypeUse} {o : ObjectType} {m : Meaning}
       → Occurs calls script x
       → written_by x ≡ Some used
@@ -312,11 +312,11 @@ pub data IsWrong (calls : List Call) (script : List written.Item) : Rule → ℕ
       → Occurs calls script (ClassMembers env class before (written.AConstructor c ∷ ms))
       → bytes_eq c.name class ≡ false
       → IsWrong calls script rules.Misplaced c.place.at (name c.name)
-  -- the type of an expression does not fit where it stands
+  -- the type of an expression does not fit where it is
   mismatch : {at : ℕ} {m : Meaning}
       → Mismatches calls script at
       → IsWrong calls script rules.TypeMismatch at m
-  -- what stands left of `=` or of `op=` takes no value
+  -- what is left of `=` or of `op=` takes no value
   takes_none : {env : Environment} {p : Place} {op : AssignOp} {e v : written.Expr} {t : Typed} {m : Meaning}
       → Occurs calls script (Expression env (written.Assign p e op v))
       → typed env (is_assign op) e ≡ Ok t

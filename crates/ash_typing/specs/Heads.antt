@@ -1,5 +1,5 @@
 -- What a module declares, as each of its items sees it: items see each other in any order. Of several items of one name
--- the first counts, and what is of an unknown type is told where it is declared.
+-- the first counts, and what is of an unknown type is reported where it is declared.
 use Rattle.std.specs.Prelude.{ℕ, List, [], ◌∷◌, ◌++◌, Option, Some, None, map, find}
 use Rattle.std.specs.Option.{option_and_then, option_map, option_or}
 use Rattle.ash_registrations.specs.Calls as host

@@ -1,6 +1,6 @@
 -- The typing of a module, or its first fault. Items are walked in source order: an item's types and names in the order
 -- of the text, then its body. The members of a class, and the variables of one declaration, are items of their own. Of
--- several faults of one name the one that stands first in the list of rules is told.
+-- several faults of one name the one that comes first in the list of rules is reported.
 use Rattle.std.specs.Prelude.{ℕ, ◌+◌, ◌-◌, List, [], ◌∷◌, ◌++◌, Bool, ◌||◌, Option, Some, None, Ok, map, length, nat_eq}
 use Rattle.std.specs.Prelude.{nat_le, if◌then◌else◌}
 use Rattle.std.specs.List.{list_any}
@@ -128,7 +128,7 @@ abbrev pub signature_of : List ℕ → Ty → List Declared → Signature
 signature_of name of parameters =
     record { name = name; result = result_type of; parameters = map type_declared parameters }
 
--- a method that an interface declares, behind those before it
+-- a method that an interface declares, after those before it
 unfoldable pub signature_typed : Environment → Signatures → written.InterfaceMethod → Checking Signatures
 signature_typed env ss m =
     result_typed env m.result >>= λ of. placed ss.names m.place.at m.name
@@ -147,7 +147,7 @@ abbrev pub interface_of : written.Interface → ℕ → Signatures → Interface
 interface_of i classes ss =
     record { name = i.name; line = i.place.line; classes_before = classes; methods = ss.methods }
 
--- an interface behind so many classes
+-- an interface after so many classes
 unfoldable pub interface_typed : Environment → ℕ → written.Interface → Checking Interface
 interface_typed env classes i = signatures_typed env no_signatures i.methods >>= λ ss. Ok (interface_of i classes ss)
 
@@ -168,7 +168,7 @@ pub record Listed : Type 0 where
   pub names : Names
   pub interfaces : List Implementation
 
--- one of those that the class of this place lists, behind those before it
+-- one of those that the class of this place lists, after those before it
 unfoldable pub listed_typed : Environment → ℕ → Listed → written.TypeName → Checking Listed
 listed_typed env class listed n =
     listed_at n.place.at (object_named env.registered env.heads n.name)

@@ -75,7 +75,7 @@ abbrev pub converts : Ty → Ty → Bool
 converts (ty.Integer k) t = may_be_integer t
 converts _ t = may_be_bool t
 
--- `++` and `--` behind a place
+-- `++` and `--` after a place
 abbrev pub counts_after : written.Suffix → Bool
 counts_after written.Increment = true
 counts_after written.Decrement = true
@@ -136,7 +136,8 @@ pub data Mismatches (calls : List Call) (script : List written.Item) : ℕ → T
       → callee.parameters ≡ Some parameters
       → IsUnfit env.heads.classes parameters ts arg_at
       → Mismatches calls script arg_at
-  -- an operand is of no type that its operator takes; of two operands the one is told that the operator takes nowhere
+  -- an operand is of no type that its operator takes; of two operands the fault is at the one that the operator takes
+  -- nowhere
   operand : {env : Environment} {p : Place} {op : UnaryOp} {e : written.Expr} {t : Typed}
       → Occurs calls script (Expression env (written.Unary p op e))
       → typed env false e ≡ Ok t

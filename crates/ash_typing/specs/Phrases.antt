@@ -1,5 +1,5 @@
 -- The phrases of a module, and what each of them sees: of the module all that its items declare, of a class that its
--- object runs, and of a body the variables before the phrase. It is not said that what stands before is free of faults.
+-- object runs, and of a body the variables before the phrase. It is not said that what comes before is free of faults.
 use Rattle.std.specs.Prelude.{◌≡◌, ℕ, ◌-◌, List, [], ◌∷◌, ◌++◌, map, length, false, Option, Some, Ok}
 use Rattle.ash_registrations.specs.Calls.{Call}
 use Rattle.ash_tree.specs.Tree as written
@@ -51,7 +51,7 @@ with_decl names d = record { registered = names.registered; taken = names.taken 
 pub data Phrase : Type 0 where
   Expression : Environment → written.Expr → Phrase
   Arguments : Environment → written.Exprs → Phrase
-  -- behind what is typed so
+  -- after what is typed so
   Links : Environment → Typed → written.Links → Phrase
   Suffixes : Environment → Typed → written.Suffixes → Phrase
   -- of a variable at the second offset, whose type is written at the first
@@ -60,21 +60,21 @@ pub data Phrase : Type 0 where
   Locals : Scope → ℕ → Ty → List written.Decl → Phrase
   Statement : Scope → written.Stmt → Phrase
   Statements : Scope → written.Stmts → Phrase
-  -- labels of a `switch` over a value of this type, behind those
+  -- labels of a `switch` over a value of this type, after those
   Cases : Scope → Option Kind → List Label → written.Cases → Phrase
-  -- behind these
+  -- after these
   Parameters : Environment → List Declared → List written.Parameter → Phrase
   -- what gives this type
   ARoutine : Environment → Ty → Routine → Phrase
   -- variables of a module or of a class, whose type is written at the offset, where these names are taken
   Variables : Environment → ℕ → Ty → Names → List written.Decl → Phrase
-  -- what an interface declares, behind these
+  -- what an interface declares, after these
   Methods : Environment → List written.InterfaceMethod → List written.InterfaceMethod → Phrase
-  -- the interfaces that the class of this place lists, behind these
+  -- the interfaces that the class of this place lists, after these
   Interfaces : Environment → ℕ → List written.TypeName → List written.TypeName → Phrase
-  -- the members of the class of this name, behind these
+  -- the members of the class of this name, after these
   ClassMembers : Environment → List ℕ → List written.Member → List written.Member → Phrase
-  -- items, behind these
+  -- items, after these
   Items : Environment → List written.Item → List written.Item → Phrase
 
 -- what a phrase sees
@@ -96,7 +96,7 @@ environment_of (Interfaces env place before ns) = env
 environment_of (ClassMembers env class before ms) = env
 environment_of (Items env before is) = env
 
--- A phrase stands in the module of this script, where these calls are registered, and sees this.
+-- A phrase is one of the module of this script, where these calls are registered, and sees this.
 pub data Occurs (calls : List Call) (script : List written.Item) : Phrase → Type 0 where
   -- expressions
   call_arguments : {env : Environment} {p : Place} {text : List ℕ} {es : written.Exprs}

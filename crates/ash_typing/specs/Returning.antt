@@ -5,7 +5,7 @@ use Rattle.ash_tree.specs.declared.tree.statements.Label.TheVariants as labels
 use Rattle.ash_tree.specs.Tree.{Stmt, Stmts, Case, Cases, Block, If, IfElse, Switch, Break, Return, no_stmt, stmt}
 use Rattle.ash_tree.specs.Tree.{stmts, labelled, no_case, next_case}
 
--- a `break` that leaves what the statement stands in, and no loop or `switch` inside it
+-- a `break` that leaves what the statement is in, and no loop or `switch` inside it
 abbrev mutual
   pub breaks : Stmt → Bool
   breaks (Break p) = true
@@ -47,7 +47,7 @@ abbrev mutual
   any_returns no_stmt = false
   any_returns (stmt s ss) = returns s || any_returns ss
 
-  -- one of the statements behind the last label returns
+  -- one of the statements after the last label returns
   pub last_returns : Cases → Bool
   last_returns no_case = false
   last_returns (next_case c cs) = last_of (case_returns c) cs (last_returns cs)

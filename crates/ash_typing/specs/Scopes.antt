@@ -6,7 +6,7 @@ use Rattle.ash_typing.specs.declared.types.Ty.{Ty}
 use Rattle.ash_typing.specs.Environment.{Declared, Environment, declares, with_locals}
 use Rattle.ash_typing.specs.Heads.{variables}
 
--- `first` is how many locals stand before those of the block, `gives` what the function gives
+-- `first` is how many locals there are before those of the block, `gives` what the function gives
 pub record Scope : Type 0 where
   pub env : Environment
   pub first : ℕ
@@ -44,7 +44,7 @@ with_variables scope vs = record {
 abbrev pub declared_in : Scope → written.Vars → List Declared
 declared_in scope v = variables scope.env.registered scope.env.heads v
 
--- what the statements behind one see: the variables that it declares
+-- what the statements after one see: the variables that it declares
 abbrev pub behind : Scope → written.Stmt → Scope
 behind scope (written.Declare p v) = with_variables scope (declared_in scope v)
 behind scope _ = scope

@@ -1,5 +1,5 @@
 -- The typing of statements (AngelScript manual, "Statements"), as a function whose order is that of the walk: the parts
--- of a statement in the order of the text, then the statement. So a condition that is no `bool` is told behind the
+-- of a statement in the order of the text, then the statement. So a condition that is no `bool` is reported after the
 -- faults of what it governs.
 use Rattle.std.specs.Prelude.{ℕ, List, [], ◌∷◌, ◌++◌, Bool, true, false, ◌||◌, Option, Some, None, Ok, map, option_map}
 use Rattle.std.specs.Prelude.{if◌then◌else◌}
@@ -149,7 +149,7 @@ abbrev mutual
   stmts_typed scope (written.stmt s ss) =
       stmt_typed scope s >>= λ t. stmts_typed (behind scope s) ss >>= λ ts. Ok (stmt t ts)
 
-  -- labels, each behind those before it, with the statements behind them
+  -- labels, each after those before it, with the statements after them
   pub cases_typed : Scope → Option Kind → List Label → written.Cases → Checking Cases
   cases_typed scope kind before written.no_case = Ok no_case
   cases_typed scope kind before (written.next_case (written.labelled p l ss) cs) =

@@ -1,5 +1,5 @@
 -- Labels of a `switch` (AngelScript manual, "Switch-case statements"): which constants they may have, and where
--- `default` may stand.
+-- `default` may be.
 use Rattle.std.specs.Prelude.{ℕ, Bool, true, List, Option, Some, None, Ok, if◌then◌else◌}
 use Rattle.std.specs.List.{list_any}
 use Rattle.ash_tree.specs.declared.tree.statements.Label.{Label}
@@ -21,7 +21,7 @@ unfoldable pub is_within : Option Kind → Label → Bool
 is_within None l = true
 is_within (Some k) l = holds_label k l
 
--- the constant of a label at this offset, behind the labels before it
+-- the constant of a label at this offset, after the labels before it
 unfoldable pub constant_typed : Option Kind → List Label → ℕ → Label → Checking Label
 constant_typed kind before at l =
     if is_within kind l then (if list_any (is_same_constant l) before then broken DuplicateCase at else Ok l)

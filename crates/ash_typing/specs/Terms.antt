@@ -66,12 +66,12 @@ taking _ (ty.Integer k) (form.Number n) t =
     if holds k n then record { ty = ty.Integer k; form = form.Number n; tree = Number k n } else t
 taking _ _ _ t = t
 
--- the operand of an operator beside one of this form and type: the two of a shift have a type each
+-- the operand of an operator whose other operand has this form and type: the two of a shift have a type each
 abbrev pub adapted_by : Sort → Form → Ty → Term → Term
 adapted_by sort.Shift form of t = t
 adapted_by _ form of t = taking form of t.form t
 
--- the operand of an operator beside another operand
+-- the operand of an operator whose other operand is this
 abbrev pub adapted_to : Sort → Term → Term → Term
 adapted_to s other t = adapted_by s other.form other.ty t
 
@@ -80,7 +80,7 @@ operand_type (operands.Integers k) = ty.Integer k
 operand_type operands.Bools = ty.Bool
 operand_type operands.Handles = ty.Null
 
--- the count of a shift keeps its type
+-- the count of a shift has its own type
 abbrev pub right_by : Sort → Operands → Term → Expr
 right_by sort.Shift o u = u.tree
 right_by _ o u = converted_to (operand_type o) u

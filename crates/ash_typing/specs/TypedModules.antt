@@ -109,7 +109,7 @@ pub record IsSignature (env : Environment) (m : written.InterfaceMethod) (typed 
   pub differ : IsDistinct bytes_eq (map parameter_name m.parameters)
   pub parameters : typed.parameters ≡ map (type_of_parameter env) m.parameters
 
--- An interface behind so many classes. It has at most 32 methods, which differ in name.
+-- An interface after so many classes. It has at most 32 methods, which differ in name.
 pub record IsInterface (env : Environment) (i : written.Interface) (classes : ℕ) (typed : Interface) : Type 0 where
   pub name : typed.name ≡ i.name
   pub line : typed.line ≡ i.place.line
@@ -118,7 +118,7 @@ pub record IsInterface (env : Environment) (i : written.Interface) (classes : �
   pub few : length i.methods ≤ 32
   pub methods : AllZip (IsSignature env) i.methods typed.methods
 
--- interfaces, each behind so many classes
+-- interfaces, each after so many classes
 abbrev pub AreInterfaces : Environment → List written.Interface → List ℕ → List Interface → Type 0
 AreInterfaces env [] [] [] = Unit {0}
 AreInterfaces env (i ∷ is) (before ∷ befores) (typed ∷ more) =

@@ -1,6 +1,6 @@
 -- The rules of typing of statements (AngelScript manual, "Statements"), one case for each, where every type that is
 -- named is known. A rule says when a statement has a typed tree, and which; it says neither in which order its parts
--- are walked nor what is told where it does not hold.
+-- are walked nor what is reported where it does not hold.
 --
 -- `IsStmt scope s t`: in this scope the statement `s` has the typed tree `t`.
 use Rattle.std.specs.Prelude.{◌≡◌, List, [], ◌∷◌, ◌++◌, Bool, true, false, ◌||◌, Option, Some, None, map}
@@ -157,7 +157,7 @@ mutual
         → AreStmts (behind scope s) ss ts
         → AreStmts scope (written.stmt s ss) (stmt t ts)
 
-  -- labels, behind those before them, with the statements behind each
+  -- labels, after those before them, with the statements after each
   pub data AreCases : Scope → Kind → List Label → written.Cases → Cases → Type 0 where
     no_more_cases : {scope : Scope} {k : Kind} {before : List Label}
         → AreCases scope k before written.no_case no_case

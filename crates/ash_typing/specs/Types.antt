@@ -69,7 +69,7 @@ holds Uint n = nat_lt n (2 ^ 32)
 holds Int64 n = nat_lt n (2 ^ 63)
 holds Uint64 n = true
 
--- the type of a number that stands for itself: the first that holds it
+-- the type of a number by itself: the first that holds it
 abbrev pub kind_of : ℕ → Kind
 kind_of n = if holds Int n then Int else (if holds Uint n then Uint else (if holds Int64 n then Int64 else Uint64))
 
@@ -106,7 +106,7 @@ object_of _ = None
 
 -- types of variables
 
--- whether variables may be of a type: none stands for an object of an interface, only handles do
+-- whether variables may be of a type: none is itself an object of an interface, but handles may refer to one
 abbrev pub is_variable : Ty → Bool
 is_variable ty.Bool = true
 is_variable (ty.Integer k) = true
@@ -308,7 +308,7 @@ takes sort.Identity ty.Null = true
 takes sort.Logic ty.Bool = true
 takes _ _ = false
 
--- what an operand of an unknown type is taken for, beside one of another type
+-- what an operand of an unknown type is taken for, where the other is of another type
 abbrev pub assumed : Sort → Ty → Ty → Ty
 assumed sort.Equality ty.Bool ty.Unknown = ty.Bool
 assumed sort.Identity _ ty.Unknown = ty.Null

@@ -1,8 +1,8 @@
 -- The rules of typing of expressions and of variables (AngelScript manual, "Expressions", "Conversions" and
 -- "Variables"), one case for each, where every type that is named is known. A rule says when a phrase has a type, and
--- by which typed tree; it says neither in which order its parts are walked nor what is told where it does not hold.
+-- by which typed tree; it says neither in which order its parts are walked nor what is reported where it does not hold.
 --
--- `HasType env left e t`: the expression `e` has the type of the term `t`, and its tree. `left` says that `e` stands
+-- `HasType env left e t`: the expression `e` has the type of the term `t`, and its tree. `left` says that `e` is
 -- left of `=`, where `@e` is what is written to.
 use Rattle.std.specs.Prelude.{◌≡◌, ℕ, length, List, [], ◌∷◌, Bool, true, false, Option, Some, None, map}
 use Rattle.std.specs.List.{AllByRecursion}
@@ -83,7 +83,7 @@ pub record IsKnown (env : Environment) : Type 0 where
 
 -- terms
 
--- The operator takes the two terms, each beside the other, for these operands.
+-- The operator takes the two terms, each adapted to the other, for these operands.
 abbrev pub Meet : BinaryOp → Term → Term → Operands → Type 0
 Meet op t u o = meets (sort_of op) (adapted_to (sort_of op) u t).ty (adapted_to (sort_of op) t u).ty ≡ Some o
 
@@ -225,7 +225,7 @@ mutual
         → HasType env false v u
         → fits env.heads.classes t.ty u.ty ≡ true
         → HasType env left (written.Assign p e assigns.Assign v) (term t.ty (Assign at (converted_to t.ty u)))
-    -- e op= v, where e is a place of an integer type: what stands there is an operand of its type
+    -- e op= v, where e is a place of an integer type: what is there is an operand of its type
     update : {left : Bool} {p : place.Place} {op : AssignOp} {c : Calculator} {e v : written.Expr} {t u : Term}
         {at : Place} {j k : Kind}
         → operator_of op ≡ Some c
@@ -247,7 +247,7 @@ mutual
         → AllHaveType env es ts
         → AllHaveType env (written.expr e es) (t ∷ ts)
 
-  -- operators of one level, and what stands before the first
+  -- operators of one level, and what is before the first
   pub data LinksHaveType (env : Environment) : Term → written.Links → Term → Type 0 where
     no_more : {t : Term} → LinksHaveType env t written.no_link t
     operated : {op : BinaryOp} {e : written.Expr} {ls : written.Links} {t u v : Term} {o : Operands}
@@ -256,7 +256,7 @@ mutual
         → LinksHaveType env (term (outcome (sort_of op) o) (applied op o (left_of op o t u) (right_of op o t u))) ls v
         → LinksHaveType env t (written.link op e ls) v
 
-  -- suffixes, and what stands before the first
+  -- suffixes, and what is before the first
   pub data SuffixesHaveType (env : Environment) : Term → written.Suffixes → Term → Type 0 where
     no_suffixes : {t : Term} → SuffixesHaveType env t written.no_suffix t
     suffixed : {s : written.Suffix} {ss : written.Suffixes} {t u v : Term}

@@ -31,7 +31,7 @@ pub fn typing_of_statements()
         → AreStmts scope ss us → ts ≡ us }
 {}
 
-/// That the walk tells no fault of a module exactly where the rules give it a typed tree, whatever is registered; and
+/// That the walk finds no fault of a module exactly where the rules give it a typed tree, whatever is registered; and
 /// then its answer is that tree, the only one. All types that such a module names are known. It does nothing when it
 /// runs.
 pub fn typing_of_modules()
@@ -56,7 +56,7 @@ pub fn faults_are_at_tokens()
         → IsFaultOf tokens fault }
 {}
 
-/// That where the fault of a module is told, its rule is broken: a phrase stands there of which what the rule says is
+/// That where the fault of a module is reported, its rule is broken: a phrase is there of which what the rule says is
 /// true, with what that phrase sees. It does nothing when it runs.
 pub fn faults_are_what_they_say()
     ensures broken_there { (calls : List Call) (free : ℕ) (tokens : Tokens) (is : List written.Item)

@@ -35,7 +35,7 @@ pub fn typing_of_expressions()
         → HasType env left e t → IsReadWherePlace t.form t.tree }
 {}
 
-/// The same of expressions that stand as arguments. It does nothing when it runs.
+/// The same of arguments. It does nothing when it runs.
 pub fn typing_of_arguments()
     ensures complete { (env : Environment) (es : written.Exprs) (ts : List Term)
         → AllHaveType env es ts → all_typed env es ≡ Ok (all_placed es ts) }

@@ -82,7 +82,7 @@ pub struct Loop {
     pub body: Box<Stmt>,
 }
 
-/// A label of a `switch`, with the statements behind it.
+/// A label of a `switch`, with the statements after it.
 #[cycle(typed_statements)]
 #[derive(Drop)]
 pub struct Case {
