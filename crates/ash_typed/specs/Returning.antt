@@ -1,4 +1,5 @@
--- Which typed statements return, however their conditions turn out. Control never gets past one of them.
+-- These definitions say which typed statements return, however their conditions turn out; control never gets past one
+-- of them.
 use Rattle.std.specs.Prelude.{ℕ, Option}
 use Rattle.ash_tree.specs.declared.tree.statements.Label.{Label}
 use Rattle.ash_tree.specs.declared.tree.statements.Label.TheVariants as labels
@@ -19,10 +20,12 @@ mutual
     first_breaks : {s : Stmt} {ss : Stmts} → Breaks s → AnyBreaks (stmt s ss)
     later_breaks : {s : Stmt} {ss : Stmts} → AnyBreaks ss → AnyBreaks (stmt s ss)
 
+-- A `break` after one of the labels leaves the `switch`.
 pub data BreaksOut : Cases → Type 0 where
   first_case : {l : Label} {ss : Stmts} {cs : Cases} → AnyBreaks ss → BreaksOut (next_case (labelled l ss) cs)
   later_case : {c : Case} {cs : Cases} → BreaksOut cs → BreaksOut (next_case c cs)
 
+-- One of the labels is `default`.
 pub data HasDefault : Cases → Type 0 where
   first_label : {ss : Stmts} {cs : Cases} → HasDefault (next_case (labelled labels.Default ss) cs)
   later_label : {c : Case} {cs : Cases} → HasDefault cs → HasDefault (next_case c cs)
@@ -42,7 +45,7 @@ mutual
     first_returns : {s : Stmt} {ss : Stmts} → Returns s → AnyReturns (stmt s ss)
     later_returns : {s : Stmt} {ss : Stmts} → AnyReturns ss → AnyReturns (stmt s ss)
 
-  -- one of the statements after the last label returns
+  -- One of the statements after the last label returns.
   pub data LastReturns : Cases → Type 0 where
     last_case : {l : Label} {ss : Stmts} → AnyReturns ss → LastReturns (next_case (labelled l ss) no_case)
     not_last_case : {c : Case} {cs : Cases} → LastReturns cs → LastReturns (next_case c cs)

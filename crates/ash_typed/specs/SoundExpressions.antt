@@ -25,12 +25,12 @@ use Rattle.ash_typed.specs.declared.tree.operations.Step.{Step}
 use Rattle.ash_typed.specs.Tree.{Expr, Number, Truth, Null, This, Read, Invoke, Convert, Cast, Alter, Operate, Lazily}
 use Rattle.ash_typed.specs.Tree.{Conditional, Assign, Update, Count, Call, Place, Stored, Held, Indexed, Exprs, no_expr}
 use Rattle.ash_typed.specs.Tree.{expr}
-use Rattle.ash_typed.specs.TypeOf.{ValueType, null_value, value, as_value, given, type_of_element}
+use Rattle.ash_typed.specs.TypeOf.{ValueType, null_value, value, as_value, value_of_result, type_of_element}
 use Rattle.ash_typed.specs.Signatures.{Signatures, IsSubtype}
 use Rattle.ash_typed.specs.SoundOperations.{IsWithin, IsMember, IsMethod, IsTarget, IsShift, Compares, IsOperand}
 use Rattle.ash_typed.specs.SoundOperations.{IsChange, IsCastType, IsAssigned}
 
--- what an expression sees: what the module declares, the class of the object that runs, and the types of the locals
+-- An expression sees what the module declares, the class of the object that runs, and the types of the locals.
 pub record Environment : Type 0 where
   pub signatures : Signatures
   pub this : Option ℕ
@@ -52,7 +52,7 @@ mutual
         → IsWellTyped env object (value (vars.Handle o))
         → IsMethod env.signatures o method parameters result
         → AreArguments env parameters es
-        → IsWellTyped env (Invoke object method parameters es) (given result)
+        → IsWellTyped env (Invoke object method parameters es) (value_of_result result)
     convert : {from to : Kind} {e : Expr}
         → IsWellTyped env e (value (vars.Integer from))
         → IsWellTyped env (Convert (record { from = from; to = to }) e) (value (vars.Integer to))
@@ -122,9 +122,9 @@ mutual
     call : {target : Target} {parameters : List VarType} {result : Option VarType} {es : Exprs}
         → IsTarget env.signatures target parameters result
         → AreArguments env parameters es
-        → IsWellTyped env (Call target parameters es) (given result)
+        → IsWellTyped env (Call target parameters es) (value_of_result result)
 
-  -- a place of this type
+  -- The place is of this type.
   pub data HasPlace (env : Environment) : Place → VarType → Type 0 where
     local : {slot : ℕ} {of : VarType}
         → slice_get env.locals slot ≡ Some of
@@ -141,14 +141,52 @@ mutual
         → IsWellTyped env index (value (vars.Integer kinds.Uint))
         → HasPlace env (Indexed array index of) (type_of_element of)
 
-  -- what the expression gives may be stored in a variable of the type
+  -- What the expression gives may be stored in a variable of the type.
   pub data Fits (env : Environment) : VarType → Expr → Type 0 where
-    fits : {of : VarType} {given : ValueType} {e : Expr}
+→ Fits env of e
+        → IsWellTyped env (Assign place e) (value (as_value of))
+    update : {place : Place} {kind of : Kind} {operator : Calculator} {e : Expr}
+        → HasPlace env place (vars.Integer kind)
+        → IsWellTyped env e (value (vars.Integer of))
+        → IsWellTyped env (Update place kind (record { operator = operator; of = of }) e) (value (vars.Integer kind))
+    update_by_shift : {place : Place} {kind of count : Kind} {operator : Calculator} {e : Expr}
+        → IsShift operator
+        → HasPlace env place (vars.Integer kind)
+        → IsWellTyped env e (value (vars.Integer count))
+        → IsWellTyped env (Update place kind (record { operator = operator; of = of }) e) (value (vars.Integer kind))
+    count : {place : Place} {kind : Kind} {step : Step}
+        → HasPlace env place (vars.Integer kind)
+        → IsWellTyped env (Count place kind step) (value (vars.Integer kind))
+    call : {target : Target} {parameters : List VarType} {result : Option VarType} {es : Exprs}
+        → IsTarget env.signatures target parameters result
+        → AreArguments env parameters es
+        → IsWellTyped env (Call target parameters es) (value_of_result result)
+
+  -- The place is of this type.
+  pub data HasPlace (env : Environment) : Place → VarType → Type 0 where
+    local : {slot : ℕ} {of : VarType}
+        → slice_get env.locals slot ≡ Some of
+        → HasPlace env (Stored (variables.Local slot of)) of
+    global : {place : ℕ} {of : VarType}
+        → slice_get env.signatures.globals place ≡ Some of
+        → HasPlace env (Stored (variables.Global place of)) of
+    member : {object : Expr} {o : ObjectType} {held : Member} {of : VarType}
+        → IsWellTyped env object (value (vars.Handle o))
+        → IsMember env.signatures o held of
+        → HasPlace env (Held object held) of
+    element : {array index : Expr} {of : Element}
+        → IsWellTyped env array (value (vars.Handle (objects.Array of)))
+        → IsWellTyped env index (value (vars.Integer kinds.Uint))
+        → HasPlace env (Indexed array index of) (type_of_element of)
+
+  -- What the expression gives may be stored in a variable of the type.
+  pub data Fits (env : Environment) : VarType → Expr → Type 0 where
+    fits : {of : VarType} {value_of_result : ValueType} {e : Expr}
         → IsWellTyped env e given
-        → IsSubtype env.signatures given (value (as_value of))
+        → IsSubtype env.signatures value_of_result (value (as_value of))
         → Fits env of e
 
-  -- as many arguments as parameters, each of which fits its parameter
+  -- There are as many arguments as parameters, and each fits its parameter.
   pub data AreArguments (env : Environment) : List VarType → Exprs → Type 0 where
     no_arguments : AreArguments env [] no_expr
     argument : {of : VarType} {parameters : List VarType} {e : Expr} {es : Exprs}

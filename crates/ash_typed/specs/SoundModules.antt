@@ -10,16 +10,17 @@ use Rattle.ash_typed.specs.SoundExpressions.{Environment}
 use Rattle.ash_typed.specs.SoundStatements.{Scope, IsInitialized, AreStmts}
 use Rattle.ash_typed.specs.Returning.{AnyReturns}
 
--- what items see, inside a class and outside of classes
+-- `inside s class` is what items see inside a class.
 abbrev pub inside : Signatures → ℕ → Environment
 inside s class = record { signatures = s; this = Some class; locals = [] }
 
+-- `outside s` is what items see outside of classes.
 abbrev pub outside : Signatures → Environment
 outside s = record { signatures = s; this = None; locals = [] }
 
 -- functions
 
--- the parameters are the first locals of a body, and no jump leaves it
+-- The parameters are the first locals of a body, and no jump leaves it.
 abbrev pub body_scope : Environment → Function → Scope
 body_scope env f = record {
   env = record { signatures = env.signatures; this = env.this; locals = f.parameters };
@@ -28,7 +29,7 @@ body_scope env f = record {
   may_continue = false;
 }
 
--- a function, a method or a constructor: one with a result does not end without it
+-- A function, a method or a constructor with a result does not end without it.
 pub record IsFunction (env : Environment) (f : Function) : Type 0 where
   pub parameters : AllByRecursion (IsPassedType env.signatures) f.parameters
   pub result : IsResultType env.signatures f.result
@@ -41,7 +42,7 @@ pub record IsSignature (s : Signatures) (f : Signature) : Type 0 where
   pub parameters : AllByRecursion (IsPassedType s) f.parameters
   pub result : IsResultType s f.result
 
--- there are at most 32 methods in an interface
+-- An interface has at most 32 methods.
 pub record IsInterface (s : Signatures) (classes : ℕ) (i : Interface) : Type 0 where
   pub before : i.classes_before ≤ classes
   pub few : length i.methods ≤ 32
@@ -49,11 +50,11 @@ pub record IsInterface (s : Signatures) (classes : ℕ) (i : Interface) : Type 0
 
 -- classes
 
--- the method of this place has the name, the result and the parameters that an interface declares
+-- The method of this place has the name, the result and the parameters that an interface declares.
 abbrev pub Implements : List Function → Signature → ℕ → Type 0
 Implements methods declared place = (f : Function) × (slice_get methods place ≡ Some f) × (signature_of f ≡ declared)
 
--- a class has a method for each of an interface that it lists
+-- A class has a method for each of an interface that it lists.
 abbrev pub IsImplementation : Signatures → List Function → Implementation → Type 0
 IsImplementation s methods i =
     (declared : List Signature) × (slice_get s.interfaces i.interface ≡ Some declared)
@@ -64,7 +65,7 @@ pub record IsConstructor (env : Environment) (class : List ℕ) (f : Function) :
   pub gives_nothing : f.result ≡ None
   pub function : IsFunction env f
 
--- The class of this place. It has at most 32 fields and methods. Its fields are initialized where there are no locals.
+-- The class of this place has at most 32 fields and methods, and its fields are initialized where there are no locals.
 pub record IsClass (s : Signatures) (place : ℕ) (c : Class) : Type 0 where
   pub few : length c.fields + length c.methods ≤ 32
   pub interfaces : AllByRecursion (IsImplementation s c.methods) c.interfaces
@@ -72,7 +73,7 @@ pub record IsClass (s : Signatures) (place : ℕ) (c : Class) : Type 0 where
   pub constructor : IfSome c.constructor (IsConstructor (inside s place) c.name)
   pub methods : AllByRecursion (IsFunction (inside s place)) c.methods
 
--- classes, of which the first has this place
+-- These are classes, of which the first has this place.
 abbrev pub AreClasses : Signatures → ℕ → List Class → Type 0
 AreClasses s place [] = Unit {0}
 AreClasses s place (c ∷ cs) = IsClass s place c × AreClasses s (place + 1) cs
@@ -92,8 +93,8 @@ abbrev pub names_of_globals : List Variables → List (List ℕ)
 names_of_globals [] = []
 names_of_globals (v ∷ vs) = map name_of_variable v.values ++ names_of_globals vs
 
--- A module where a host offers this. It has at most 256 classes and interfaces, and 256 variables. Its functions differ
--- in name, and so do its variables.
+-- A module where a host offers this has at most 256 classes and interfaces, and 256 variables; its functions differ in
+-- name, and so do its variables.
 pub record IsSound (host : Host) (m : Module) : Type 0 where
   pub few_types : length m.classes + length m.interfaces ≤ 256
   pub few_globals : length (signatures_of host m).globals ≤ 256

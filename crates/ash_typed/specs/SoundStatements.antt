@@ -28,8 +28,8 @@ use Rattle.ash_typed.specs.Signatures.{IsVariableType}
 use Rattle.ash_typed.specs.SoundOperations.{IsWithin}
 use Rattle.ash_typed.specs.SoundExpressions.{Environment, IsWellTyped, Fits}
 
--- what a statement sees: what its function gives, and whether it may break out of a loop or a `switch`, and go on with
--- the next turn of a loop
+-- A statement sees what its function gives, and whether it may break out of a loop or a `switch`, and go on with the
+-- next turn of a loop.
 pub record Scope : Type 0 where
   pub env : Environment
   pub gives : Option VarType
@@ -55,7 +55,7 @@ in_switch scope = record { env = scope.env; gives = scope.gives; may_break = tru
 
 -- variables
 
--- what is constructed for a variable of this type
+-- The expression constructs an object for a variable of this type.
 pub data Constructs : Target → ObjectType → Type 0 where
   class : {class : ℕ} → Constructs (targets.Class class) (objects.Class class)
   host : {kind : ℕ} → Constructs (targets.Host kind) (objects.Host kind)
@@ -65,7 +65,7 @@ abbrev pub IsNoObject : VarType → Type 0
 IsNoObject (vars.Object _) = ⊥
 IsNoObject _ = Unit {0}
 
--- what a variable begins with: an object of its own where it has an object
+-- A variable begins with this: with an object of its own where it has an object.
 pub data BeginsWith (env : Environment) : VarType → Option Expr → Type 0 where
   default : {of : VarType} → IsNoObject of → BeginsWith env of None
   stored : {of : VarType} {e : Expr} → IsNoObject of → Fits env of e → BeginsWith env of (Some e)
@@ -78,7 +78,7 @@ pub record IsInitialized (env : Environment) (v : Initialization) : Type 0 where
   pub type : IsVariableType env.signatures v.of
   pub value : BeginsWith env v.of v.value
 
--- variables of these types, each seen from the end of its own on
+-- These variables have these types, and each is seen from the end of its own on.
 pub data AreDeclared : Environment → List Initialization → List VarType → Type 0 where
   none_declared : {env : Environment} → AreDeclared env [] []
   and_declared : {env : Environment} {v : Initialization} {vs : List Initialization} {types : List VarType}
@@ -98,7 +98,7 @@ abbrev pub MayBeCondition : Environment → Option Expr → Type 0
 MayBeCondition env None = Unit {0}
 MayBeCondition env (Some e) = IsCondition env e
 
--- the head of a `for`, which declares variables of these types
+-- The head of a `for` declares variables of these types.
 pub data IsHead (env : Environment) : Head → List VarType → Type 0 where
   heads_nothing : IsHead env no_head []
   heads_variables : {vs : List Initialization} {types : List VarType}
@@ -110,7 +110,7 @@ pub data IsHead (env : Environment) : Head → List VarType → Type 0 where
 
 -- labels
 
--- what a type holds, of numbers that are this much below zero
+-- The type holds the number that is this much below zero.
 abbrev pub IsWithinMinus : Kind → ℕ → Type 0
 IsWithinMinus kinds.Int n = n ≤ 2 ^ 31
 IsWithinMinus kinds.Uint n = n ≡ 0
@@ -134,7 +134,8 @@ IsConstant kind labels.Default = ⊥
 abbrev pub Differs : Label → Label → Type 0
 Differs l other = constant_of l ≢ constant_of other
 
--- a label before these: its constant is of the type, and no label before it has the constant; `default` is the last one
+-- The constant of a label after these is of the type, and no label before it has the constant; `default` is the last
+-- one.
 pub data IsLabel (kind : Kind) : List Label → Label → Cases → Type 0 where
   constant : {before : List Label} {l : Label} {behind : Cases}
       → IsConstant kind l
@@ -195,7 +196,7 @@ mutual
         → IsStmt (in_loop scope) s
         → IsLoop scope (repeated test c steps s)
 
-  -- the statements of a block
+  -- These are the statements of a block.
   pub data AreStmts : Scope → Stmts → Type 0 where
     no_stmts : {scope : Scope} → AreStmts scope no_stmt
     declare : {scope : Scope} {line : ℕ} {vs : List Initialization} {types : List VarType} {ss : Stmts}
@@ -207,7 +208,7 @@ mutual
         → AreStmts scope ss
         → AreStmts scope (stmt s ss)
 
-  -- labels, after those before them, with the statements after each, none of which declares variables
+  -- Labels come after those before them, with the statements after each, none of which declares variables.
   pub data AreCases : Scope → Kind → List Label → Cases → Type 0 where
     no_cases : {scope : Scope} {kind : Kind} {before : List Label} → AreCases scope kind before no_case
     more_cases : {scope : Scope} {kind : Kind} {before : List Label} {l : Label} {ss : Stmts} {cs : Cases}

@@ -1,4 +1,4 @@
--- What the code's typed trees represent.
+-- These definitions say what the code's typed trees represent.
 use Rattle.std.specs.Prelude.{List, [], ◌∷◌}
 use Rattle.ash_typed.specs.declared.tree.expressions.Expr as code
 use Rattle.ash_typed.specs.declared.tree.expressions.Expr.TheVariants as variants
@@ -58,19 +58,21 @@ abbrev mutual
   exprs_of code.end_of-Expr = no_expr
   exprs_of (code.more_of-Expr e rest) = expr (expr_of e) (exprs_of rest)
 
--- an operator with its right operand, after its left operand
+-- `chained e o` is an operator with its right operand, after its left operand.
 abbrev pub chained : Expr → operand.Operand → Expr
 chained e o = Operate o.operation (converted o.before e) (expr_of o.value)
 
--- links, operators and operands, where they are in a vector
+-- `all_linked e ls` has the links of a vector after an expression.
 abbrev pub all_linked : Expr → List link.Link → Expr
 all_linked e [] = e
 all_linked e (l ∷ ls) = all_linked (linked e l) ls
 
+-- `all_chained e os` has the operators of a vector after an expression.
 abbrev pub all_chained : Expr → List operand.Operand → Expr
 all_chained e [] = e
 all_chained e (o ∷ os) = all_chained (chained e o) os
 
+-- `all_lazies op e xs` has the operands of a vector after an expression.
 abbrev pub all_lazies : Lazy → Expr → List code.Expr → Expr
 all_lazies op e [] = e
 all_lazies op e (x ∷ xs) = all_lazies op (Lazily op e (expr_of x)) xs
