@@ -143,47 +143,9 @@ mutual
 
   -- What the expression gives may be stored in a variable of the type.
   pub data Fits (env : Environment) : VarType → Expr → Type 0 where
-→ Fits env of e
-        → IsWellTyped env (Assign place e) (value (as_value of))
-    update : {place : Place} {kind of : Kind} {operator : Calculator} {e : Expr}
-        → HasPlace env place (vars.Integer kind)
-        → IsWellTyped env e (value (vars.Integer of))
-        → IsWellTyped env (Update place kind (record { operator = operator; of = of }) e) (value (vars.Integer kind))
-    update_by_shift : {place : Place} {kind of count : Kind} {operator : Calculator} {e : Expr}
-        → IsShift operator
-        → HasPlace env place (vars.Integer kind)
-        → IsWellTyped env e (value (vars.Integer count))
-        → IsWellTyped env (Update place kind (record { operator = operator; of = of }) e) (value (vars.Integer kind))
-    count : {place : Place} {kind : Kind} {step : Step}
-        → HasPlace env place (vars.Integer kind)
-        → IsWellTyped env (Count place kind step) (value (vars.Integer kind))
-    call : {target : Target} {parameters : List VarType} {result : Option VarType} {es : Exprs}
-        → IsTarget env.signatures target parameters result
-        → AreArguments env parameters es
-        → IsWellTyped env (Call target parameters es) (value_of_result result)
-
-  -- The place is of this type.
-  pub data HasPlace (env : Environment) : Place → VarType → Type 0 where
-    local : {slot : ℕ} {of : VarType}
-        → slice_get env.locals slot ≡ Some of
-        → HasPlace env (Stored (variables.Local slot of)) of
-    global : {place : ℕ} {of : VarType}
-        → slice_get env.signatures.globals place ≡ Some of
-        → HasPlace env (Stored (variables.Global place of)) of
-    member : {object : Expr} {o : ObjectType} {held : Member} {of : VarType}
-        → IsWellTyped env object (value (vars.Handle o))
-        → IsMember env.signatures o held of
-        → HasPlace env (Held object held) of
-    element : {array index : Expr} {of : Element}
-        → IsWellTyped env array (value (vars.Handle (objects.Array of)))
-        → IsWellTyped env index (value (vars.Integer kinds.Uint))
-        → HasPlace env (Indexed array index of) (type_of_element of)
-
-  -- What the expression gives may be stored in a variable of the type.
-  pub data Fits (env : Environment) : VarType → Expr → Type 0 where
-    fits : {of : VarType} {value_of_result : ValueType} {e : Expr}
-        → IsWellTyped env e given
-        → IsSubtype env.signatures value_of_result (value (as_value of))
+    fits : {of : VarType} {actual : ValueType} {e : Expr}
+        → IsWellTyped env e actual
+        → IsSubtype env.signatures actual (value (as_value of))
         → Fits env of e
 
   -- There are as many arguments as parameters, and each fits its parameter.

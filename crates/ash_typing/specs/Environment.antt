@@ -27,7 +27,7 @@ use Rattle.ash_typing.specs.Types.{ty_of, ty_of_element, var_type, result_type}
 use Rattle.ash_typed.specs.Tree.{Expr, This, Read, Stored, Held}
 use Rattle.ash_typing.specs.Terms.{array_parameters}
 
--- a variable, a parameter or a field
+-- A variable, a parameter or a field has a name and a type.
 pub record Declared : Type 0 where
   pub name : List ℕ
   pub of : Ty
@@ -35,18 +35,18 @@ pub record Declared : Type 0 where
 abbrev pub type_declared : Declared → VarType
 type_declared v = var_type v.of
 
--- a function or a method, whose result is `Void` where it has none
+-- A function or a method has the result `Void` where it has none.
 pub record Function : Type 0 where
   pub name : List ℕ
   pub result : Ty
   pub parameters : List Ty
 
--- an interface, with the methods that it declares
+-- An interface has the methods that it declares.
 pub record Interface : Type 0 where
   pub name : List ℕ
   pub methods : List Function
 
--- a class, with the places of the interfaces that it lists, and the parameters that its construction takes
+-- A class has the places of the interfaces that it lists, and the parameters that its construction takes.
 pub record Class : Type 0 where
   pub name : List ℕ
   pub interfaces : List ℕ
@@ -54,7 +54,7 @@ pub record Class : Type 0 where
   pub methods : List Function
   pub parameters : List Ty
 
--- what a module declares
+-- A module declares these.
 pub record Heads : Type 0 where
   pub interfaces : List Interface
   pub classes : List Class
@@ -70,22 +70,23 @@ pub record Environment : Type 0 where
 abbrev pub with_locals : Environment → List Declared → Environment
 with_locals env locals = record { heads = env.heads; registered = env.registered; this = env.this; locals = locals }
 
--- what each item of a module sees
+-- `seen calls h` is what each item of a module sees.
 abbrev pub seen : List host.Call → Heads → Environment
 seen calls h = record { heads = h; registered = calls; this = None; locals = [] }
 
--- what the members of the class of a place see
+-- `inside env place` is what the members of the class of a place see.
 abbrev pub inside : Environment → ℕ → Environment
 inside env place = record { heads = env.heads; registered = env.registered; this = Some place; locals = [] }
 
 -- look-ups
 
--- the first that passes, with its place; the first of the list has place `i`
+-- `first_from test i xs` is the first that passes, with its place; the first of the list has place `i`.
 abbrev pub first_from : {A : Type 0} → (A → Bool) → ℕ → List A → Option (ℕ × A)
 first_from test i [] = None
 first_from test i (x ∷ xs) = if test x then Some (i, x) else first_from test (i + 1) xs
 
--- the place and the type of the last variable of a name, where `found` is the last one before
+-- `last_named name i found vs` is the place and the type of the last variable of a name, where `found` is the last one
+-- before.
 abbrev pub last_named : List ℕ → ℕ → Option (ℕ × Ty) → List Declared → Option (ℕ × Ty)
 last_named name i found [] = found
 last_named name i found (v ∷ vs) = last_named name (i + 1) (if bytes_eq name v.name then Some (i, v.of) else found) vs
@@ -102,14 +103,14 @@ is_class name c = bytes_eq name c.name
 abbrev pub is_interface_named : List ℕ → Interface → Bool
 is_interface_named name i = bytes_eq name i.name
 
--- the class whose object runs
+-- `this_class env` is the class whose object runs.
 abbrev pub this_class : Environment → Option (ℕ × Class)
 this_class env =
     option_and_then (λ (i : ℕ). option_map (λ (c : Class). (i, c)) (slice_get env.heads.classes i)) env.this
 
 -- A name alone is a local, the nearest one, else a field of the object that runs, else a global.
 
--- a variable, and its type
+-- A variable has a tree and a type.
 abbrev pub Known : Type 0
 Known = Expr × Ty
 
@@ -118,7 +119,7 @@ local_in locals name =
     option_map (λ (found : ℕ × Ty). (Read (Stored (variables.Local found.0 (var_type found.1))), found.1))
     (last_named name 0 None locals)
 
--- a field of the class of this place
+-- `field_in class c name` is a field of the class of this place.
 abbrev pub field_in : ℕ → Class → List ℕ → Option (Member × Ty)
 field_in class c name =
     option_map (λ (found : ℕ × Declared). (members.Field class found.0 (var_type found.1.of), found.1.of))
@@ -143,7 +144,7 @@ variable_in env name =
 -- A name before brackets is a method of the object that runs, a function of the module, a registered function, a class,
 -- or a registered type.
 
--- what is called, what it gives, and what it takes: nothing can be said of a type without factory
+-- What is called has a target, what it gives, and what it takes; a type without factory takes nothing that can be said.
 pub record Callee : Type 0 where
   pub target : Callable
   pub result : Ty
@@ -209,7 +210,7 @@ host_type calls _ = None
 abbrev pub named_in : List host.Call → List ℕ → Option host.Call
 named_in calls name = find (host.takes_name name) calls
 
--- what is neither a method nor a function of the module
+-- What is called is neither a method nor a function of the module.
 abbrev pub callee_beside : Environment → List ℕ → Option Callee
 callee_beside env name =
     option_or (option_and_then service_function (named_in env.registered name))
@@ -226,11 +227,11 @@ abbrev pub type_name : Option host.Call → List ℕ
 type_name (Some (host.AType name kind)) = name
 type_name _ = []
 
--- the name of a registered type, by its kind
+-- `name_of_kind calls kind` is the name of a registered type, by its kind.
 unfoldable pub name_of_kind : List host.Call → ℕ → List ℕ
 name_of_kind calls kind = type_name (find (host.takes_kind kind) calls)
 
--- a method or a property of a registered type
+-- `host_member_in calls kind name` is a method or a property of a registered type.
 unfoldable pub host_member_in : List host.Call → ℕ → List ℕ → Option host.Call
 host_member_in calls kind name = find (host.takes_member (name_of_kind calls kind) name) calls
 
@@ -238,14 +239,14 @@ abbrev pub property : host.Call → Option (Member × Ty)
 property (host.AProperty of id value name) = Some (members.Property id (var_type (ty_of value)), ty_of value)
 property _ = None
 
--- an interface and an array hold nothing that has a name
+-- `member_in env o name` is what an object holds by this name; an interface and an array hold nothing that has a name.
 unfoldable pub member_in : Environment → ObjectType → List ℕ → Option (Member × Ty)
 member_in env (OfClass i) name = option_and_then (λ (c : Class). field_in i c name) (slice_get env.heads.classes i)
 member_in env (OfInterface i) name = None
 member_in env (OfHost kind) name = option_and_then property (host_member_in env.registered kind name)
 member_in env (OfArray of) name = None
 
--- a method, what it gives and what it takes
+-- A method has what it gives and what it takes.
 pub record Invoked : Type 0 where
   pub method : Method
   pub result : Ty
@@ -292,7 +293,7 @@ array_method_name arrays.InsertLast = codes "insertLast"
 array_method_name arrays.RemoveLast = codes "removeLast"
 array_method_name arrays.IsEmpty = codes "isEmpty"
 
--- what it gives, and what it takes, where the elements are of a type
+-- `array_method_of of method` is what a method of arrays gives and takes, where the elements are of a type.
 abbrev pub array_method_of : Element → ArrayMethod → Invoked
 array_method_of of arrays.Length =
     record { method = methods.Array arrays.Length; result = ty.Integer Uint; parameters = [] }
@@ -344,7 +345,7 @@ array_built of count = record {
   parameters = Some (array_parameters count);
 }
 
--- the construction of an object by so many arguments
+-- `construction env o count` is the construction of an object by so many arguments.
 unfoldable pub construction : Environment → ObjectType → ℕ → Option Callee
 construction env (OfClass place) count = class_construction env.heads.classes place
 construction env (OfInterface place) count = None

@@ -43,14 +43,14 @@ use Rattle.ash_typing.specs.Terms.{operand_type, applied, assignable, bracketed,
 use Rattle.ash_typing.specs.Terms.{call_of, array_parameters, Term, term, read_term, number_term, converted_to}
 use Rattle.ash_typing.specs.Terms.{right_by, adapted_by}
 
--- a typed expression, with the offset of its first token and what it is by itself
+-- A typed expression has the offset of its first token, and what it is by itself.
 pub record Typed : Type 0 where
   pub at : ℕ
   pub ty : Ty
   pub form : Form
   pub tree : Expr
 
--- a term, of an expression whose first token is at this offset
+-- `placed at t` is a term of an expression whose first token is at this offset.
 abbrev pub placed : ℕ → Term → Typed
 placed at t = record { at = at; ty = t.ty; form = t.form; tree = t.tree }
 
@@ -68,7 +68,7 @@ read_at at of tree = placed at (read_term of tree)
 abbrev pub brought : Ty → Typed → Expr
 brought to t = converted_to to (term_of t)
 
--- as in an assignment to a variable of this type
+-- The expression is converted as in an assignment to a variable of this type.
 unfoldable pub fitted : List Class → Ty → Typed → Checking Expr
 fitted classes to t = if fits classes to t.ty then Ok (brought to t) else broken TypeMismatch t.at
 
@@ -84,20 +84,20 @@ bool_of at ty.Bool = Ok true
 bool_of at ty.Unknown = Ok true
 bool_of at _ = broken TypeMismatch at
 
--- the type of a handle of what an expression gives
+-- `handle_of at of` is the type of a handle of what an expression gives.
 abbrev pub handle_of : ℕ → Ty → Checking Ty
 handle_of at (ty.Object o) = Ok (ty.Handle o)
 handle_of at (ty.Handle o) = Ok (ty.Handle o)
 handle_of at ty.Unknown = Ok ty.Unknown
 handle_of at _ = broken TypeMismatch at
 
--- the operand of an operator, where the other has this form and type
+-- `adapted s other of t` is the operand of an operator, where the other operand has this form and type.
 unfoldable pub adapted : Sort → Form → Ty → Typed → Typed
 adapted s other of t = placed t.at (adapted_by s other of (term_of t))
 
 -- operators between two operands
 
--- the operands, and what an operator takes them for
+-- Two operands are taken for operands of a class by an operator.
 pub record Met : Type 0 where
   pub left : Typed
   pub operands : Operands
@@ -130,7 +130,7 @@ counted at step t (Some p) = integer_of t.at t.ty >>= λ k. Ok (made at (ty.Inte
 abbrev pub altered : ℕ → Kind → Change → Typed → Typed
 altered at k change t = made at (ty.Integer k) (Alter change (brought (ty.Integer k) t))
 
--- the value alone, which can't be assigned
+-- `integer_at at k t` is the value alone, which can't be assigned.
 abbrev pub integer_at : ℕ → Kind → Typed → Typed
 integer_at at k t = made at (ty.Integer k) (brought (ty.Integer k) t)
 
@@ -147,7 +147,7 @@ unary_at left at unary.Increment t = counted at steps.Increment t (assignable t.
 unary_at left at unary.Decrement t = counted at steps.Decrement t (assignable t.form t.tree)
 unary_at left at unary.Handle t = handle_at left at t
 
--- `prim(e)`
+-- `prim(e)` converts so.
 abbrev pub converting : ℕ → Ty → Typed → Checking Typed
 converting at (ty.Integer k) t = integer_of t.at t.ty >>= λ j. Ok (integer_at at k t)
 converting at _ t = bool_of t.at t.ty >>= λ yes. Ok (made at ty.Bool t.tree)
@@ -170,7 +170,7 @@ choice c a b = bool_of c.at c.ty >>= λ yes. chosen c a b (common a.ty b.ty)
 
 -- assignments
 
--- what is at a place is an operand of its type
+-- What is at a place is an operand of its type.
 abbrev pub updated : ℕ → Ty → Place → Calculator → Typed → Checking Typed
 updated at of p c v =
     met (binary_of c) (made at of Null) v >>= λ m. integer_of at of
@@ -235,7 +235,7 @@ field_of env t ty.Unknown at name =
     Ok (read_at t.at ty.Unknown (Read (Held t.tree (members.Field 0 0 (var_type ty.Unknown)))))
 field_of env t _ at name = broken TypeMismatch t.at
 
--- the method, or nothing where the type of the object is unknown
+-- `invoked_at at found` is the method, or nothing where the type of the object is unknown.
 abbrev pub invoked_at : ℕ → Option Invoked → Checking (Option Invoked)
 invoked_at at None = broken UnknownName at
 invoked_at at (Some m) = Ok (Some m)
@@ -267,7 +267,7 @@ invocation_typed env t at name arguments =
 
 -- arrays
 
--- what is at an index, which is converted to `uint`
+-- `index_in i` is an index, which is converted to `uint`.
 abbrev pub index_in : Typed → Checking Expr
 index_in i = integer_of i.at i.ty >>= λ k. Ok (brought (ty.Integer kinds.Uint) i)
 
@@ -292,7 +292,7 @@ abbrev pub known_element : ℕ → Option Element → Checking Element
 known_element at None = broken UnknownType at
 known_element at (Some e) = Ok e
 
--- `array<T>(e ..)`
+-- `array<T>(e ..)` is typed so.
 abbrev pub array_typed : Environment → ℕ → written.Element → Checking (List Typed) → Checking Typed
 array_typed env at of arguments =
     known_element (at_element of) (element_named env.registered env.heads of) >>= λ e. arguments
@@ -300,14 +300,14 @@ array_typed env at of arguments =
 
 -- `cast<T>(e)`
 
--- a class or an interface, whose name is at this offset
+-- `cast_type at named` is a class or an interface, whose name is at this offset.
 abbrev pub cast_type : ℕ → Option ObjectType → Checking ObjectType
 cast_type at (Some (objects.Class class)) = Ok (objects.Class class)
 cast_type at (Some (objects.Interface interface)) = Ok (objects.Interface interface)
 cast_type at (Some _) = broken TypeMismatch at
 cast_type at None = broken UnknownType at
 
--- of an object or a handle
+-- An object or a handle is cast.
 unfoldable pub cast_at : ℕ → ObjectType → Typed → Checking Typed
 cast_at at to t = handle_of t.at t.ty >>= λ h. Ok (made at (ty.Handle to) (Cast to t.tree))
 
@@ -358,7 +358,7 @@ abbrev mutual
 
 -- offsets
 
--- where the first token of an expression is
+-- `first_at e` is where the first token of an expression is.
 abbrev pub first_at : written.Expr → ℕ
 first_at (written.Postfix p e ss) = first_at e
 first_at (written.Binary p e ls) = first_at e
@@ -366,7 +366,7 @@ first_at (written.Conditional p c a b) = first_at c
 first_at (written.Assign p e op v) = first_at e
 first_at e = (written.place_of e).at
 
--- what the walk answers of terms
+-- `all_placed es ts` is what the walk gives of terms.
 abbrev pub all_placed : written.Exprs → List Term → List Typed
 all_placed (written.expr e es) (t ∷ ts) = placed (first_at e) t ∷ all_placed es ts
 all_placed _ _ = []

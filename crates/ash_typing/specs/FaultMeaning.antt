@@ -45,24 +45,23 @@ use Rattle.ash_typing.specs.Phrases.{names_before, names_of_members, names_of_me
 use Rattle.ash_typing.specs.Phrases.{Suffixes, Initializer, Locals, Statement, Cases, Parameters, ARoutine, Variables}
 use Rattle.ash_typing.specs.Phrases.{Methods, Interfaces, ClassMembers, Items, Occurs}
 
--- how many arguments are given
-
+-- `argument_count es` is how many arguments there are.
 abbrev pub argument_count : written.Exprs → ℕ
 argument_count written.no_expr = 0
 argument_count (written.expr e es) = argument_count es + 1
 
--- to the object that a variable begins with
+-- `initial_count i` is how many arguments the object takes that a variable begins with.
 abbrev pub initial_count : written.Initializer → ℕ
 initial_count written.Default = 0
 initial_count (written.Value e) = 1
 initial_count (written.Arguments es) = argument_count (written.exprs es)
 
--- whether what is constructed takes something: of a type without factory nothing can be said
+-- What is constructed takes something: of a type without factory nothing can be said.
 abbrev pub is_constructible : Option Callee → Bool
 is_constructible None = false
 is_constructible (Some callee) = is_some callee.parameters
 
--- a class or an interface, where the names in types mean that
+-- The name of a type means a class or an interface.
 abbrev pub is_declared : Option ObjectType → Bool
 is_declared (Some (objects.Class place)) = true
 is_declared (Some (objects.Interface place)) = true
@@ -79,7 +78,7 @@ pub record Naming : Type 0 where
 abbrev pub naming : Place → List ℕ → Bool → Option Naming
 naming p text b = Some (record { at = p.at; text = text; is_refused = b })
 
--- whether a constructor is among the members before
+-- A constructor is among the members before.
 abbrev pub has_constructor : List written.Member → Bool
 has_constructor [] = false
 has_constructor (written.AConstructor c ∷ ms) = true
@@ -126,15 +125,15 @@ pub record TypeUse : Type 0 where
   pub of : written.Named
   pub is_passed : Bool
 
--- the type of variables
+-- `stored_use of` is the type of variables.
 abbrev pub stored_use : written.Named → TypeUse
 stored_use of = record { of = of; is_passed = false }
 
--- the type of a parameter or of a result
+-- `passed of` is the type of a parameter or of a result.
 abbrev pub passed : written.Named → TypeUse
 passed of = record { of = of; is_passed = true }
 
--- the type that the first of these is declared by
+-- `written_by phrase` is the type that the first of these is declared by.
 abbrev pub written_by : Phrase → Option TypeUse
 written_by (Statement scope (written.Declare p v)) = Some (stored_use v.of)
 written_by (Items env before (written.AGlobal v ∷ is)) = Some (stored_use v.of)
@@ -145,14 +144,14 @@ written_by (ClassMembers env class before (written.AMethod f ∷ ms)) = option_m
 written_by (Methods env before (m ∷ ms)) = option_map passed m.result
 written_by _ = None
 
--- whether an object of this type may not be so: objects are passed by handles, and no variable is itself an object
--- of an interface
+-- An object of this type may not be so: objects are passed by handles, and no variable is itself an object of an
+-- interface.
 abbrev pub is_misplaced : TypeUse → ObjectType → Bool
 is_misplaced used o = used.is_passed || is_interface o
 
 -- what is written to
 
--- whether something may be assigned to what is typed so: to a place, of a type that takes a value
+-- Something may be assigned to what is typed so: to a place, of a type that takes a value.
 abbrev pub takes_value : Typed → Bool
 takes_value t = is_some (assignable t.form t.tree) && is_stored t.form t.ty
 

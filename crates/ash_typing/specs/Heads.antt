@@ -33,7 +33,7 @@ abbrev pub interface_type : List Interface → List ℕ → Option ObjectType
 interface_type interfaces name =
     option_map (λ (found : ℕ × Interface). OfInterface found.0) (first_from (is_interface_named name) 0 interfaces)
 
--- a class of the module, else an interface, else a registered type
+-- The name is that of a class of the module, else of an interface, else of a registered type.
 unfoldable pub object_named : List host.Call → Heads → List ℕ → Option ObjectType
 object_named calls named name =
     option_or (class_type named.classes name)
@@ -69,7 +69,7 @@ abbrev pub handle_ty : Option ObjectType → Ty
 handle_ty None = ty.Unknown
 handle_ty (Some o) = ty.Handle o
 
--- the type that is written
+-- `ty_named calls named of` is the type that is written.
 unfoldable pub ty_named : List host.Call → Heads → written.Named → Ty
 ty_named calls named (written.Prim p primitive) = ty_of primitive
 ty_named calls named (written.Object p name) = object_ty (object_named calls named name)
@@ -77,14 +77,14 @@ ty_named calls named (written.Handle p name) = handle_ty (object_named calls nam
 ty_named calls named (written.Array p of) = object_ty (array_named calls named of)
 ty_named calls named (written.ArrayHandle p of) = handle_ty (array_named calls named of)
 
--- what a function gives
+-- `result_named calls named result` is what a function gives.
 abbrev pub result_named : List host.Call → Heads → Option written.Named → Ty
 result_named calls named None = ty.Void
 result_named calls named (Some of) = ty_named calls named of
 
 -- the same where they are seen
 
--- the type that is written
+-- `ty_in env of` is the type that is written, where it is seen.
 abbrev pub ty_in : Environment → written.Named → Ty
 ty_in env of = ty_named env.registered env.heads of
 
@@ -99,7 +99,7 @@ declared of d = record { name = d.name; of = of }
 abbrev pub variables : List host.Call → Heads → written.Vars → List Declared
 variables calls named v = map (declared (ty_named calls named v.of)) v.decls
 
--- the variables of several declarations
+-- `all_variables calls named vs` are the variables of several declarations.
 abbrev pub all_variables : List host.Call → Heads → List written.Vars → List Declared
 all_variables calls named [] = []
 all_variables calls named (v ∷ vs) = variables calls named v ++ all_variables calls named vs
@@ -124,7 +124,7 @@ signature_head calls named m = record {
 abbrev pub interface_head : List host.Call → Heads → written.Interface → Interface
 interface_head calls named i = record { name = i.name; methods = map (signature_head calls named) i.methods }
 
--- what the construction of an object takes: nothing where no constructor is written
+-- `constructed_by calls named cs` is what the construction of an object takes: nothing where no constructor is written.
 abbrev pub constructed_by : List host.Call → Heads → List written.Constructor → List Ty
 constructed_by calls named [] = []
 constructed_by calls named (c ∷ cs) = map (parameter_ty calls named) c.parameters
@@ -161,7 +161,7 @@ named_class c = record { name = c.name; interfaces = []; fields = []; methods = 
 abbrev pub named_interface : written.Interface → Interface
 named_interface i = record { name = i.name; methods = [] }
 
--- what types name
+-- `names_in is` is what types name.
 abbrev pub names_in : List written.Item → Heads
 names_in is = record {
   interfaces = map named_interface (interfaces_of is);

@@ -42,13 +42,13 @@ pub record Names : Type 0 where
 abbrev pub is_taken : Names → List ℕ → Bool
 is_taken names name = is_some (named_in names.registered name) || list_any (bytes_eq name) names.taken
 
--- a name at this offset that was not taken, and is from now on
+-- The name at this offset was not taken, and is from now on.
 unfoldable pub untaken : Names → ℕ → List ℕ → Checking Names
 untaken names at name =
     if is_taken names name then broken NameTaken at
     else Ok (record { registered = names.registered; taken = names.taken ++ name ∷ []; room = names.room })
 
--- one more, at this offset
+-- There may be one more, at this offset.
 unfoldable pub one_more : Names → ℕ → Checking Names
 one_more names at =
     if nat_eq names.room 0 then broken TooMany at
@@ -59,7 +59,7 @@ placed names at name = untaken names at name >>= λ next. one_more next at
 
 -- types
 
--- the type of a parameter or of a result: objects are passed by handles
+-- A parameter or a result may be of this type: objects are passed by handles.
 unfoldable pub passed_ty : written.Named → Ty → Checking Ty
 passed_ty of ty.Unknown = broken UnknownType (at_type_name of)
 passed_ty of (ty.Object o) = broken Misplaced (at_type of)
@@ -71,7 +71,7 @@ result_typed env (Some of) = passed_ty of (ty_in env of)
 
 -- variables of a module or of a class
 
--- variables so far
+-- A row has the variables so far.
 pub record Row : Type 0 where
   pub names : Names
   pub variables : Variables
@@ -101,7 +101,7 @@ parameters_typed env before (p ∷ ps) =
     passed_ty p.of (ty_in env p.of) >>= λ of. if list_any (declares p.name) before then broken NameTaken p.place.at
     else parameters_typed env (before ++ record { name = p.name; of = of } ∷ []) ps
 
--- a function with a result has to return
+-- A function with a result has to return.
 unfoldable pub returning : ℕ → Ty → List written.Stmt → Body → Checking Body
 returning at of statements body = if is_void of || returns_in statements then Ok body else broken NoReturn at
 
@@ -119,7 +119,7 @@ routine_typed env of c =
 
 -- interfaces
 
--- an interface so far
+-- These are the names and the methods of an interface so far.
 pub record Signatures : Type 0 where
   pub names : Names
   pub methods : List Signature
@@ -128,7 +128,7 @@ abbrev pub signature_of : List ℕ → Ty → List Declared → Signature
 signature_of name of parameters =
     record { name = name; result = result_type of; parameters = map type_declared parameters }
 
--- a method that an interface declares, after those before it
+-- An interface declares a method, after those before it.
 unfoldable pub signature_typed : Environment → Signatures → written.InterfaceMethod → Checking Signatures
 signature_typed env ss m =
     result_typed env m.result >>= λ of. placed ss.names m.place.at m.name
@@ -139,7 +139,7 @@ abbrev pub signatures_typed : Environment → Signatures → List written.Interf
 signatures_typed env ss [] = Ok ss
 signatures_typed env ss (m ∷ ms) = signature_typed env ss m >>= λ next. signatures_typed env next ms
 
--- there are at most 32 methods in an interface
+-- An interface has at most 32 methods.
 abbrev pub no_signatures : Signatures
 no_signatures = record { names = record { registered = []; taken = []; room = 32 }; methods = [] }
 
@@ -147,13 +147,13 @@ abbrev pub interface_of : written.Interface → ℕ → Signatures → Interface
 interface_of i classes ss =
     record { name = i.name; line = i.place.line; classes_before = classes; methods = ss.methods }
 
--- an interface after so many classes
+-- An interface comes after so many classes.
 unfoldable pub interface_typed : Environment → ℕ → written.Interface → Checking Interface
 interface_typed env classes i = signatures_typed env no_signatures i.methods >>= λ ss. Ok (interface_of i classes ss)
 
 -- the interfaces that a class lists
 
--- an interface, whose name is at this offset
+-- The name of an interface is at this offset.
 abbrev pub listed_at : ℕ → Option ObjectType → Checking ℕ
 listed_at at (Some (OfInterface place)) = Ok place
 listed_at at (Some (OfClass place)) = broken Misplaced at
@@ -163,12 +163,12 @@ abbrev pub implemented_at : ℕ → ℕ → Option (List ℕ) → Checking Imple
 implemented_at at interface None = broken TypeMismatch at
 implemented_at at interface (Some methods) = Ok (record { interface = interface; methods = methods })
 
--- the interfaces so far
+-- These are the interfaces so far.
 pub record Listed : Type 0 where
   pub names : Names
   pub interfaces : List Implementation
 
--- one of those that the class of this place lists, after those before it
+-- The class of this place lists an interface, after those before it.
 unfoldable pub listed_typed : Environment → ℕ → Listed → written.TypeName → Checking Listed
 listed_typed env class listed n =
     listed_at n.place.at (object_named env.registered env.heads n.name)
@@ -185,7 +185,7 @@ none_listed = record { names = record { registered = []; taken = []; room = 0 };
 
 -- classes
 
--- a class so far
+-- These are the members of a class so far.
 pub record Members : Type 0 where
   pub names : Names
   pub class : Class
@@ -220,7 +220,7 @@ with_constructor c f = record {
   methods = c.methods;
 }
 
--- a class has one constructor, which has its name
+-- A class has one constructor, which has its name.
 unfoldable pub constructor_named : Class → written.Constructor → Checking Routine
 constructor_named class c =
     if is_some class.constructor then broken NameTaken c.place.at
@@ -241,7 +241,7 @@ abbrev pub members_typed : Environment → Members → List written.Member → C
 members_typed env ms [] = Ok ms
 members_typed env ms (m ∷ rest) = member_typed env ms m >>= λ next. members_typed env next rest
 
--- there are at most 32 fields and methods in a class
+-- A class has at most 32 fields and methods.
 abbrev pub no_members : written.Class → List Implementation → Members
 no_members c listed = record {
   names = record { registered = []; taken = []; room = 32 };
@@ -258,7 +258,7 @@ no_members c listed = record {
 abbrev pub class_of_members : Members → Class
 class_of_members ms = ms.class
 
--- the class of this place
+-- The class of this place is typed so.
 unfoldable pub class_typed : Environment → ℕ → written.Class → Checking Class
 class_typed env place c =
     all_listed env place none_listed c.interfaces
@@ -267,12 +267,12 @@ class_typed env place c =
 
 -- modules
 
--- a module so far
+-- These are the items of a module so far.
 pub record Walked : Type 0 where
   pub names : Names
   pub typed : Module
 
--- there are at most 256 classes and interfaces in a module
+-- A module has at most 256 classes and interfaces.
 unfoldable pub room_for_type : ℕ → Module → Checking ℕ
 room_for_type at m =
     if nat_le 256 (length m.classes + length m.interfaces) then broken TooMany at else Ok (length m.classes)
@@ -293,7 +293,7 @@ abbrev pub with_globals : Module → Variables → Module
 with_globals m v =
     record { interfaces = m.interfaces; classes = m.classes; functions = m.functions; globals = m.globals ++ v ∷ [] }
 
--- the next item
+-- The next item is typed so.
 unfoldable pub item_typed : Environment → Walked → written.Item → Checking Walked
 item_typed env w (written.AClass c) =
     untaken w.names c.place.at c.name >>= λ names. room_for_type c.place.at w.typed >>= λ place. class_typed env place c
@@ -313,7 +313,7 @@ abbrev pub items_typed : Environment → Walked → List written.Item → Checki
 items_typed env w [] = Ok w
 items_typed env w (i ∷ is) = item_typed env w i >>= λ next. items_typed env next is
 
--- there are at most 256 variables in a module
+-- A module has at most 256 variables.
 abbrev pub nothing : List host.Call → Walked
 nothing calls = record {
   names = record { registered = calls; taken = []; room = 256 };

@@ -58,36 +58,36 @@ may_be_array (ty.Handle o) = is_array_object o
 may_be_array ty.Unknown = true
 may_be_array _ = false
 
--- what `cast` makes
+-- A `cast` makes an object of this type.
 abbrev pub is_cast_type : ObjectType → Bool
 is_cast_type (objects.Class class) = true
 is_cast_type (objects.Interface interface) = true
 is_cast_type _ = false
 
--- what an operator before an operand takes
+-- An operator before an operand takes this type.
 abbrev pub takes_operand : UnaryOp → Ty → Bool
 takes_operand unary.Not t = may_be_bool t
 takes_operand unary.Handle t = may_be_object t
 takes_operand _ t = may_be_integer t
 
--- what becomes a value of a primitive type
+-- A value of the second type becomes one of the first, which is primitive.
 abbrev pub converts : Ty → Ty → Bool
 converts (ty.Integer k) t = may_be_integer t
 converts _ t = may_be_bool t
 
--- `++` and `--` after a place
+-- The suffix is `++` or `--`.
 abbrev pub counts_after : written.Suffix → Bool
 counts_after written.Increment = true
 counts_after written.Decrement = true
 counts_after _ = false
 
--- what names a member of an object
+-- The suffix names a member of an object.
 abbrev pub names_member : written.Suffix → Bool
 names_member (written.Field p text) = true
 names_member (written.Method p text es) = true
 names_member _ = false
 
--- the condition of a statement that has one, but of a `for`
+-- `condition_of s` is the condition of a statement that has one, but of a `for`.
 abbrev pub condition_of : written.Stmt → Option written.Expr
 condition_of (written.If p c s) = Some c
 condition_of (written.IfElse p c s t) = Some c

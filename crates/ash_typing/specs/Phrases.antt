@@ -77,7 +77,7 @@ pub data Phrase : Type 0 where
   -- items, after these
   Items : Environment → List written.Item → List written.Item → Phrase
 
--- what a phrase sees
+-- `environment_of phrase` is what a phrase sees.
 abbrev pub environment_of : Phrase → Environment
 environment_of (Expression env e) = env
 environment_of (Arguments env es) = env

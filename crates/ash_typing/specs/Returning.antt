@@ -30,7 +30,7 @@ abbrev pub has_default : Cases → Bool
 has_default no_case = false
 has_default (next_case (labelled p l ss) cs) = is_default l || has_default cs
 
--- what is said of the last label, where others follow by those
+-- `last_of here cs later` is what is said of the last label, where others follow by those.
 abbrev pub last_of : Bool → Cases → Bool → Bool
 last_of here no_case later = here
 last_of here (next_case c cs) later = later
@@ -55,6 +55,6 @@ abbrev mutual
   pub case_returns : Case → Bool
   case_returns (labelled p l ss) = any_returns ss
 
--- whether a body returns, however its conditions turn out
+-- A body returns, however its conditions turn out.
 unfoldable pub returns_in : List Stmt → Bool
 returns_in body = any_returns (stmts body)

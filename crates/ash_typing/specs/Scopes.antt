@@ -6,7 +6,7 @@ use Rattle.ash_typing.specs.declared.types.Ty.{Ty}
 use Rattle.ash_typing.specs.Environment.{Declared, Environment, declares, with_locals}
 use Rattle.ash_typing.specs.Heads.{variables}
 
--- `first` is how many locals there are before those of the block, `gives` what the function gives
+-- There are `first` locals before those of the block, and the function gives `gives`.
 pub record Scope : Type 0 where
   pub env : Environment
   pub first : ℕ
@@ -14,7 +14,7 @@ pub record Scope : Type 0 where
   pub in_loop : Bool
   pub in_switch : Bool
 
--- in a block none of its names is taken yet
+-- No name of a block is taken yet where the block begins.
 abbrev pub block_of : Scope → Scope
 block_of scope = record {
   env = scope.env;
@@ -44,7 +44,7 @@ with_variables scope vs = record {
 abbrev pub declared_in : Scope → written.Vars → List Declared
 declared_in scope v = variables scope.env.registered scope.env.heads v
 
--- what the statements after one see: the variables that it declares
+-- `behind scope s` is what the statements after one see: the variables that it declares are added.
 abbrev pub behind : Scope → written.Stmt → Scope
 behind scope (written.Declare p v) = with_variables scope (declared_in scope v)
 behind scope _ = scope
@@ -52,6 +52,6 @@ behind scope _ = scope
 abbrev pub is_taken : Scope → List ℕ → Bool
 is_taken scope name = list_any (declares name) (drop scope.first scope.env.locals)
 
--- parameters and the variables of the body are one block
+-- Parameters and the variables of the body are one block.
 abbrev pub body_scope : Environment → Ty → Scope
 body_scope env of = record { env = env; first = 0; gives = of; in_loop = false; in_switch = false }

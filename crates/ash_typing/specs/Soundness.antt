@@ -24,7 +24,7 @@ signature_of_class c = record {
   methods = map signature_of c.methods;
 }
 
--- what a module declares, where these calls are registered
+-- `signatures_in calls heads` is what a module declares, where these calls are registered.
 abbrev pub signatures_in : List host.Call → Heads → Signatures
 signatures_in calls heads = record {
   host = offered calls;
@@ -34,7 +34,7 @@ signatures_in calls heads = record {
   globals = map type_declared heads.globals;
 }
 
--- what an expression sees
+-- `seen_in env` is what an expression sees.
 abbrev pub seen_in : Environment → expressions.Environment
 seen_in env = record {
   signatures = signatures_in env.registered env.heads;
@@ -42,7 +42,7 @@ seen_in env = record {
   locals = map type_declared env.locals;
 }
 
--- what a statement sees
+-- `seen_at scope` is what a statement sees.
 abbrev pub seen_at : Scope → statements.Scope
 seen_at scope = record {
   env = seen_in scope.env;

@@ -27,11 +27,11 @@ use Rattle.ash_typing.specs.Labels.{is_last}
 
 -- variables
 
--- a variable whose name is not taken in its block
+-- The name of the variable is not taken in its block.
 unfoldable pub fresh : Scope → Ty → written.Decl → Checking Declared
 fresh scope of d = if is_taken scope d.name then broken NameTaken d.place.at else Ok (declared of d)
 
--- variables of the type at this offset, each seen from the end of its own on
+-- Variables of the type at this offset are each seen from the end of their own on.
 abbrev pub decls_typed : Scope → ℕ → Ty → List written.Decl → Checking (List Initialization)
 decls_typed scope at of [] = Ok []
 decls_typed scope at of (d ∷ ds) =
@@ -41,7 +41,7 @@ decls_typed scope at of (d ∷ ds) =
 unfoldable pub vars_typed : Scope → written.Vars → Checking (List Initialization)
 vars_typed scope v = known_ty v.of (ty_in scope.env v.of) >>= λ of. decls_typed scope (at_type v.of) of v.decls
 
--- the head of a `for`: nothing, variables or an expression, and no other statement
+-- The head of a `for` is nothing, variables or an expression, and no other statement.
 unfoldable pub head_typed : Scope → written.Stmt → Checking Head
 head_typed scope (written.Empty p) = Ok no_head
 head_typed scope (written.Declare p v) = vars_typed scope v >>= λ values. Ok (declared_head values)
@@ -78,7 +78,7 @@ unfoldable pub do_while_typed : ℕ → Checking Stmt → Checking Typed → Che
 do_while_typed line body condition =
     body >>= λ s. condition >>= λ c. condition_is c >>= λ yes. Ok (Repeat line (repeated Last (Some c.tree) [] s))
 
--- the head of a `for` may have no condition
+-- The head of a `for` may have no condition.
 abbrev pub maybe_typed : Environment → Option written.Expr → Checking (Option Typed)
 maybe_typed env None = Ok None
 maybe_typed env (Some e) = typed env false e >>= λ t. Ok (Some t)
@@ -96,20 +96,20 @@ for_typed line head condition steps body =
     head >>= λ h. condition >>= λ c. steps >>= λ ts. body >>= λ s. maybe_condition_is c
     >>= λ yes. Ok (For line h (repeated First (option_map tree_of c) (map tree_of ts) s))
 
--- `break` and `continue`, where there is something that they leave
+-- A `break` must have something that it leaves.
 unfoldable pub break_typed : Bool → Place → Checking Stmt
 break_typed leaves p = if leaves then Ok (Break p.line) else broken Misplaced p.at
 
 unfoldable pub continue_typed : Bool → Place → Checking Stmt
 continue_typed leaves p = if leaves then Ok (Continue p.line) else broken Misplaced p.at
 
--- whether a function of this type returns without a value
+-- A function of this type returns without a value.
 abbrev pub gives_nothing : Ty → Bool
 gives_nothing ty.Void = true
 gives_nothing ty.Unknown = true
 gives_nothing _ = false
 
--- a value that is returned at this offset
+-- A value is returned at this offset.
 unfoldable pub returned : List Class → Ty → ℕ → Typed → Checking Expr
 returned classes of at t = if is_void of then broken TypeMismatch at else fitted classes of t
 
@@ -156,6 +156,6 @@ abbrev mutual
       label_typed kind before (is_last cs) p.at l >>= λ label. stmts_typed scope ss
       >>= λ body. cases_typed scope kind (before ++ l ∷ []) cs >>= λ rest. Ok (next_case (labelled label body) rest)
 
--- the body of a function that gives this type; its parameters are the locals
+-- The body of a function that gives this type is typed so; its parameters are the locals.
 unfoldable pub body_typed : Environment → Ty → List written.Stmt → Checking Body
 body_typed env of body = stmts_typed (body_scope env of) (written.stmts body)

@@ -27,12 +27,12 @@ use Rattle.ash_typing.specs.Returning.{is_default}
 use Rattle.ash_typing.specs.Labels.{holds_label, is_same_constant, is_last}
 use Rattle.ash_typing.specs.Scopes.{Scope, block_of, loop_of, switch_of, with_variables, behind, is_taken}
 
--- a scope whose types are known
+-- The types of a scope are known.
 pub record IsKnownScope (scope : Scope) : Type 0 where
   pub env : IsKnown scope.env
   pub gives : IsKnownType scope.gives
 
--- variables of a type, each seen from the end of its own on: none of their names is taken in the block
+-- Variables of a type are each seen from the end of their own on, and none of their names is taken in the block.
 pub data AreDeclared : Scope → Ty → List written.Decl → List Initialization → Type 0 where
   none_declared : {scope : Scope} {of : Ty} → AreDeclared scope of [] []
   and_declared : {scope : Scope} {of : Ty} {d : written.Decl} {ds : List written.Decl} {value : Initialization}
@@ -42,21 +42,21 @@ pub data AreDeclared : Scope → Ty → List written.Decl → List Initializatio
       → AreDeclared (with_variables scope (declared of d ∷ [])) of ds values
       → AreDeclared scope of (d ∷ ds) (value ∷ values)
 
--- a condition, of type `bool`
+-- A condition is of type `bool`.
 pub data IsCondition : Environment → written.Expr → Expr → Type 0 where
   condition : {env : Environment} {e : written.Expr} {t : Term}
       → HasType env false e t
       → t.ty ≡ ty.Bool
       → IsCondition env e t.tree
 
--- the head of a `for` may have no condition
+-- The head of a `for` may have no condition.
 pub data MayBeCondition : Environment → Option written.Expr → Option Expr → Type 0 where
   endless : {env : Environment} → MayBeCondition env None None
   until : {env : Environment} {e : written.Expr} {tree : Expr}
       → IsCondition env e tree
       → MayBeCondition env (Some e) (Some tree)
 
--- the head of a `for`: nothing, variables or an expression
+-- The head of a `for` is nothing, variables or an expression.
 pub data IsHead : Scope → written.Stmt → Head → Type 0 where
   heads_nothing : {scope : Scope} {p : place.Place} → IsHead scope (written.Empty p) no_head
   heads_variables : {scope : Scope} {p : place.Place} {v : written.Vars} {values : List Initialization}
@@ -149,7 +149,7 @@ mutual
         → fits scope.env.heads.classes scope.gives t.ty ≡ true
         → IsStmt scope (written.Return p (Some e)) (Return p.line (Some (converted_to scope.gives t)))
 
-  -- statements, each of which sees the variables of those before it
+  -- Statements each see the variables of those before them.
   pub data AreStmts : Scope → written.Stmts → Stmts → Type 0 where
     no_more_stmts : {scope : Scope} → AreStmts scope written.no_stmt no_stmt
     more_stmts : {scope : Scope} {s : written.Stmt} {ss : written.Stmts} {t : Stmt} {ts : Stmts}
@@ -157,7 +157,7 @@ mutual
         → AreStmts (behind scope s) ss ts
         → AreStmts scope (written.stmt s ss) (stmt t ts)
 
-  -- labels, after those before them, with the statements after each
+  -- Labels come after those before them, with the statements after each.
   pub data AreCases : Scope → Kind → List Label → written.Cases → Cases → Type 0 where
     no_more_cases : {scope : Scope} {k : Kind} {before : List Label}
         → AreCases scope k before written.no_case no_case

@@ -51,11 +51,11 @@ is_known _ = true
 abbrev pub IsKnownType : Ty → Type 0
 IsKnownType of = is_known of ≡ true
 
--- a type of variables
+-- Variables may be of this type.
 abbrev pub IsVariableType : Ty → Type 0
 IsVariableType of = is_variable of ≡ true
 
--- what a function gives
+-- A function may give this.
 abbrev pub IsResultType : Ty → Type 0
 IsResultType of = is_result of ≡ true
 
@@ -87,11 +87,11 @@ pub record IsKnown (env : Environment) : Type 0 where
 abbrev pub Meet : BinaryOp → Term → Term → Operands → Type 0
 Meet op t u o = meets (sort_of op) (adapted_to (sort_of op) u t).ty (adapted_to (sort_of op) t u).ty ≡ Some o
 
--- what becomes of the left one
+-- `left_of` is what becomes of the left operand.
 abbrev pub left_of : BinaryOp → Operands → Term → Term → Expr
 left_of op o t u = converted_to (operand_type o) (adapted_to (sort_of op) u t)
 
--- what becomes of the right one
+-- `right_of` is what becomes of the right operand.
 abbrev pub right_of : BinaryOp → Operands → Term → Term → Expr
 right_of op o t u = right_by (sort_of op) o (adapted_to (sort_of op) t u)
 
@@ -239,7 +239,7 @@ mutual
         (term t.ty (Update at k (record { operator = c; of = j })
         (right_of (binary_of c) (operands.Integers j) (term t.ty Null) u)))
 
-  -- each of the arguments
+  -- Each of the arguments has the type of its term.
   pub data AllHaveType (env : Environment) : written.Exprs → List Term → Type 0 where
     none_left : AllHaveType env written.no_expr []
     each : {e : written.Expr} {es : written.Exprs} {t : Term} {ts : List Term}
@@ -247,7 +247,7 @@ mutual
         → AllHaveType env es ts
         → AllHaveType env (written.expr e es) (t ∷ ts)
 
-  -- operators of one level, and what is before the first
+  -- Operators of one level have the type of the term, with what is before the first.
   pub data LinksHaveType (env : Environment) : Term → written.Links → Term → Type 0 where
     no_more : {t : Term} → LinksHaveType env t written.no_link t
     operated : {op : BinaryOp} {e : written.Expr} {ls : written.Links} {t u v : Term} {o : Operands}
@@ -256,7 +256,7 @@ mutual
         → LinksHaveType env (term (outcome (sort_of op) o) (applied op o (left_of op o t u) (right_of op o t u))) ls v
         → LinksHaveType env t (written.link op e ls) v
 
-  -- suffixes, and what is before the first
+  -- Suffixes have the type of the term, with what is before the first.
   pub data SuffixesHaveType (env : Environment) : Term → written.Suffixes → Term → Type 0 where
     no_suffixes : {t : Term} → SuffixesHaveType env t written.no_suffix t
     suffixed : {s : written.Suffix} {ss : written.Suffixes} {t u v : Term}
@@ -303,7 +303,7 @@ abbrev pub is_object : Ty → Bool
 is_object (ty.Object o) = true
 is_object _ = false
 
--- a constructed object
+-- An object is constructed.
 pub data IsConstructed (env : Environment) : ObjectType → List Term → Expr → Type 0 where
   construct : {o : ObjectType} {callee : Callee} {parameters : List Ty} {ts : List Term} {trees : Exprs}
       → construction env o (length ts) ≡ Some callee
@@ -311,7 +311,7 @@ pub data IsConstructed (env : Environment) : ObjectType → List Term → Expr �
       → AreArguments env.heads.classes parameters ts trees
       → IsConstructed env o ts (call_of callee.target (map var_type parameters) trees)
 
--- what a variable of a type begins with: where nothing is named, with zero, `false` or null
+-- A variable of a type begins with this: where nothing is named, with zero, `false` or null.
 pub data BeginsWith (env : Environment) : Ty → written.Initializer → Option Expr → Type 0 where
   -- T x
   empty : {of : Ty}
@@ -338,7 +338,7 @@ pub data BeginsWith (env : Environment) : Ty → written.Initializer → Option 
       → IsConstructed env o ts tree
       → BeginsWith env (ty.Object o) (written.Arguments es) (Some tree)
 
--- a declared variable of a type
+-- A variable of a type is declared.
 pub data IsDeclared (env : Environment) : Ty → written.Decl → Initialization → Type 0 where
   declared : {of : Ty} {d : written.Decl} {value : Option Expr}
       → BeginsWith env of d.initializer value
