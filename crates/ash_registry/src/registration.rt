@@ -1,31 +1,26 @@
-//! The calls that register.
-ghost use Rattle.std.specs.Prelude.{◌≡◌, ◌||◌, ℕ, List, false, [], ◌∷◌, Option, Some, count_by, map, nat_le, not};
-ghost use Rattle.std.specs.Prelude.{string_bytes, IfOk};
+//! The calls that register types and services, and members of types.
+ghost use Rattle.std.specs.Prelude.{◌≡◌, [], ◌∷◌, Option, Some, count_by, map, nat_le, not, string_bytes, IfOk};
 ghost use Rattle.std.specs.List.{filter_map, list_any};
 ghost use Rattle.std.specs.Option.{option_map};
 ghost use Rattle.ash_tree.specs.Tree.{Declaration as DeclarationTree};
 ghost use Rattle.ash_tree.specs.Views.{declaration_of, signature_of, type_of};
-ghost use Rattle.ash_registrations.specs.Calls.{call_of, AType, AFactory, AMethod, AProperty, AService, AFunction};
-ghost use Rattle.ash_registrations.specs.Calls.{is_member_of, is_service, is_function, takes_function, takes_kind};
-ghost use Rattle.ash_registrations.specs.Calls.{takes_name};
-ghost use Rattle.std.specs.Str.{bytes_eq};
-ghost use Rattle.ash_registry.specs.declared.fault.RegistryFault.TheVariants.{BadDeclaration, NameTaken, NoService};
-ghost use Rattle.ash_registry.specs.declared.fault.RegistryFault.TheVariants.{UnknownType, NotPrimitive};
+ghost use Rattle.ash_registrations.specs.Calls.{AType, AFactory, AMethod, AProperty, AService, is_member_of};
+ghost use Rattle.ash_registrations.specs.Calls.{is_service, takes_kind};
+ghost use Rattle.ash_registry.specs.declared.fault.RegistryFault.TheVariants.{BadDeclaration, NameTaken, UnknownType};
+ghost use Rattle.ash_registry.specs.declared.fault.RegistryFault.TheVariants.{NotPrimitive};
 ghost use Rattle.ash_registry.specs.Registered.{registered};
 ghost use Rattle.ash_registry.specs.Refusals.{RegisteredIf, RefusedWithoutAllocating, cause, cause_of_many};
 ghost use Rattle.ash_registry.specs.Refusals.{refusal_of_type, refusal_of_service, refusal_of_method};
 ghost use Rattle.ash_registry.specs.Refusals.{refusal_of_declared_method, refusal_of_signature, refusal_of_property};
 ghost use Rattle.ash_registry.specs.Refusals.{refusal_of_declared_property, refusal_of_primitive, refusal_of_value};
 ghost use Rattle.ash_registry.specs.Refusals.{is_known, primitive_of, value_call, is_unknown, refusal_of_factory};
-ghost use Rattle.ash_registry.specs.Refusals.{refusal_of_declared_factory, refusal_of_constructor, refusal_of_function};
-ghost use Rattle.ash_registry.specs.Refusals.{refusal_of_declared_function, refusal_of_operation, gives_handle_of};
+ghost use Rattle.ash_registry.specs.Refusals.{refusal_of_declared_factory, refusal_of_constructor, gives_handle_of};
 ghost use Rattle.ash_registry.specs.Refusals.{primitive_operation, method_call, property_call, factory_call};
-ghost use Rattle.ash_registry.specs.Refusals.{function_call};
 ghost use Rattle.ash_registry.specs.NameClasses.{name_class_of};
 ghost use Rattle.ash_registry.specs.Texts.{NameClass, AName, HasNameClass, IsDeclared};
 
-use crate::texts::{NameKind, read_declaration, read_name};
 use crate::signatures::{gives_handle, has_object, names_object, operation, primitives};
+use crate::texts::{NameKind, read_declaration, read_name};
 use crate::{Call, Registry, RegistryFault};
 use ash_tree::{Declaration, Primitive, Property, Signature, Type, TypeKind};
 
@@ -34,9 +29,6 @@ const MAX_TYPES: usize = 256;
 
 /// The most methods and properties of a type.
 const MAX_MEMBERS: usize = 32;
-
-/// The most functions.
-const MAX_FUNCTIONS: usize = 256;
 
 /// The most services.
 const MAX_SERVICES: usize = 16;
@@ -73,8 +65,8 @@ impl Registry {
         }
         let key = name.to_string(self.alloc)?;
         let name = name.to_string(self.alloc)?;
-        let many = self.table.types() >= MAX_TYPES;
-        self.accept_named(Call::Type { name, kind }, key, many)
+        let count = self.table.types();
+        self.accept_named(Call::Type { name, kind }, key, count, MAX_TYPES)
     }
 
     /// Registers a service of a kind. The answer is its index.
@@ -89,7 +81,7 @@ impl Registry {
             return Err(RegistryFault::NameTaken);
         }
         let index = self.table.services();
-        self.accept(Call::Service { kind }, index >= MAX_SERVICES)?;
+        self.accept(Call::Service { kind }, index, MAX_SERVICES)?;
         Ok(index)
     }
 
@@ -162,8 +154,8 @@ impl Registry {
     {
         let operation = operation(self.alloc, signature)?;
         let of = of.to_string(self.alloc)?;
-        let many = self.table.members_of(of.as_str()) >= MAX_MEMBERS;
-        self.accept(Call::Method { of, id, operation }, many)
+        let count = self.table.members_of(of.as_str());
+        self.accept(Call::Method { of, id, operation }, count, MAX_MEMBERS)
     }
 
     /// Registers a property of a type, as `int value`, by its number.
@@ -251,16 +243,14 @@ impl Registry {
             return Err(RegistryFault::NameTaken);
         }
         let of = of.to_string(self.alloc)?;
-        let many = self.table.members_of(of.as_str()) >= MAX_MEMBERS;
-        self.accept(
-            Call::Property {
-                of,
-                id,
-                value,
-                name,
-            },
-            many,
-        )
+        let count = self.table.members_of(of.as_str());
+        let call = Call::Property {
+            of,
+            id,
+            value,
+            name,
+        };
+        self.accept(call, count, MAX_MEMBERS)
     }
 
     /// Registers the factory of a type, as `T@ make(int)`. Its name is ignored.
@@ -327,124 +317,6 @@ impl Registry {
         }
         let parameters = primitives(self.alloc, parameters)?;
         let of = of.to_string(self.alloc)?;
-        self.accept(Call::Factory { of, parameters }, false)
-    }
-
-    /// Registers a function of a service, as `int tally(int)`, by the service's index and the function's number.
-    pub fn function(&mut self, service: u16, decl: &str, id: u16) -> Result<(), RegistryFault>
-        ensures registers { (declared : Option DeclarationTree) → IsDeclared decl.now declared
-            → RegisteredIf (refusal_of_function (registered self.old) service id declared)
-            (function_call service id declared) result (registered self.old) (registered self.new) }
-        ensures without_allocating { RefusedWithoutAllocating
-            (nat_le (count_by is_service (registered self.old)) service) NoService result }
-    {
-        if self.table.services() <= service as usize {
-            return Err(RegistryFault::NoService);
-        }
-        let declared = read_declaration(self.alloc, decl)?;
-        self.function_of_declaration(service, declared, id)
-    }
-
-    fn function_of_declaration(
-        &mut self,
-        service: u16,
-        declared: Option<Declaration>,
-        id: u16,
-    ) -> Result<(), RegistryFault>
-        ensures { RegisteredIf
-            (refusal_of_declared_function (registered self.old) service id
-            (option_map declaration_of declared))
-            (function_call service id (option_map declaration_of declared)) result
-            (registered self.old) (registered self.new) }
-    {
-        match declared {
-            Some(Declaration::Function(signature)) => self.function_of_signature(service, signature, id),
-            _ => Err(RegistryFault::BadDeclaration),
-        }
-    }
-
-    // Whether a name is taken among types and functions, or a number among the functions of a service.
-    fn takes_function_or_name(&self, name: &str, service: u16, id: u16) -> bool
-        ensures { result ≡ (list_any (takes_name name.now) (registered self.now)
-            || list_any (takes_function service id) (registered self.now)) }
-    {
-        self.table.takes_name(name) || self.table.takes_function(service, id)
-    }
-
-    fn function_of_signature(
-        &mut self,
-        service: u16,
-        signature: Signature,
-        id: u16,
-    ) -> Result<(), RegistryFault>
-        ensures { RegisteredIf
-            (refusal_of_operation (registered self.old) service id (signature_of signature))
-            (AFunction service id (primitive_operation (signature_of signature)) ∷ [])
-            result (registered self.old) (registered self.new) }
-    {
-        if self.names_unknown(&signature) {
-            return Err(RegistryFault::UnknownType);
-        }
-        if names_object(&signature) {
-            return Err(RegistryFault::NotPrimitive);
-        }
-        if self.takes_function_or_name(signature.name.as_str(), service, id) {
-            return Err(RegistryFault::NameTaken);
-        }
-        self.add_function(service, signature, id)
-    }
-
-    fn add_function(
-        &mut self,
-        service: u16,
-        signature: Signature,
-        id: u16,
-    ) -> Result<(), RegistryFault>
-        requires { list_any (takes_name (string_bytes signature.name)) (registered self.old)
-            ≡ false }
-        ensures { RegisteredIf
-            (cause_of_many (nat_le 256 (count_by is_function (registered self.old)))
-            (registered self.old)
-            (AFunction service id (primitive_operation (signature_of signature))))
-            (AFunction service id (primitive_operation (signature_of signature)) ∷ []) result
-            (registered self.old) (registered self.new) }
-    {
-        let key = signature.name.clone()?;
-        let operation = operation(self.alloc, signature)?;
-        let many = self.table.functions() >= MAX_FUNCTIONS;
-        let call = Call::Function {
-            service,
-            id,
-            operation,
-        };
-        self.accept_named(call, key, many)
-    }
-
-    // Adds a type or a function against which nothing else speaks, with its name.
-    fn accept_named(&mut self, call: Call, key: String, many: bool) -> Result<(), RegistryFault>
-        requires named { (name : List ℕ)
-            → takes_name name (call_of call) ≡ bytes_eq name (string_bytes key) }
-        requires free { list_any (takes_name (string_bytes key)) (registered self.old) ≡ false }
-        ensures { RegisteredIf (cause_of_many many (registered self.old) (call_of call))
-            (call_of call ∷ []) result (registered self.old) (registered self.new) }
-    {
-        if many {
-            return Err(RegistryFault::TooMany);
-        }
-        self.table.add_named(call, key)?;
-        Ok(())
-    }
-
-    // Adds a call against which nothing else speaks, and which takes no name of a type or function.
-    fn accept(&mut self, call: Call, many: bool) -> Result<(), RegistryFault>
-        requires { (name : List ℕ) → takes_name name (call_of call) ≡ false }
-        ensures { RegisteredIf (cause_of_many many (registered self.old) (call_of call))
-            (call_of call ∷ []) result (registered self.old) (registered self.new) }
-    {
-        if many {
-            return Err(RegistryFault::TooMany);
-        }
-        self.table.add(call)?;
-        Ok(())
+        self.add(Call::Factory { of, parameters })
     }
 }

@@ -8,10 +8,12 @@
 //! are in `ash_typing`, above this crate, with the proof that what they type is sound: what walks typed trees alone
 //! does not load them. The crate uses `ash_tree`, for the labels that a script writes.
 //!
-//! In reading order: `types`, `tree`: `operations`, `expressions`, `statements`, `items`; `nodes`, `soundness`.
+//! In reading order: `types`, `tree`: `operations`, `expressions`, `statements`, `items`; `nodes`, `places`,
+//! `soundness`.
 #![tactic(auto)]
 
 pub mod nodes;
+mod places;
 mod soundness;
 mod tree;
 mod types;

@@ -4,12 +4,13 @@ ghost use Rattle.std.specs.Prelude.{◌≡◌, [], ◌∷◌, ◌++◌, map, opt
 ghost use Rattle.std.specs.declared.alloc.Global.{Global};
 ghost use Rattle.ash_typed.specs.declared.tree.expressions.Expr.{Expr as IndexExpr};
 ghost use Rattle.ash_typed.specs.Tree.{Read, Held, Indexed, Invoke, Cast, Alter, Lazily, Conditional, Assign, Update};
-ghost use Rattle.ash_typed.specs.Tree.{Count, Call, exprs, place_in, converted};
+ghost use Rattle.ash_typed.specs.Tree.{Count, Call, exprs, converted};
 ghost use Rattle.ash_typed.specs.StatementTree.{Block, Repeat, For, repeated, Switch, labelled, cases};
-ghost use Rattle.ash_typed.specs.Views.{expr_of, place_of, linked, chained, all_linked, all_chained, all_lazies};
+ghost use Rattle.ash_typed.specs.Views.{expr_of, place_of, linked, chained};
 ghost use Rattle.ash_typed.specs.BodyViews.{stmt_of, head_of, loop_of, case_of, body_of};
 ghost use Rattle.ash_typed.specs.Flat.{base_of, links_of, first_of, operands_of, others_of};
 
+pub use crate::places::place;
 use crate::tree::expressions::{Expr, Link, Operand, Place};
 use crate::tree::operations::{
     Calculation, Change, Conversion, Lazy, Member, Method, Step, Target,
@@ -269,89 +270,6 @@ pub fn count(place: Place, of: Kind, step: Step) -> Expr
     ensures { expr_of result ≡ Count (place_of place) of step }
 {
     Expr::Step { place, of, step }
-}
-
-/// The place that an expression reads.
-#[cycle(places)]
-#[tactic(auto, using(crate::proofs::Rows::path_is, crate::proofs::Rows::chain_is, crate::proofs::Rows::lazy_is))]
-pub fn place(alloc: Global, expr: Expr) -> Result<Option<Place>, AllocError>
-    ensures { IfOk result (λ found. option_map place_of found ≡ place_in (expr_of expr)) }
-{
-    match expr {
-        Expr::Variable(variable) => Ok(Some(Place::Variable(variable))),
-        Expr::Path { base, links } => member_of(alloc, base, links),
-        Expr::Number { .. } | Expr::Bool(_) | Expr::Null | Expr::This(_) => Ok(None),
-        Expr::Chain { first, operands } => chain_place(alloc, first, operands),
-        Expr::Lazy {
-            operator,
-            first,
-            others,
-        } => lazy_place(alloc, operator, first, others),
-        Expr::Convert { .. } | Expr::Cast { .. } | Expr::Change { .. } => Ok(None),
-        Expr::Conditional { .. } | Expr::Assign { .. } | Expr::Update { .. } => Ok(None),
-        Expr::Step { .. } | Expr::Call { .. } => Ok(None),
-    }
-}
-
-/// What the last link holds, of what the links before it give.
-#[cycle(places)]
-#[tactic(auto, using(crate::proofs::Rows::path_is, crate::proofs::Rows::all_linked_append))]
-fn member_of(
-    alloc: Global,
-    base: Box<Expr>,
-    mut links: Vec<Link>,
-) -> Result<Option<Place>, AllocError>
-    ensures { IfOk result (λ found.
-        option_map place_of found ≡ place_in (all_linked (expr_of base.value) links.items)) }
-{
-    match links.pop() {
-        Some(Link::Member(member)) => {
-            let object = Box::new(alloc, Expr::Path { base, links })?;
-            Ok(Some(Place::Member { object, member }))
-        }
-        Some(Link::Index { index, of }) => {
-            let array = Box::new(alloc, Expr::Path { base, links })?;
-            Ok(Some(Place::Element { array, index, of }))
-        }
-        Some(Link::Invoke { .. }) => Ok(None),
-        None => place(alloc, Box::into_inner(base)),
-    }
-}
-
-/// A place that is alone.
-#[cycle(places)]
-#[tactic(auto, using(crate::proofs::Rows::chain_is, crate::proofs::Rows::no_place_chained))]
-fn chain_place(
-    alloc: Global,
-    first: Box<Expr>,
-    operands: Vec<Operand>,
-) -> Result<Option<Place>, AllocError>
-    ensures { IfOk result (λ found.
-        option_map place_of found ≡ place_in (all_chained (expr_of first.value) operands.items)) }
-{
-    if operands.is_empty() {
-        return place(alloc, Box::into_inner(first));
-    }
-    Ok(None)
-}
-
-/// A place that is alone.
-#[cycle(places)]
-#[tactic(auto, using(crate::proofs::Rows::no_place_lazies))]
-fn lazy_place(
-    alloc: Global,
-    operator: Lazy,
-    first: Box<Expr>,
-    others: Vec<Expr>,
-) -> Result<Option<Place>, AllocError>
-    ensures { IfOk result (λ found.
-        option_map place_of found
-        ≡ place_in (all_lazies operator (expr_of first.value) others.items)) }
-{
-    if others.is_empty() {
-        return place(alloc, Box::into_inner(first));
-    }
-    Ok(None)
 }
 
 /// `{ body }`
