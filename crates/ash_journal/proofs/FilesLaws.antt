@@ -14,9 +14,10 @@ use Rattle.ash_journal.specs.OtherState.{is_older, is_stray, repaired as state_r
 use Rattle.ash_journal.specs.Journal.{EndIs, NeedsNoRepair, FilesAre}
 use Rattle.ash_journal.proofs.LayoutLaws.{length-block, length-mark, length-solid, records-nil, records-push}
 use Rattle.ash_journal.proofs.LayoutLaws.{solid_no_records, solid_mark, mark_open}
-use Rattle.ash_journal.proofs.SettleLaws.{Said, IsAside, IsComing, IsGrowing, install_settles, end_repair_settles}
-use Rattle.ash_journal.proofs.SettleLaws.{other_repair_settles, open_reopened, repaired_settles, append_settles}
-use Rattle.ash_journal.proofs.SettleLaws.{fits_push, grown, settle_more, further_same}
+use Rattle.ash_journal.proofs.SettleLaws.{Said, open_reopened, settle_more, further_same}
+use Rattle.ash_journal.proofs.InstallLaws.{IsAside, IsComing, IsGrowing, install_settles, repaired_settles}
+use Rattle.ash_journal.proofs.InstallLaws.{append_settles, fits_push, grown}
+use Rattle.ash_journal.proofs.ReopenLaws.{end_repair_settles, other_repair_settles}
 use Rattle.ash_journal.proofs.RunLaws.{extends_by, extends_placed, run_begins, run_now}
 
 pub end_shut : (stray : Bool) (other_state : OtherState) (gate : ℕ) → NeedsNoRepair stray other_state → EndIs stray gate

@@ -18,7 +18,8 @@ use Rattle.ash_journal.specs.Layout.{HasMark}
 use Rattle.ash_journal.specs.Opening.{ChoiceIs, ContentsAre, FaultIs}
 use Rattle.ash_journal.specs.Reading.{IsRead, IsCutFault, bodies_of}
 use Rattle.ash_journal.proofs.LayoutLaws.{length-solid}
-use Rattle.ash_journal.proofs.SettleLaws.{aside_closed_or_older, represent_turned}
+use Rattle.ash_journal.proofs.InstallLaws.{aside_closed_or_older}
+use Rattle.ash_journal.proofs.SettleLaws.{represent_turned}
 use Rattle.ash_journal.proofs.FilesLaws.{found_represented}
 
 pub other_closed_or_older : (other_state : OtherState) (g : ℕ) (file : List ℕ) → OtherIs other_state g file

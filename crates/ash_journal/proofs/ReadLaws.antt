@@ -17,7 +17,7 @@ use Rattle.ash_journal.specs.declared.record.Record.{Record}
 use Rattle.ash_journal.specs.Reading.{IsBlock, IsReadTo, AreAt, bodies_of}
 use Rattle.ash_journal.proofs.LayoutLaws.{AreBytes, eight_round_trip, length-mark, length-block, length-solid}
 use Rattle.ash_journal.proofs.LayoutLaws.{records-nil, records-cons, solid-push, solid_no_records}
-use Rattle.ash_journal.proofs.SettleLaws.{fits_push, grown}
+use Rattle.ash_journal.proofs.InstallLaws.{fits_push, grown}
 
 -- ---- tests of bytes
 

@@ -7,7 +7,7 @@
 //! are one, and that each fault of a module is at one of its tokens, where its rule is broken: at which, `FaultPlaces`
 //! says, and what is wrong there, `FaultMeaning`. `soundness` says that what the rules type is sound, as `ash_typed`
 //! says it of the typed tree alone. The crate uses `ash_lex` and `ash_tree`, whose tokens and trees are typed,
-//! `ash_registrations`, and on `ash_typed`, whose trees are the typed ones. It types nothing itself: `ash_expressions`
+//! `ash_registrations`, and `ash_typed`, whose trees are the typed ones. It types nothing itself: `ash_expressions`
 //! and `ash_check` do, by these definitions.
 //!
 //! In reading order: `types`, `forms`, `fault`, `typing`, `modules`, `soundness`.

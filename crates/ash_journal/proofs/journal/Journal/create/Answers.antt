@@ -4,7 +4,7 @@ use Rattle.ash_journal.specs.Layout.{mark, block, IsShut}
 use Rattle.ash_journal.specs.Writes.{IsIdle, WhileCreated}
 use Rattle.ash_journal.proofs.FilesLaws.{create_files, ready_run}
 use Rattle.ash_journal.proofs.ReadLaws.{since_rested}
-use Rattle.ash_journal.proofs.SettleLaws.{create_settles}
+use Rattle.ash_journal.proofs.InstallLaws.{create_settles}
 use Rattle.ash_journal.proofs.journal.Journal.create.Goals as goal
 
 pub returns-in-Ok-clause-created : goal.returns-in-Ok-clause-created
