@@ -29,7 +29,7 @@ use Rattle.ash_typing.specs.TypedModules.{environment, IsTyped}
 use Rattle.ash_typing.specs.Offered.{offered}
 use Rattle.ash_typing.specs.Soundness.{signature_of_class, signatures_in}
 use Rattle.ash_typing.proofs.TypingKnown.{if_or}
-use Rattle.ash_typing.proofs.SoundnessNames.{first_place}
+use Rattle.ash_typing.proofs.SoundnessLookUps.{first_place}
 use Rattle.ash_typing.proofs.SoundnessClasses.{first_passes, unmapped, classes_length}
 use Rattle.ash_typing.proofs.SoundnessSignatures.{same_signatures}
 use Rattle.ash_tree.specs.Items.{classes_of, fields_of}

@@ -51,10 +51,11 @@ use Rattle.ash_typing.specs.Typing.{decrement_after}
 use Rattle.ash_typing.specs.Soundness.{seen_in}
 use Rattle.ash_typing.proofs.TypingKnown.{at_some, known_type, variable_is_known, element_known, adapted_known}
 use Rattle.ash_typing.proofs.TypingKnown.{outcome_known, variable_known, callee_known, member_known, method_known}
-use Rattle.ash_typing.proofs.TypingTypes.{variable_value, result_value, value_type_of_object}
-use Rattle.ash_typing.proofs.SoundnessNames.{IsPlaceOf, IsSoundMethod, IsCalled, IsCalledWith, IsSoundCallee}
-use Rattle.ash_typing.proofs.SoundnessNames.{variable_sound, callee_sound, member_sound, method_sound, element_sound}
-use Rattle.ash_typing.proofs.SoundnessNames.{object_sound, element_type}
+use Rattle.ash_typing.proofs.TypingCallees.{variable_value, result_value}
+use Rattle.ash_typing.proofs.TypingTypes.{value_type_of_object}
+use Rattle.ash_typing.proofs.SoundnessLookUps.{IsPlaceOf, IsSoundMethod, variable_sound, member_sound, element_type}
+use Rattle.ash_typing.proofs.SoundnessNames.{IsCalled, IsCalledWith, IsSoundCallee, callee_sound, method_sound}
+use Rattle.ash_typing.proofs.SoundnessNames.{element_sound, object_sound}
 use Rattle.ash_typing.proofs.SoundnessTypes.{GivesType, number_sound, integer_sound, of_type, converted_sound}
 use Rattle.ash_typing.proofs.SoundnessTypes.{adapted_sound, operated_sound, chosen_sound, fits_sound}
 

@@ -17,7 +17,7 @@ use Rattle.ash_typing.specs.Offered.{offered}
 use Rattle.ash_typing.specs.Soundness.{signatures_in}
 use Rattle.ash_typing.proofs.TypedClasses.{count_names}
 use Rattle.ash_typing.proofs.ModuleLaws.{typed_known}
-use Rattle.ash_typing.proofs.SoundnessNames.{mapped}
+use Rattle.ash_typing.proofs.SoundnessLookUps.{mapped}
 use Rattle.ash_typing.proofs.SoundnessSignatures.{same_signatures}
 use Rattle.ash_typing.proofs.SoundnessItems.{functions_sound, interfaces_sound, interfaces_length, before_within}
 use Rattle.ash_typing.proofs.SoundnessItems.{globals_sound, zip_length}

@@ -34,7 +34,7 @@ use Rattle.ash_typing.specs.Terms.{conversion, operand_type, applied, Term, conv
 use Rattle.ash_typing.specs.Typing.{is_known, IsKnownType}
 use Rattle.ash_typing.specs.Soundness.{signature_of_class, seen_in}
 use Rattle.ash_typing.proofs.TypingTypes.{equal_kinds}
-use Rattle.ash_typing.proofs.SoundnessNames.{mapped}
+use Rattle.ash_typing.proofs.SoundnessLookUps.{mapped}
 
 -- the tree gives what an expression of the type gives
 abbrev pub GivesType : Environment → Expr → Ty → Type 0

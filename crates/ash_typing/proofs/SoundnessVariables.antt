@@ -40,7 +40,8 @@ use Rattle.ash_typing.specs.Offered.{factory_at}
 use Rattle.ash_typing.specs.Soundness.{signatures_in, seen_in}
 use Rattle.ash_typing.proofs.TypingKnown.{at_some, if_then, known_type}
 use Rattle.ash_typing.proofs.StatementsSound.{more_known}
-use Rattle.ash_typing.proofs.SoundnessNames.{found_with, class_takes, host_found, object_sound, element_sound}
+use Rattle.ash_typing.proofs.SoundnessLookUps.{found_with}
+use Rattle.ash_typing.proofs.SoundnessNames.{class_takes, host_found, object_sound, element_sound}
 use Rattle.ash_typing.proofs.SoundnessTypes.{fits_sound}
 use Rattle.ash_typing.proofs.SoundnessExpressions.{IsArgument, term_sound, terms_sound, arguments_sound, array_takes}
 

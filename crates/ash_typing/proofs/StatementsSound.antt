@@ -37,7 +37,8 @@ use Rattle.ash_typing.proofs.TakenNames.{all_append}
 use Rattle.ash_typing.proofs.TypedVariables.{known_sound}
 use Rattle.ash_typing.proofs.TypingKnown.{known_type}
 use Rattle.ash_typing.proofs.TypingComplete.{terms}
-use Rattle.ash_typing.proofs.TypingSound.{sound, all_sound, fitted_ok}
+use Rattle.ash_typing.proofs.TypingSound.{sound, all_sound}
+use Rattle.ash_typing.proofs.TypingSoundCalls.{fitted_ok}
 use Rattle.ash_typing.proofs.TypingVariables.{declared_sound}
 use Rattle.ash_typing.proofs.StatementsComplete.{trees_of}
 use Rattle.ash_typing.specs.Terms.{converted_to}

@@ -18,7 +18,8 @@ use Rattle.ash_typing.specs.Typing.{construct, BeginsWith, empty, default, value
 use Rattle.ash_typing.proofs.TypingWords.{no_fault, same_ok, bind_ok}
 use Rattle.ash_typing.proofs.TypingComplete.{terms, all_terms, placed_count, complete, all_complete, fitted_is}
 use Rattle.ash_typing.proofs.TypingComplete.{arguments_is}
-use Rattle.ash_typing.proofs.TypingSound.{at_ok, fitted_ok, called_ok, sound, all_sound}
+use Rattle.ash_typing.proofs.TypingSoundCalls.{at_ok, fitted_ok, called_ok}
+use Rattle.ash_typing.proofs.TypingSound.{sound, all_sound}
 use Rattle.ash_typing.specs.Terms.{call_of, initialization, Term, converted_to}
 
 -- what begins by the rules begins so in the walk
