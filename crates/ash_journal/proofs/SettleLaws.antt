@@ -12,7 +12,7 @@ Said = Contents → Type 0
 
 -- what the first says, the second says
 abbrev pub Follow : Said → Said → Type 0
-pub Follow P Q = (contents : Contents) → P contents → Q contents
+Follow P Q = (contents : Contents) → P contents → Q contents
 
 pub open_or_closed : (file : List ℕ) → IsOpen file ⊎ IsClosed file
 open_or_closed [] = inr tt
@@ -23,7 +23,7 @@ open_or_closed (gate ∷ second ∷ rest) = cases_eq gate 1
 pub open_reopened : (file : List ℕ) → IsOpen file → file ≡ reopened file
 open_reopened [] is_open = absurd is_open
 open_reopened (gate ∷ []) is_open = absurd is_open
-pub open_reopened (gate ∷ second ∷ rest) is_open = ap (λ (g : ℕ). g ∷ second ∷ rest) is_open
+open_reopened (gate ∷ second ∷ rest) is_open = ap (λ (g : ℕ). g ∷ second ∷ rest) is_open
 
 pub reopened_twice : (file : List ℕ) → reopened (reopened file) ≡ reopened file
 reopened_twice [] = refl
@@ -87,7 +87,7 @@ same_contents g h image other bodies others file one two =
 -- a file with a mark that is no newer than a generation has a smaller number
 pub mark_behind : (g h : ℕ) (x : List ℕ) → HasMark g x → IsBehind h x → g < h
 mark_behind g h x marked (inl closed) = absurd (mark_closed g x marked closed)
-pub mark_behind g h x marked (inr older) = let same : g ≡ older.0 = same_mark g older.0 x marked older.1 in
+mark_behind g h x marked (inr older) = let same : g ≡ older.0 = same_mark g older.0 x marked older.1 in
     omega (arith, same, older.2)
 
 pub older_by_mark : (g h : ℕ) (x : List ℕ) → HasMark g x → g < h → IsBehind h x

@@ -44,11 +44,11 @@ use Rattle.ash_typing.proofs.FaultAnswers.{no_place, bind, bind_by, either, choo
 
 -- typed expressions, each at a token
 abbrev pub AllAt : Tokens → List Typed → Type 0
-pub AllAt script ts = AllByRecursion (λ (t : Typed). HasStart script t.at) ts
+AllAt script ts = AllByRecursion (λ (t : Typed). HasStart script t.at) ts
 
 -- of so many arguments
 abbrev pub ListAt : Script → ℕ → Checking (List Typed) → Type 0
-pub ListAt script count r = Answers script (λ (ts : List Typed). AllAt script.tokens ts × (length ts ≡ count)) r
+ListAt script count r = Answers script (λ (ts : List Typed). AllAt script.tokens ts × (length ts ≡ count)) r
 
 -- what an operand has to be
 

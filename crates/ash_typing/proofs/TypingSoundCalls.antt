@@ -100,10 +100,10 @@ arguments_ok classes at parameters ts trees h = go (nat_eq (length parameters) (
 
 -- what the walk finds has its type by the rules
 abbrev pub Sound : Environment → Bool → written.Expr → Type 0
-pub Sound env left e = (u : Typed) → typed env left e ≡ Ok u → HasType env left e (term_of u)
+Sound env left e = (u : Typed) → typed env left e ≡ Ok u → HasType env left e (term_of u)
 
 abbrev pub AllSound : Environment → written.Exprs → Type 0
-pub AllSound env es = (us : List Typed) → all_typed env es ≡ Ok us → AllHaveType env es (terms us)
+AllSound env es = (us : List Typed) → all_typed env es ≡ Ok us → AllHaveType env es (terms us)
 
 pub this_sound : (env : Environment) (left : Bool) (p : place.Place) (found : Option ℕ) (r : Typed) → env.this ≡ found
     → this_at p.at found ≡ Ok r → HasType env left (written.This p) (term_of r)
