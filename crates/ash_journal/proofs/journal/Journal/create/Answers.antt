@@ -1,5 +1,5 @@
 use Rattle.std.proofs.Common.{inl, ◌+◌, ◌∷◌, ◌++◌, [], IsTrue, false, length, drop, refl, sym, subst, arith}
-use Rattle.ash_journal.specs.declared.second_cleared.OtherState.TheVariants.{Shut}
+use Rattle.ash_journal.specs.declared.other_state.OtherState.TheVariants.{Shut}
 use Rattle.ash_journal.specs.Layout.{mark, block, IsShut}
 use Rattle.ash_journal.specs.Writes.{IsIdle, WhileCreated}
 use Rattle.ash_journal.proofs.FilesLaws.{create_files, ready_run}
