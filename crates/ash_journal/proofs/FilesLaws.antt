@@ -6,7 +6,7 @@ use Rattle.ash_disk.specs.Device.{Device, IsDurable, Throughout}
 use Rattle.ash_disk.proofs.MomentLaws.{at_start}
 use Rattle.ash_journal.specs.declared.other_state.OtherState.{OtherState}
 use Rattle.ash_journal.specs.declared.other_state.OtherState.TheVariants.{Shut, Older, Stray}
-use Rattle.ash_journal.specs.Layout.{mark, block, records, solid, Fits, IsFile, IsShut, HasMark}
+use Rattle.ash_journal.specs.Layout.{mark, block, records, solid, FieldsFit, IsFile, IsShut, HasMark}
 use Rattle.ash_journal.specs.Current.{Is, Either, IsBehind, Represent, reopened, SettleOn, MaySettleOn, SettleFurther}
 use Rattle.ash_journal.specs.Runs.{Run, Extends, Nothing}
 use Rattle.ash_journal.specs.Writes.{IsOn, WhileCommitted, WhileRepaired, WhileReplaced, repaired}
@@ -231,7 +231,7 @@ module _ {D : Type 0} (device : Device D) where
       (bodies : List (List ℕ)) (image : List ℕ)
       (files : FilesAre device number end size stray other_state c o was bodies)
       (ready : NeedsNoRepair stray other_state) (higher : number + 1 < 2 ^ 64) (short : length image < 2 ^ 32) where
-    new_fits : Fits (number + 1) image []
+    new_fits : FieldsFit (number + 1) image []
     new_fits = record { numbered = higher; image_short = short; bodies_short = tt }
 
     pub install_files : (added : ℕ) → added ≡ 21 + length image → device.honest o' ≡ device.honest o

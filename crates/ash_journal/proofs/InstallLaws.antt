@@ -2,7 +2,7 @@
 use Rattle.std.proofs.Common.{◌≡◌, ◌⊎◌, inl, inr, ℕ, ◌<◌, ◌^◌, List, [], ◌∷◌, ◌++◌, length, refl, sym, ◌∙◌, ap, subst}
 use Rattle.std.proofs.Common.{arith, append_assoc}
 use Rattle.std.proofs.lemmas.Bool.{cases_eq}
-use Rattle.ash_journal.specs.Layout.{mark, block, solid, AreShort, Fits, IsFile, IsOpen, IsClosed, IsShut, HasMark}
+use Rattle.ash_journal.specs.Layout.{mark, block, solid, AreShort, FieldsFit, IsFile, IsOpen, IsClosed, IsShut, HasMark}
 use Rattle.ash_journal.specs.Current.{Is, Either, IsBehind, RepresentOne, reopened, Reopens, SettleOn}
 use Rattle.ash_journal.specs.Opening.{IsCreatedOrClosed}
 use Rattle.ash_journal.specs.Writes.{IsIdle, WhileCreated}
@@ -55,7 +55,7 @@ Installs g n image x a b = (a ≡ x) × (IsAside g b ⊎ IsComing n image b)
 
 -- A current file at rest, and the other, on its way to a new generation: they settle on the new and the old.
 pub install_settles : (g n : ℕ) (image image' : List ℕ) (bodies : List (List ℕ)) (x rest y : List ℕ)
-    → x ≡ solid g image bodies ++ 0 ∷ rest → Fits g image bodies → Fits n image' [] → g < n
+    → x ≡ solid g image bodies ++ 0 ∷ rest → FieldsFit g image bodies → FieldsFit n image' [] → g < n
     → IsAside g y ⊎ IsComing n image' y → SettleOn (Either (Is (image', [])) (Is (image, bodies))) x y
 install_settles g n image image' bodies x rest y is fits fits_new less coming =
     by_invariant both (Installs g n image' x) represents preserved x y (refl, coming)
@@ -147,8 +147,8 @@ short_push : (bodies : List (List ℕ)) (body : List ℕ) → AreShort bodies �
 short_push [] body short fits = (fits, tt)
 short_push (first ∷ bodies) body short fits = (short.0, short_push bodies body short.1 fits)
 
-pub fits_push : (g : ℕ) (image : List ℕ) (bodies : List (List ℕ)) (body : List ℕ) → Fits g image bodies
-    → length body < 2 ^ 32 → Fits g image (bodies ++ body ∷ [])
+pub fits_push : (g : ℕ) (image : List ℕ) (bodies : List (List ℕ)) (body : List ℕ) → FieldsFit g image bodies
+    → length body < 2 ^ 32 → FieldsFit g image (bodies ++ body ∷ [])
 fits_push g image bodies body fits short =
     record {
       numbered = fits.numbered;
@@ -165,7 +165,7 @@ grown g image bodies body rest =
 
 -- A file at rest settles, with any other, on what it did or on one record more, while that record is written.
 pub append_settles : (P : Said) (g : ℕ) (image : List ℕ) (bodies : List (List ℕ)) (body x rest u y : List ℕ)
-    → x ≡ solid g image bodies ++ 0 ∷ rest → Fits g image bodies → length body < 2 ^ 32
+    → x ≡ solid g image bodies ++ 0 ∷ rest → FieldsFit g image bodies → length body < 2 ^ 32
     → IsGrowing (solid g image bodies) body u → SettleOn P x y
     → SettleOn (Either (Is (image, bodies ++ body ∷ [])) P) u y
 append_settles P g image bodies body x rest u y is fits short growing settle = from growing
@@ -198,7 +198,7 @@ append_settles P g image bodies body x rest u y is fits short growing settle = f
 
 -- A current file at rest and one that is shut or older: they settle on what the first represents alone.
 pub repaired_settles : (g : ℕ) (image : List ℕ) (bodies : List (List ℕ)) (x rest y : List ℕ)
-    → x ≡ solid g image bodies ++ 0 ∷ rest → Fits g image bodies → IsAside g y → SettleOn (Is (image, bodies)) x y
+    → x ≡ solid g image bodies ++ 0 ∷ rest → FieldsFit g image bodies → IsAside g y → SettleOn (Is (image, bodies)) x y
 repaired_settles g image bodies x rest y is fits aside =
     by_invariant (Is (image, bodies)) (λ (a b : List ℕ). (a ≡ x) × IsAside g b) represents preserved x y (refl, aside)
   where
@@ -246,7 +246,7 @@ idle_reopened (gate ∷ rest) (inl tiny) not_shut = inl (omega (arith, tiny))
 idle_reopened (gate ∷ rest) (inr shut) not_shut = absurd (not_shut shut)
 
 -- A file at rest and one that was never in use: they settle on what the first represents.
-created_settles : (g : ℕ) (image x rest y : List ℕ) → x ≡ solid g image [] ++ 0 ∷ rest → Fits g image [] → IsIdle y
+created_settles : (g : ℕ) (image x rest y : List ℕ) → x ≡ solid g image [] ++ 0 ∷ rest → FieldsFit g image [] → IsIdle y
     → SettleOn (Is (image, [])) x y
 created_settles g image x rest y is fits idle =
     by_invariant (Is (image, [])) (λ (a b : List ℕ). (a ≡ x) × IsIdle b) represents preserved x y (refl, idle)

@@ -6,7 +6,7 @@ use Rattle.std.proofs.lemmas.List.{take_at, drop_at, append_cancel_left, append-
 use Rattle.std.specs.Int.{byte_at, bytes_low_first}
 use Rattle.byteorder.specs.Endian.{little_from, little_number}
 use Rattle.byteorder.specs.Numbers.{little_from-cons, little_number-reads_back}
-use Rattle.ash_journal.specs.Layout.{magic, four_bytes, eight_bytes, mark, block, records, solid, AreShort, Fits}
+use Rattle.ash_journal.specs.Layout.{magic, four_bytes, eight_bytes, mark, block, records, solid, AreShort, FieldsFit}
 use Rattle.ash_journal.specs.Layout.{IsFile, IsOpen, IsClosed, HasMark}
 
 -- ---- numbers
@@ -211,7 +211,7 @@ pub record SameFile (g h : ℕ) (image other : List ℕ) (bodies others : List (
   pub behind : s ≡ t
 
 pub same_file : (g h : ℕ) (image other : List ℕ) (bodies others : List (List ℕ)) (k l : ℕ) (s t : List ℕ)
-    → Fits g image bodies → Fits h other others → k ≢ 1 → l ≢ 1
+    → FieldsFit g image bodies → FieldsFit h other others → k ≢ 1 → l ≢ 1
     → solid g image bodies ++ k ∷ s ≡ solid h other others ++ l ∷ t → SameFile g h image other bodies others k l s t
 same_file g h image other bodies others k l s t fits_g fits_h shut_k shut_l is =
     let plain : 1 ∷ (mark g ++ (block image ++ (records bodies ++ k ∷ s)))

@@ -7,7 +7,8 @@ use Rattle.std.proofs.lemmas.List.{take_at, drop_at, take_all, get_or-drop, drop
 use Rattle.std.proofs.lemmas.Slice.Eq.{bytes_eq-Decides}
 use Rattle.std.specs.Str.{bytes_eq}
 use Rattle.byteorder.specs.Endian.{little_number}
-use Rattle.ash_journal.specs.Layout.{magic, eight_bytes, four_bytes, mark, block, records, solid, Fits, IsOpen, IsShut}
+use Rattle.ash_journal.specs.Layout.{magic, eight_bytes, four_bytes, mark, block, records, solid, FieldsFit, IsOpen}
+use Rattle.ash_journal.specs.Layout.{IsShut}
 use Rattle.ash_journal.specs.Layout.{IsCut, IsCutAt, HasMark, LacksMark}
 use Rattle.ash_disk.specs.Image.{bytes_at}
 use Rattle.ash_disk.specs.Device.{Device, IsOnlyRead, Throughout}
@@ -126,7 +127,8 @@ placed_push at (first ∷ found) r placed gate = (
       length-append (block first.body.items) (records (bodies_of found)), length-block first.body.items)),
 )
 
-pub read_start : (g : ℕ) (image rest file : List ℕ) (found : List Record) (at gate : ℕ) → found ≡ [] → Fits g image []
+pub read_start : (g : ℕ) (image rest file : List ℕ) (found : List Record) (at gate : ℕ) → found ≡ []
+    → FieldsFit g image []
     → file ≡ solid g image [] ++ gate ∷ rest → at ≡ length (solid g image []) → IsReadTo g image found at gate file
 read_start g image rest file found at gate none fits is at_is =
     subst (λ (f : List Record). IsReadTo g image f at gate file) (sym none)
@@ -166,7 +168,7 @@ read_more g image file found r at gate next end is_open so_far is_block gate_is 
       ∙ grown g image (bodies_of found) r.body.items (next ∷ is_block.1)
       ∙ ap (λ (bs : List (List ℕ)). solid g image bs ++ next ∷ is_block.1) (sym pushed);
   fits = subst
-      (λ (bs : List (List ℕ)). Fits g image bs) (sym pushed)
+      (λ (bs : List (List ℕ)). FieldsFit g image bs) (sym pushed)
       (fits_push g image (bodies_of found) r.body.items so_far.fits is_block.0);
   end_is = omega
       (arith, end_is, so_far.end_is,
@@ -193,7 +195,7 @@ image_cut g file marked cut = inl (g, marked.rest, marked.bytes, subst IsCut (af
 
 -- the image after a mark, and the first gate after it
 pub image_read : (g : ℕ) (file image : List ℕ) (gate : ℕ) → HasMark g file → IsBlock image gate (drop 17 file)
-    → Fits g image [] × (rest : List ℕ) × (file ≡ solid g image [] ++ gate ∷ rest)
+    → FieldsFit g image [] × (rest : List ℕ) × (file ≡ solid g image [] ++ gate ∷ rest)
 image_read g file image gate marked is_block = (
   record { numbered = marked.numbered; image_short = is_block.0; bodies_short = tt },
   is_block.1,

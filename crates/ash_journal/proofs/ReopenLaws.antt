@@ -1,7 +1,7 @@
 -- A repair that a crash cuts short leaves files that settle on what they settled on.
 use Rattle.std.proofs.Common.{◌≡◌, ◌≢◌, ◌⊎◌, inl, inr, ℕ, ◌<◌, List, ◌∷◌, ◌++◌, refl, sym, ◌∙◌, ap, subst, arith}
 use Rattle.std.proofs.lemmas.Bool.{cases_eq}
-use Rattle.ash_journal.specs.Layout.{solid, Fits, IsFile, IsClosed, IsShut, HasMark}
+use Rattle.ash_journal.specs.Layout.{solid, FieldsFit, IsFile, IsClosed, IsShut, HasMark}
 use Rattle.ash_journal.specs.Current.{IsBehind, RepresentOne, reopened, EndReopens, OtherReopens, Reopens, SettleOn}
 use Rattle.ash_journal.proofs.LayoutLaws.{same_file, same_mark, solid_mark, file_mark, mark_closed}
 use Rattle.ash_journal.proofs.SettleLaws.{Follow, Said, by_invariant, current_or_ahead, mark_behind, older_by_mark}
@@ -16,7 +16,7 @@ Rests P x w a b = (a ≡ w) × SettleOn P x b
 -- A file of the same generation at rest in place of the first: they settle on what they did, and what the new file
 -- represents.
 pub rest_settles : (P Q : Said) (g : ℕ) (image image' : List ℕ) (bodies bodies' : List (List ℕ)) (x w rest y : List ℕ)
-    → IsFile g image bodies x → w ≡ solid g image' bodies' ++ 0 ∷ rest → Fits g image' bodies'
+    → IsFile g image bodies x → w ≡ solid g image' bodies' ++ 0 ∷ rest → FieldsFit g image' bodies'
     → (P (image, bodies) → Q (image', bodies')) → Follow P Q → SettleOn P x y → SettleOn Q w y
 rest_settles P Q g image image' bodies bodies' x w rest y file is fits among more settle =
     by_invariant Q (Rests P x w) represents preserved w y (refl, settle)
@@ -230,7 +230,7 @@ follower_settles P g h x u y x_marked marked y_marked less settle =
 -- Whatever byte is in place of a gate that a repair writes over, with any image of the other file with which the file
 -- as it was settled: they settle on the same.
 pub end_repair_settles : (P : Said) (g : ℕ) (image : List ℕ) (bodies : List (List ℕ)) (x : List ℕ) (k c : ℕ)
-    (rest y : List ℕ) → x ≡ solid g image bodies ++ k ∷ rest → Fits g image bodies → k ≢ 1 → k ≢ 0 → SettleOn P x y
+    (rest y : List ℕ) → x ≡ solid g image bodies ++ k ∷ rest → FieldsFit g image bodies → k ≢ 1 → k ≢ 0 → SettleOn P x y
     → SettleOn P (solid g image bodies ++ c ∷ rest) y
 end_repair_settles P g image bodies x k c rest y is fits not_open not_shut settle = elim (cases_eq c 1) [
   | inl open_now ↦

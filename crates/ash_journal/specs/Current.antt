@@ -1,6 +1,6 @@
 -- These definitions say what two files represent, and what they settle on once a repair is done.
 use Rattle.std.specs.Prelude.{◌≡◌, ◌≢◌, ◌⊎◌, ℕ, zero, suc, ◌<◌, List, [], ◌∷◌, ◌++◌}
-use Rattle.ash_journal.specs.Layout.{solid, Fits, IsFile, IsClosed, IsShut, HasMark}
+use Rattle.ash_journal.specs.Layout.{solid, FieldsFit, IsFile, IsClosed, IsShut, HasMark}
 
 -- `Contents` are the image of a generation and the bodies of the records that were added to it.
 abbrev pub Contents : Type 0
@@ -46,7 +46,7 @@ pub record EndReopens (current other after : List ℕ) : Type 0 where
   pub bodies : List (List ℕ)
   pub gate : ℕ
   pub behind : List ℕ
-  pub fits : Fits generation image bodies
+  pub fits : FieldsFit generation image bodies
   pub bytes : current ≡ solid generation image bodies ++ gate ∷ suffix
   pub not_open : gate ≢ 1
   pub not_shut : gate ≢ 0

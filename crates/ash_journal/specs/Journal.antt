@@ -4,7 +4,7 @@ use Rattle.ash_disk.specs.Device.{Device, IsDurable}
 use Rattle.ash_journal.specs.declared.journal.Journal.{Journal}
 use Rattle.ash_journal.specs.declared.other_state.OtherState.{OtherState}
 use Rattle.ash_journal.specs.declared.other_state.OtherState.TheVariants.{Shut, Older}
-use Rattle.ash_journal.specs.Layout.{solid, records, Fits}
+use Rattle.ash_journal.specs.Layout.{solid, records, FieldsFit}
 use Rattle.ash_journal.specs.Current.{Is}
 use Rattle.ash_journal.specs.OtherState.{first_of, second_of, is_stray, OtherIs}
 use Rattle.ash_journal.specs.Runs.{Run}
@@ -19,14 +19,14 @@ abbrev pub second_disk : {D : Type 0} → Journal D → D
 second_disk j = second_of j.swapped j.current j.other
 
 -- The first disk stays as it was where it is the current one, else the second does.
-abbrev pub KeepsOneOf : {D : Type 0} → Bool → D → D → D → D → Type 0
-KeepsOneOf false first second first_after second_after = first_after ≡ first
-KeepsOneOf true first second first_after second_after = second_after ≡ second
+abbrev pub LeavesCurrentOf : {D : Type 0} → Bool → D → D → D → D → Type 0
+LeavesCurrentOf false first second first_after second_after = first_after ≡ first
+LeavesCurrentOf true first second first_after second_after = second_after ≡ second
 
 -- The disk that is not current stays as it was.
-abbrev pub KeepsOtherOf : {D : Type 0} → Bool → D → D → D → D → Type 0
-KeepsOtherOf false first second first_after second_after = second_after ≡ second
-KeepsOtherOf true first second first_after second_after = first_after ≡ first
+abbrev pub LeavesOtherOf : {D : Type 0} → Bool → D → D → D → D → Type 0
+LeavesOtherOf false first second first_after second_after = second_after ≡ second
+LeavesOtherOf true first second first_after second_after = first_after ≡ first
 
 -- `current_disk j` is the disk that holds the current file.
 abbrev pub current_disk : {D : Type 0} → Journal D → D
@@ -61,7 +61,7 @@ pub record FilesAre {D : Type 0} (device : Device D) (number end size : ℕ) (st
   pub behind : List ℕ
   pub shut : gate ≢ 1
   pub bytes : device.seen current ≡ solid number image bodies ++ gate ∷ suffix
-  pub fits : Fits number image bodies
+  pub fits : FieldsFit number image bodies
   pub end_is : end ≡ length (solid number image bodies)
   pub size_is : size ≡ length (records bodies)
   pub gate_is : EndIs stray gate
@@ -97,16 +97,18 @@ pub record Holds {D : Type 0} (device : Device D) (j : Journal D) (image : List 
       (Is (image, bodies))
 
 -- The disk that holds the current file stays as it was.
-abbrev pub KeepsOne : {D : Type 0} → Journal D → Journal D → Type 0
-KeepsOne old new = KeepsOneOf old.swapped (first_disk old) (second_disk old) (first_disk new) (second_disk new)
+abbrev pub LeavesCurrent : {D : Type 0} → Journal D → Journal D → Type 0
+LeavesCurrent old new =
+    LeavesCurrentOf old.swapped (first_disk old) (second_disk old) (first_disk new) (second_disk new)
 
 -- The disk that does not hold the current file stays as it was.
-abbrev pub KeepsOther : {D : Type 0} → Journal D → Journal D → Type 0
-KeepsOther old new = KeepsOtherOf old.swapped (first_disk old) (second_disk old) (first_disk new) (second_disk new)
+abbrev pub LeavesOther : {D : Type 0} → Journal D → Journal D → Type 0
+LeavesOther old new = LeavesOtherOf old.swapped (first_disk old) (second_disk old) (first_disk new) (second_disk new)
 
 -- A disk of which no gate is to be written over stays as it was.
 abbrev pub KeepsUnowed : {D : Type 0} → Journal D → Journal D → Type 0
-KeepsUnowed old new = (old.stray ≡ false → KeepsOne old new) × (is_stray old.other_state ≡ false → KeepsOther old new)
+KeepsUnowed old new =
+    (old.stray ≡ false → LeavesCurrent old new) × (is_stray old.other_state ≡ false → LeavesOther old new)
 
 -- Nothing was written to a journal's disks but the gates that a repair writes over: of the current file the one after
 -- its last open record, and of the other its first.

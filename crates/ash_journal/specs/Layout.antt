@@ -37,7 +37,7 @@ AreShort [] = Unit {0}
 AreShort (body ∷ bodies) = (length body < 2 ^ 32) × AreShort bodies
 
 -- The numbers fit their fields.
-pub record Fits (generation : ℕ) (image : List ℕ) (bodies : List (List ℕ)) : Type 0 where
+pub record FieldsFit (generation : ℕ) (image : List ℕ) (bodies : List (List ℕ)) : Type 0 where
   pub numbered : generation < 2 ^ 64
   pub image_short : length image < 2 ^ 32
   pub bodies_short : AreShort bodies
@@ -49,7 +49,7 @@ pub record IsFile (generation : ℕ) (image : List ℕ) (bodies : List (List ℕ
   pub behind : List ℕ
   pub shut : gate ≢ 1
   pub bytes : file ≡ solid generation image bodies ++ gate ∷ suffix
-  pub fits : Fits generation image bodies
+  pub fits : FieldsFit generation image bodies
 
 -- The first gate is 1, and something follows it.
 abbrev pub IsOpen : List ℕ → Type 0
@@ -87,5 +87,6 @@ LacksMark file = IsOpen file × ((generation : ℕ) → HasMark generation file 
 abbrev pub IsCutAt : ℕ → List ℕ → Type 0
 IsCutAt at file =
     ((generation : ℕ) × (rest : List ℕ) × (file ≡ 1 ∷ (mark generation ++ rest)) × IsCut rest × (at ≡ 0))
-    ⊎ ((generation : ℕ) × (image : List ℕ) × (bodies : List (List ℕ)) × (rest : List ℕ) × Fits generation image bodies
+    ⊎ ((generation : ℕ) × (image : List ℕ) × (bodies : List (List ℕ)) × (rest : List ℕ)
+    × FieldsFit generation image bodies
     × (file ≡ solid generation image bodies ++ 1 ∷ rest) × IsCut rest × (at ≡ length (solid generation image bodies)))

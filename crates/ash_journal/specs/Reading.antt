@@ -7,7 +7,7 @@ use Rattle.ash_journal.specs.declared.one_file.FileHeader.TheVariants.{Closed, U
 use Rattle.ash_journal.specs.declared.record.Record.{Record}
 use Rattle.ash_journal.specs.declared.error.OpenFault.{OpenFault}
 use Rattle.ash_journal.specs.declared.error.OpenFault.TheVariants.{DeviceFailed, NoGeneration, Damaged, NoMemory}
-use Rattle.ash_journal.specs.Layout.{block, solid, Fits, IsClosed, IsShut, IsCutAt, HasMark, LacksMark}
+use Rattle.ash_journal.specs.Layout.{block, solid, FieldsFit, IsClosed, IsShut, IsCutAt, HasMark, LacksMark}
 
 -- The first gate is 0, or it is not.
 abbrev pub ShutIs : Bool → List ℕ → Type 0
@@ -45,7 +45,7 @@ pub record IsReadTo (generation : ℕ) (image : List ℕ) (found : List Record) 
     (file : List ℕ) : Type 0 where
   pub behind : List ℕ
   pub bytes : file ≡ solid generation image (bodies_of found) ++ gate ∷ suffix
-  pub fits : Fits generation image (bodies_of found)
+  pub fits : FieldsFit generation image (bodies_of found)
   pub end_is : end ≡ length (solid generation image (bodies_of found))
   pub placed : AreAt (21 + length image) found
 

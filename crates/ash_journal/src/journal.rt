@@ -63,7 +63,8 @@ impl<D: Disk> Journal<D> {
     ghost use Rattle.std.specs.Prelude.{OnErr, IsErr, IsErrOf, MatchResult};
     ghost use Rattle.ash_journal.specs.Failures.{CountsFailures};
     ghost use Rattle.ash_journal.specs.Journal.{first_disk, second_disk, generation, record_bytes, current_disk};
-    ghost use Rattle.ash_journal.specs.Journal.{IsReady, IsRepaired, HasFailed, Finds, Holds, KeepsOne, KeepsOther};
+    ghost use Rattle.ash_journal.specs.Journal.{IsReady, IsRepaired, HasFailed, Finds, Holds, LeavesCurrent};
+    ghost use Rattle.ash_journal.specs.Journal.{LeavesOther};
     ghost use Rattle.ash_journal.specs.Journal.{KeepsUnowed, WritesGates};
     ghost use Rattle.ash_journal.specs.Current.{Is, Either, Represent};
     ghost use Rattle.ash_disk.specs.Device.{IsOnlyRead, EveryMomentSince};
@@ -246,7 +247,7 @@ impl<D: Disk> Journal<D> {
         ensures longer { OnOk result (record_bytes self.new
             ≡ record_bytes self.old + 5 + length body.now) }
         ensures no_longer { OnErr result (record_bytes self.new ≡ record_bytes self.old) }
-        ensures untouched { KeepsOther self.old self.new }
+        ensures untouched { LeavesOther self.old self.new }
         ensures number { generation self.new ≡ generation self.old }
         ensures cause { CountsFailures (IsErrOf result AppendError.DeviceFailed)
             (D.failures (first_disk self.old)) (D.failures (second_disk self.old))
@@ -370,7 +371,7 @@ impl<D: Disk> Journal<D> {
         ensures emptied { OnOk result (record_bytes self.new ≡ 0) }
         ensures no_higher { OnErr result ((generation self.new ≡ generation self.old)
             × (record_bytes self.new ≡ record_bytes self.old)) }
-        ensures untouched { KeepsOne self.old self.new }
+        ensures untouched { LeavesCurrent self.old self.new }
         ensures spent { IsErrOf result InstallError.GenerationSpent
             ↔ (generation self.old ≡ 2 ^ 64 - 1) }
         ensures unchanged { IsErrOf result InstallError.GenerationSpent → self.new ≡ self.old }

@@ -3,7 +3,7 @@ ghost use Rattle.std.specs.Prelude.{◌≡◌, ◌+◌, ◌<◌, ◌≤◌, ◌^
 ghost use Rattle.std.specs.Prelude.{IfSome, IsErr, IsErrOf, MatchOption, MatchResult, drop};
 ghost use Rattle.ash_disk.specs.Device.{IsOnlyRead};
 ghost use Rattle.ash_disk.specs.Image.{bytes_at};
-ghost use Rattle.ash_journal.specs.Layout.{four_bytes, mark, solid, IsShut, Fits, IsCut, HasMark};
+ghost use Rattle.ash_journal.specs.Layout.{four_bytes, mark, solid, IsShut, FieldsFit, IsCut, HasMark};
 ghost use Rattle.ash_journal.specs.Reading.{HeaderIs, IsFailure, IsCutFault, Counts, IsBlock, IsRead};
 
 use crate::bytes::MAGIC;
@@ -192,7 +192,7 @@ fn read_records<D: Disk>(
 ) -> Result<Tail, OpenFault>
     requires { at < len }
     ensures answer { (generation : ℕ) (image rest : List ℕ) → IsTrue (D.honest disk.old)
-        → len ≡ length (D.seen disk.old) → Fits generation image []
+        → len ≡ length (D.seen disk.old) → FieldsFit generation image []
         → D.seen disk.old ≡ solid generation image [] ++ first ∷ rest
         → at ≡ length (solid generation image [])
         → MatchResult result

@@ -100,11 +100,11 @@ MayBeCondition env (Some e) = IsCondition env e
 
 -- The head of a `for` declares variables of these types.
 pub data IsHead (env : Environment) : Head → List VarType → Type 0 where
-  heads_nothing : IsHead env no_head []
-  heads_variables : {vs : List Initialization} {types : List VarType}
+  head_is_empty : IsHead env no_head []
+  head_declares : {vs : List Initialization} {types : List VarType}
       → AreDeclared env vs types
       → IsHead env (declared_head vs) types
-  heads_expression : {e : Expr}
+  head_evaluates : {e : Expr}
       → IsEvaluated env e
       → IsHead env (evaluated_head e) []
 

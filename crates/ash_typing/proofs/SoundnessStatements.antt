@@ -27,7 +27,7 @@ use Rattle.ash_typing.specs.Labels.{holds_minus, holds_label, is_same_constant, 
 use Rattle.ash_typing.specs.Typing.{IsKnown, AllHaveType, none_left, each}
 use Rattle.ash_typing.specs.Terms.{Term, converted_to}
 use Rattle.ash_typing.specs.TypedStatements.{IsKnownScope, IsCondition, condition, MayBeCondition, endless, until}
-use Rattle.ash_typing.specs.TypedStatements.{IsHead, heads_nothing, heads_variables, heads_expression, IsLabel}
+use Rattle.ash_typing.specs.TypedStatements.{IsHead, head_is_empty, head_declares, head_evaluates, IsLabel}
 use Rattle.ash_typing.specs.TypedStatements.{constant, otherwise, tree_of_term, IsStmt, empty, declare, evaluate, block}
 use Rattle.ash_typing.specs.TypedStatements.{if_only, if_else, while_loop, do_loop, for_loop, switch, break_out}
 use Rattle.ash_typing.specs.TypedStatements.{continue_on, return_nothing, return_value, AreStmts, no_more_stmts}
@@ -113,19 +113,19 @@ record IsSoundHead (scope : Scope) (f : written.Stmt) (h : Head) : Type 0 where
 
 head_sound : {scope : Scope} {f : written.Stmt} {h : Head} → IsHead scope f h → IsKnownScope scope
     → IsSoundHead scope f h
-head_sound {scope} heads_nothing known =
-    record { types = []; head = sound_statements.heads_nothing; known = known; seen = nothing_declared (seen_at scope) }
-head_sound {scope} (heads_variables {v = v} is are) known = record {
+head_sound {scope} head_is_empty known =
+    record { types = []; head = sound_statements.head_is_empty; known = known; seen = nothing_declared (seen_at scope) }
+head_sound {scope} (head_declares {v = v} is are) known = record {
   types = map type_declared (declared_in scope v);
-  head = sound_statements.heads_variables
+  head = sound_statements.head_declares
       (variables_sound are known is (variable_is_known (ty_in scope.env v.of) is)
       (type_sound scope.env.registered scope.env.heads v.of is));
   known = more_known scope (declared_in scope v) known (decls_known (ty_in scope.env v.of) v.decls is);
   seen = declaring_is scope v;
 }
-head_sound {scope} (heads_expression h) known = record {
+head_sound {scope} (head_evaluates h) known = record {
   types = [];
-  head = sound_statements.heads_expression (_, (term_sound h known.env).gives);
+  head = sound_statements.head_evaluates (_, (term_sound h known.env).gives);
   known = known;
   seen = nothing_declared (seen_at scope);
 }

@@ -27,8 +27,8 @@ use Rattle.ash_typing.specs.Statements.{while_typed, do_while_typed, maybe_typed
 use Rattle.ash_typing.specs.Statements.{head_typed, for_typed, break_typed, continue_typed, returned, return_typed}
 use Rattle.ash_typing.specs.Statements.{stmt_typed, stmts_typed, cases_typed}
 use Rattle.ash_typing.specs.TypedStatements.{AreDeclared, none_declared, and_declared, IsCondition, condition}
-use Rattle.ash_typing.specs.TypedStatements.{MayBeCondition, endless, until, IsHead, heads_nothing, heads_variables}
-use Rattle.ash_typing.specs.TypedStatements.{heads_expression, IsLabel, constant, otherwise, tree_of_term, IsStmt}
+use Rattle.ash_typing.specs.TypedStatements.{MayBeCondition, endless, until, IsHead, head_is_empty, head_declares}
+use Rattle.ash_typing.specs.TypedStatements.{head_evaluates, IsLabel, constant, otherwise, tree_of_term, IsStmt}
 use Rattle.ash_typing.specs.TypedStatements.{empty, declare, evaluate, block, if_only, if_else, while_loop, do_loop}
 use Rattle.ash_typing.specs.TypedStatements.{for_loop, switch, break_out, continue_on, return_nothing, return_value}
 use Rattle.ash_typing.specs.TypedStatements.{AreStmts, no_more_stmts, more_stmts, AreCases, no_more_cases, more_cases}
@@ -109,11 +109,11 @@ trees_of (t ∷ ts) = ap (λ (es : List Expr). t.tree ∷ es) (trees_of ts)
 
 head_complete : {scope : Scope} {f : written.Stmt} {g : Head} → IsHead scope f g → head_typed scope f ≡ Ok g
 unfolding head_typed
-head_complete heads_nothing = refl
-head_complete (heads_variables {scope = scope} {v = v} {values = values} known h) =
+head_complete head_is_empty = refl
+head_complete (head_declares {scope = scope} {v = v} {values = values} known h) =
     bind_is (vars_typed scope v) _ values _
     (vars_complete scope v values (known_complete v.of (ty_in scope.env v.of) known) h) refl
-head_complete (heads_expression {scope = scope} {e = e} {t = t} h) =
+head_complete (head_evaluates {scope = scope} {e = e} {t = t} h) =
     bind_is (typed scope.env false e) _ (placed (first_at e) t) _ (complete h) refl
 
 -- statements of which the parts are typed

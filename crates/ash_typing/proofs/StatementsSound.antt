@@ -27,8 +27,8 @@ use Rattle.ash_typing.specs.Statements.{while_typed, do_while_typed, maybe_typed
 use Rattle.ash_typing.specs.Statements.{head_typed, for_typed, break_typed, continue_typed, gives_nothing, returned}
 use Rattle.ash_typing.specs.Statements.{return_typed, stmt_typed, stmts_typed, cases_typed}
 use Rattle.ash_typing.specs.TypedStatements.{IsKnownScope, AreDeclared, none_declared, and_declared, IsCondition}
-use Rattle.ash_typing.specs.TypedStatements.{condition, MayBeCondition, endless, until, IsHead, heads_nothing}
-use Rattle.ash_typing.specs.TypedStatements.{heads_variables, heads_expression, IsLabel, constant, otherwise, IsStmt}
+use Rattle.ash_typing.specs.TypedStatements.{condition, MayBeCondition, endless, until, IsHead, head_is_empty}
+use Rattle.ash_typing.specs.TypedStatements.{head_declares, head_evaluates, IsLabel, constant, otherwise, IsStmt}
 use Rattle.ash_typing.specs.TypedStatements.{empty, declare, evaluate, block, if_only, if_else, while_loop, do_loop}
 use Rattle.ash_typing.specs.TypedStatements.{for_loop, switch, break_out, continue_on, return_nothing, return_value}
 use Rattle.ash_typing.specs.TypedStatements.{AreStmts, no_more_stmts, more_stmts, AreCases, no_more_cases, more_cases}
@@ -138,15 +138,15 @@ vars_sound scope k p v values h =
 head_sound : (scope : Scope) → IsKnownScope scope → (f : written.Stmt) (g : Head) → head_typed scope f ≡ Ok g
     → IsHead scope f g
 unfolding head_typed
-head_sound scope k (written.Empty p) g h = subst (IsHead scope (written.Empty p)) (ok_is _ g h) heads_nothing
+head_sound scope k (written.Empty p) g h = subst (IsHead scope (written.Empty p)) (ok_is _ g h) head_is_empty
 head_sound scope k (written.Declare p v) g h =
     let values = bind_ok (vars_typed scope v) _ g h in
     let are = vars_declared scope k v values.0 values.1 in
-    subst (IsHead scope (written.Declare p v)) (ok_is _ g values.2) (heads_variables are.0 are.1)
+    subst (IsHead scope (written.Declare p v)) (ok_is _ g values.2) (head_declares are.0 are.1)
 head_sound scope k (written.Evaluate p e) g h =
     let v = bind_ok (typed scope.env false e) _ g h in
     subst (IsHead scope (written.Evaluate p e)) (ok_is _ g v.2)
-        (heads_expression (sound scope.env k.env false e v.0 v.1))
+        (head_evaluates (sound scope.env k.env false e v.0 v.1))
 head_sound scope k (written.Block p ss) g h = absurd (no_err _ g h)
 head_sound scope k (written.If p c s) g h = absurd (no_err _ g h)
 head_sound scope k (written.IfElse p c s t) g h = absurd (no_err _ g h)

@@ -58,12 +58,12 @@ pub data MayBeCondition : Environment → Option written.Expr → Option Expr �
 
 -- The head of a `for` is nothing, variables or an expression.
 pub data IsHead : Scope → written.Stmt → Head → Type 0 where
-  heads_nothing : {scope : Scope} {p : place.Place} → IsHead scope (written.Empty p) no_head
-  heads_variables : {scope : Scope} {p : place.Place} {v : written.Vars} {values : List Initialization}
+  head_is_empty : {scope : Scope} {p : place.Place} → IsHead scope (written.Empty p) no_head
+  head_declares : {scope : Scope} {p : place.Place} {v : written.Vars} {values : List Initialization}
       → IsVariableType (ty_in scope.env v.of)
       → AreDeclared scope (ty_in scope.env v.of) v.decls values
       → IsHead scope (written.Declare p v) (declared_head values)
-  heads_expression : {scope : Scope} {p : place.Place} {e : written.Expr} {t : Term}
+  head_evaluates : {scope : Scope} {p : place.Place} {e : written.Expr} {t : Term}
       → HasType scope.env false e t
       → IsHead scope (written.Evaluate p e) (evaluated_head t.tree)
 
