@@ -16,7 +16,7 @@ ShutIs false file = IsShut file → ⊥
 
 -- The file has this header.
 abbrev pub HeaderIs : FileHeader → List ℕ → Type 0
-HeaderIs (Closed shut) file = IsClosed file × ShutIs shut file
+HeaderIs (Closed gate) file = IsClosed file × ShutIs gate.shut file
 HeaderIs Unmarked file = LacksMark file
 HeaderIs (Marked generation) file = HasMark generation file
 

@@ -11,21 +11,22 @@ ghost use Rattle.ash_journal.specs.Writes.{IsOn, IsIdle, AreIdle, WhileStarted, 
 use crate::bytes::generation_bytes;
 use crate::error::CreateFault;
 use crate::gate::commit;
+use crate::one_file::FirstGate;
 use crate::two_files::{both_closed, read_headers};
 use ash_disk::{DeviceFailed, Disk, write_durably};
 use std::alloc::Global;
 
 // Writes 0 over the first gate where it isn't 0, and syncs.
-fn clear<D: Disk>(disk: &mut D, shut: bool) -> Result<(), DeviceFailed>
-    ensures cleared { OnOk result (IsTrue (D.honest disk.old) → ShutIs shut (D.seen disk.old)
+fn clear<D: Disk>(disk: &mut D, gate: FirstGate) -> Result<(), DeviceFailed>
+    ensures cleared { OnOk result (IsTrue (D.honest disk.old) → ShutIs gate.shut (D.seen disk.old)
         → IsOn D.Disk disk.new (0 ∷ drop 1 (D.seen disk.old))) }
-    ensures moments { IsTrue (D.honest disk.old) → ShutIs shut (D.seen disk.old)
+    ensures moments { IsTrue (D.honest disk.old) → ShutIs gate.shut (D.seen disk.old)
         → AreIdle (D.leaves disk.old (D.clock disk.old))
         → Throughout D.Disk disk.old disk.new IsIdle }
     ensures honesty { D.honest disk.new ≡ D.honest disk.old }
     ensures cause { CountsFailure result (D.failures disk.old) (D.failures disk.new) }
 {
-    if shut {
+    if gate.shut {
         return disk.sync();
     }
     write_durably(disk, 0, &[0])
@@ -34,23 +35,23 @@ fn clear<D: Disk>(disk: &mut D, shut: bool) -> Result<(), DeviceFailed>
 // Shuts the first gates, syncs both files, and commits bytes to the first of them.
 fn start<D: Disk>(
     first: &mut D,
-    first_shut: bool,
+    first_gate: FirstGate,
     second: &mut D,
-    second_shut: bool,
+    second_gate: FirstGate,
     bytes: &[u8],
 ) -> Result<(), DeviceFailed>
     ensures created { OnOk result (IsTrue (D.honest first.old)
-        → ShutIs first_shut (D.seen first.old)
+        → ShutIs first_gate.shut (D.seen first.old)
         → IsOn D.Disk first.new
         (1 ∷ (bytes.now ++ drop (length bytes.now) (drop 1 (D.seen first.old))))) }
     ensures second_cleared { OnOk result (IsTrue (D.honest second.old)
-        → ShutIs second_shut (D.seen second.old)
+        → ShutIs second_gate.shut (D.seen second.old)
         → IsOn D.Disk second.new (0 ∷ drop 1 (D.seen second.old))) }
-    ensures first_moments { IsTrue (D.honest first.old) → ShutIs first_shut (D.seen first.old)
+    ensures first_moments { IsTrue (D.honest first.old) → ShutIs first_gate.shut (D.seen first.old)
         → AreIdle (D.leaves first.old (D.clock first.old))
         → Throughout D.Disk first.old first.new
         (WhileStarted bytes.now (D.seen first.old)) }
-    ensures second_moments { IsTrue (D.honest second.old) → ShutIs second_shut (D.seen second.old)
+    ensures second_moments { IsTrue (D.honest second.old) → ShutIs second_gate.shut (D.seen second.old)
         → AreIdle (D.leaves second.old (D.clock second.old))
         → Throughout D.Disk second.old second.new
         IsIdle }
@@ -60,8 +61,8 @@ fn start<D: Disk>(
         (D.failures first.old) (D.failures second.old)
         (D.failures first.new) (D.failures second.new) }
 {
-    clear(first, first_shut)?;
-    clear(second, second_shut)?;
+    clear(first, first_gate)?;
+    clear(second, second_gate)?;
     commit(first, 0, bytes)
 }
 

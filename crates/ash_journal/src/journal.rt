@@ -1,11 +1,11 @@
 //! The journal.
 ghost use Rattle.std.specs.Prelude.{◌≡◌, ◌≤◌, ◌+◌, ◌^◌};
 
-use crate::other_state::{OtherState, swap_if};
+use crate::other_state::{Order, OtherState};
 use crate::bytes::{generation_bytes, record_bytes};
 use crate::creation::create_both;
 use crate::error::{AppendError, CreateFault, InstallError, OpenFault};
-use crate::gate::{commit, repair, replace};
+use crate::gate::{Gate, commit, repair, replace};
 use crate::two_files::{Contents, read_both};
 use crate::record::Record;
 use ash_disk::{DeviceFailed, Disk};
@@ -190,7 +190,10 @@ impl<D: Disk> Journal<D> {
             }
         };
         let Contents { choice, current_file } = contents;
-        let (current, other) = swap_if(choice.swapped, one, two);
+        let order = Order {
+            swapped: choice.swapped,
+        };
+        let (current, other) = order.arrange(one, two);
         let journal = Journal {
             alloc,
             current,
@@ -297,7 +300,7 @@ impl<D: Disk> Journal<D> {
             other_state: _,
             failed: _,
         } = self;
-        swap_if(swapped, current, other)
+        Order { swapped }.arrange(current, other)
     }
 
     /// Writes 0 over the gates that a crash left with another value: the one after the last open record, and the first
@@ -331,14 +334,22 @@ impl<D: Disk> Journal<D> {
         ensures honesty_first { D.honest (first_disk self.new) ≡ D.honest (first_disk self.old) }
         ensures honesty_second { D.honest (second_disk self.new) ≡ D.honest (second_disk self.old) }
     {
-        match repair(&mut self.current, self.stray, self.end) {
+        let last_gate = Gate {
+            at: self.end,
+            stray: self.stray,
+        };
+        match repair(&mut self.current, last_gate) {
             Ok(()) => self.stray = false,
             Err(failure) => {
                 self.failed = true;
                 return Err(failure);
             }
         }
-        match repair(&mut self.other, self.other_state.is_stray(), 0) {
+        let first_gate = Gate {
+            at: 0,
+            stray: self.other_state.is_stray(),
+        };
+        match repair(&mut self.other, first_gate) {
             Ok(()) => self.other_state = self.other_state.repaired(),
             Err(failure) => {
                 self.failed = true;
@@ -390,7 +401,7 @@ impl<D: Disk> Journal<D> {
             Ok(bytes) => bytes,
             Err(_) => return Err(InstallError::NoMemory),
         };
-        match replace(&mut self.other, self.other_state.is_older(), &bytes) {
+        match replace(&mut self.other, self.other_state, &bytes) {
             Ok(()) => {}
             Err(_) => {
                 self.failed = true;

@@ -13,11 +13,17 @@ use ash_disk::{DeviceFailed, Disk};
 use byteorder::{ByteOrder, LittleEndian};
 use std::alloc::Global;
 
+/// The first gate of a file that is closed: whether it is 0.
+#[derive(Clone, Copy)]
+pub(crate) struct FirstGate {
+    pub(crate) shut: bool,
+}
+
 /// What the first bytes of a file say of it.
 #[derive(Clone, Copy)]
 pub(crate) enum FileHeader {
-    /// It is closed, with 0 for its first gate or not.
-    Closed { shut: bool },
+    /// It is closed.
+    Closed { gate: FirstGate },
     /// It is open, and has no magic and no generation.
     Unmarked,
     /// It is open, with this generation.
@@ -53,9 +59,10 @@ pub(crate) fn header_of(prefix: &[u8]) -> FileHeader
     ensures { (file : List ℕ) → prefix.now ≡ take 17 file → HeaderIs result file }
 {
     if prefix.len() < 2 || prefix[0] != 1 {
-        return FileHeader::Closed {
+        let gate = FirstGate {
             shut: is_shut(prefix),
         };
+        return FileHeader::Closed { gate };
     }
     match mark_of(&prefix[1..]) {
         Some(generation) => FileHeader::Marked { generation },

@@ -37,14 +37,22 @@ impl OtherState {
     }
 }
 
-/// Two disks by which of them is current.
-pub(crate) fn swap_if<D>(swapped: bool, first: D, second: D) -> (D, D)
-    ensures current { result.0 ≡ first_of swapped first second }
-    ensures other { result.1 ≡ second_of swapped first second }
-{
-    if swapped {
-        (second, first)
-    } else {
-        (first, second)
+/// Whether the current disk was handed over as the second.
+#[derive(Clone, Copy)]
+pub(crate) struct Order {
+    pub(crate) swapped: bool,
+}
+
+impl Order {
+    /// Two disks, the current one first where they come as they were handed over, and the other way round.
+    pub(crate) fn arrange<D>(self, first: D, second: D) -> (D, D)
+        ensures current { result.0 ≡ first_of self.swapped first second }
+        ensures other { result.1 ≡ second_of self.swapped first second }
+    {
+        if self.swapped {
+            (second, first)
+        } else {
+            (first, second)
+        }
     }
 }

@@ -9,7 +9,7 @@ ghost use Rattle.ash_journal.specs.Reading.{HeaderIs, ShutIs};
 
 use crate::other_state::OtherState;
 use crate::error::OpenFault;
-use crate::one_file::{CurrentFile, FileHeader, read_header, read_current};
+use crate::one_file::{CurrentFile, FileHeader, FirstGate, read_current, read_header};
 use ash_disk::{DeviceFailed, Disk};
 use std::alloc::Global;
 
@@ -28,10 +28,14 @@ pub(crate) struct Contents {
     pub(crate) current_file: CurrentFile,
 }
 
-fn closed(shut: bool) -> OtherState
-    ensures { result ≡ (if shut then OtherState.Shut else OtherState.Stray) }
+fn closed(gate: FirstGate) -> OtherState
+    ensures { result ≡ (if gate.shut then OtherState.Shut else OtherState.Stray) }
 {
-    if shut { OtherState::Shut } else { OtherState::Stray }
+    if gate.shut {
+        OtherState::Shut
+    } else {
+        OtherState::Stray
+    }
 }
 
 // Which file is current: the open one with the greater number.
@@ -43,15 +47,15 @@ fn choose(first: FileHeader, second: FileHeader) -> Result<Choice, OpenFault>
     match (first, second) {
         (FileHeader::Unmarked, _) | (_, FileHeader::Unmarked) => Err(OpenFault::Damaged(0)),
         (FileHeader::Closed { .. }, FileHeader::Closed { .. }) => Err(OpenFault::NoGeneration),
-        (FileHeader::Marked { generation }, FileHeader::Closed { shut }) => Ok(Choice {
+        (FileHeader::Marked { generation }, FileHeader::Closed { gate }) => Ok(Choice {
             swapped: false,
             generation,
-            other_state: closed(shut),
+            other_state: closed(gate),
         }),
-        (FileHeader::Closed { shut }, FileHeader::Marked { generation }) => Ok(Choice {
+        (FileHeader::Closed { gate }, FileHeader::Marked { generation }) => Ok(Choice {
             swapped: true,
             generation,
-            other_state: closed(shut),
+            other_state: closed(gate),
         }),
         (FileHeader::Marked { generation: one }, FileHeader::Marked { generation: two }) => {
             choose_greater(one, two)
@@ -126,15 +130,15 @@ pub(crate) fn read_headers<D: Disk>(first: &mut D, second: &mut D) -> Result<Hea
     })
 }
 
-/// Of two files that are both closed, whether the first gate of each is 0.
-pub(crate) fn both_closed(headers: &Headers) -> Option<(bool, bool)>
+/// The first gates of two files that are both closed.
+pub(crate) fn both_closed(headers: &Headers) -> Option<(FirstGate, FirstGate)>
     ensures { (x y : List ℕ) → HeadersAre headers.now x y
         → MatchOption result (IsOpen x ⊎ IsOpen y)
-        (λ shut. (IsClosed x × ShutIs shut.0 x) × (IsClosed y × ShutIs shut.1 y)) }
+        (λ gates. (IsClosed x × ShutIs gates.0.shut x) × (IsClosed y × ShutIs gates.1.shut y)) }
 {
     match headers.first {
-        FileHeader::Closed { shut: one } => match headers.second {
-            FileHeader::Closed { shut: two } => Some((one, two)),
+        FileHeader::Closed { gate: one } => match headers.second {
+            FileHeader::Closed { gate: two } => Some((one, two)),
             FileHeader::Unmarked => None,
             FileHeader::Marked { .. } => None,
         },

@@ -1,4 +1,4 @@
-use Rattle.std.proofs.Common.{◌≡◌, ◌∙◌, ◌+◌, ◌^◌, ◌<◌, ◌∷◌, ◌++◌, [], Bool, List, ℕ, length, drop, not, false, refl}
+use Rattle.std.proofs.Common.{◌≡◌, ◌∙◌, ◌+◌, ◌^◌, ◌<◌, ◌∷◌, ◌++◌, [], List, ℕ, length, drop, not, false, refl}
 use Rattle.std.proofs.Common.{sym, subst, arith}
 use Rattle.ash_disk.specs.Device.{Throughout}
 use Rattle.ash_journal.specs.declared.other_state.OtherState.TheVariants.{Older}
@@ -21,20 +21,14 @@ returns-in-Err-replace-clause-run g c was bodies holds =
     let bytes_are : c.deref.result.now ≡ mark (j.generation + 1) ++ (block image ++ 0 ∷ []) =
         c.deref.ensures.value ∙ c.in-Ok.ensures in
     let higher : j.generation + 1 < 2 ^ 64 = omega (arith, c.if-self.false, f.fits.numbered) in
-    let shut : c.is_older.result ≡ false → IsShut (d.seen j.other) =
-        λ closed. shut_other j.stray j.other_state j.generation (d.seen j.other) holds.repaired f.other_is
-        (sym c.is_older.ensures ∙ closed) in
+    let shut = shut_other j.stray j.other_state j.generation (d.seen j.other) holds.repaired f.other_is in
     let call = c.replace.ensures.moments f.other_honest f.other_durable shut in
-    let call' = subst
-        (λ (is_open : Bool).
-        Throughout d j.other c.replace.new.disk (WhileReplaced is_open c.deref.result.now (d.seen j.other)))
-        c.is_older.ensures call in
-    let call'' =
+    let call' =
         subst (λ (l : List ℕ).
         Throughout d j.other c.replace.new.disk (WhileReplaced (is_older j.other_state) l (d.seen j.other))) bytes_are
-        call' in
+        call in
     let run = install_run d j.generation j.end j.record_bytes j.stray j.other_state j.current j.other c.replace.new.disk
-        was bodies image f holds.repaired higher c.requires.short j.swapped call'' in
+        was bodies image f holds.repaired higher c.requires.short j.swapped call' in
     run
 
 pub returns-clause-installed : goal.returns-clause-installed
@@ -46,9 +40,7 @@ returns-clause-installed g c was bodies holds =
     let bytes_are : c.deref.result.now ≡ mark (j.generation + 1) ++ (block image ++ 0 ∷ []) =
         c.deref.ensures.value ∙ c.in-Ok.ensures in
     let higher : j.generation + 1 < 2 ^ 64 = omega (arith, c.if-self.false, f.fits.numbered) in
-    let shut : c.is_older.result ≡ false → IsShut (d.seen j.other) =
-        λ closed. shut_other j.stray j.other_state j.generation (d.seen j.other) holds.repaired f.other_is
-        (sym c.is_older.ensures ∙ closed) in
+    let shut = shut_other j.stray j.other_state j.generation (d.seen j.other) holds.repaired f.other_is in
     let on = c.in-Ok-replace.ensures.replaced f.other_honest f.other_durable shut in
     let on' = subst
         (λ (l : List ℕ). IsOn d c.replace.new.disk (1 ∷ (l ++ drop (length l) (drop 1 (d.seen j.other))))) bytes_are
@@ -78,20 +70,14 @@ returns-clause-run g c was bodies holds =
     let bytes_are : c.deref.result.now ≡ mark (j.generation + 1) ++ (block image ++ 0 ∷ []) =
         c.deref.ensures.value ∙ c.in-Ok.ensures in
     let higher : j.generation + 1 < 2 ^ 64 = omega (arith, c.if-self.false, f.fits.numbered) in
-    let shut : c.is_older.result ≡ false → IsShut (d.seen j.other) =
-        λ closed. shut_other j.stray j.other_state j.generation (d.seen j.other) holds.repaired f.other_is
-        (sym c.is_older.ensures ∙ closed) in
+    let shut = shut_other j.stray j.other_state j.generation (d.seen j.other) holds.repaired f.other_is in
     let call = c.replace.ensures.moments f.other_honest f.other_durable shut in
-    let call' = subst
-        (λ (is_open : Bool).
-        Throughout d j.other c.replace.new.disk (WhileReplaced is_open c.deref.result.now (d.seen j.other)))
-        c.is_older.ensures call in
-    let call'' =
+    let call' =
         subst (λ (l : List ℕ).
         Throughout d j.other c.replace.new.disk (WhileReplaced (is_older j.other_state) l (d.seen j.other))) bytes_are
-        call' in
+        call in
     let run = install_run d j.generation j.end j.record_bytes j.stray j.other_state j.current j.other c.replace.new.disk
-        was bodies image f holds.repaired higher c.requires.short j.swapped call'' in
+        was bodies image f holds.repaired higher c.requires.short j.swapped call' in
     let swapped =
         run_swapped d j.swapped _ _ j.current c.replace.new.disk (Either (Is (image, [])) (Is (was, bodies))) run in
     let swapped' =

@@ -20,7 +20,7 @@ returns-clause-found g c honest_first honest_second =
     (subst IsTrue (sym e.first_read.honesty) honest_first) (subst IsTrue (sym e.second_read.honesty) honest_second)
         (e.first_read.seen honest_first) (e.second_read.seen honest_second) (e.durable_first honest_first)
         (e.durable_second honest_second) answer.0 answer.1 size_is in
-    rw (c.swap_if-current.ensures.current, c.swap_if-current.ensures.other) files
+    rw (c.arrange-current.ensures.current, c.arrange-current.ensures.other) files
 
 pub returns-clause-represented : goal.returns-clause-represented
 returns-clause-represented g c honest_first honest_second =
@@ -52,11 +52,11 @@ returns-clause-extends g c honest_first honest_second =
     let d = g.D.Disk in
     let e = c.in-Ok.ensures in
     let swapped = c.in-Ok.contents.choice.swapped in
-    let current = c.swap_if-current.result.0 in
-    let other = c.swap_if-current.result.1 in
+    let current = c.arrange-current.result.0 in
+    let other = c.arrange-current.result.1 in
     let read = read_extends d c.args.first c.args.second c.read_both.new.first c.read_both.new.second honest_first
         honest_second e.first_read e.second_read in
-    let is = placed swapped c.read_both.new.first c.read_both.new.second current other c.swap_if-current.ensures.current
-        c.swap_if-current.ensures.other in
+    let is = placed swapped c.read_both.new.first c.read_both.new.second current other c.arrange-current.ensures.current
+        c.arrange-current.ensures.other in
     let one = subst (λ x. Extends d c.args.first c.args.second x c.read_both.new.second Nothing) (sym is.0) read in
     subst (λ y. Extends d c.args.first c.args.second (first_of swapped current other) y Nothing) (sym is.1) one
