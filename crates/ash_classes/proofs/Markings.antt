@@ -78,7 +78,7 @@ pub marks_new : (place distance : ℕ) (marks : List (Option ℕ)) (found : List
     → Marks (λ p. p ≡ place) distance marks (set marks place (Some distance)) found (found ++ place ∷ [])
 marks_new place distance marks found within none =
     let here : IsAt (set marks place (Some distance)) place distance =
-        get_or-set_same marks place (Some distance) None within in
+    get_or-set_same marks place (Some distance) None within in
     record {
       long = length-set marks place (Some distance);
       unchanged = λ p at h. elim (cases_eq p place) [
@@ -87,9 +87,11 @@ marks_new place distance marks found within none =
       ];
       marked = λ p e. (distance, ap (λ q. get_or (set marks place (Some distance)) q None) e ∙ here);
       added = λ p at h. elim (cases_eq p place) [
-        | inl e ↦ inr
-            (same_Some at distance (sym h ∙ ap (λ q. get_or (set marks place (Some distance)) q None) e ∙ here), e,
-            subst (λ (q : ℕ). Contains (found ++ place ∷ []) q) (sym e) (Contains-push found place))
+        | inl e ↦ inr (
+          same_Some at distance (sym h ∙ ap (λ q. get_or (set marks place (Some distance)) q None) e ∙ here),
+          e,
+          subst (λ (q : ℕ). Contains (found ++ place ∷ []) q) (sym e) (Contains-push found place),
+        )
         | inr ne ↦ inl (sym (get_or-set_other marks place p (Some distance) None ne) ∙ h)
       ];
       known = λ p h. Contains-append_left found (place ∷ []) p h;
@@ -131,17 +133,17 @@ pub marks_more : (row : List ℕ) (i distance : ℕ) (old mid new : List (Option
 marks_more row i distance old mid new before between found within m n =
     let last : take (i + 1) row ≡ take i row ++ get_or row i 0 ∷ [] = (take_at_read row i 0 within).1 in
     marks_same (λ p. Contains (take i row) p ⊎ (p ≡ get_or row i 0))
-        (λ p. Contains (take (i + 1) row) p) distance old new before found
+    (λ p. Contains (take (i + 1) row) p) distance old new before found
     (λ p t. subst
-        (λ (xs : List ℕ). Contains xs p) (sym last)
-        (elim t [
-          | inl h ↦ Contains-append_left (take i row) (get_or row i 0 ∷ []) p h
-          | inr e ↦ subst
-              (λ (q : ℕ). Contains (take i row ++ get_or row i 0 ∷ []) q) (sym e)
-              (Contains-push (take i row) (get_or row i 0))
-        ]))
+    (λ (xs : List ℕ). Contains xs p) (sym last)
+    (elim t [
+      | inl h ↦ Contains-append_left (take i row) (get_or row i 0 ∷ []) p h
+      | inr e ↦ subst
+          (λ (q : ℕ). Contains (take i row ++ get_or row i 0 ∷ []) q) (sym e)
+          (Contains-push (take i row) (get_or row i 0))
+    ]))
     (λ p h. elim (Contains-push_cases (take i row) (get_or row i 0) p
-        (subst (λ (xs : List ℕ). Contains xs p) last h)) [ inl w ↦ inl w | inr e ↦ inr (sym e) ])
+    (subst (λ (xs : List ℕ). Contains xs p) last h)) [ inl w ↦ inl w | inr e ↦ inr (sym e) ])
     (marks_then (λ p. Contains (take i row) p) (λ p. p ≡ get_or row i 0) distance old mid new before between found m n)
 
 -- no place was marked yet

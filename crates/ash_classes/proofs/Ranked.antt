@@ -36,15 +36,27 @@ not_more [] [] e h = omega arith
 not_more [] (y ∷ ys) e h = absurd (omega (arith, e))
 not_more (x ∷ xs) [] e h = absurd (omega (arith, e))
 not_more (None ∷ xs) (None ∷ ys) e h =
-    omega (arith, unmarked-cons None xs, unmarked-cons None ys,
-    not_more xs ys (omega (arith, e)) (λ place at k. h (suc place) at k))
+    omega (
+      arith,
+      unmarked-cons None xs,
+      unmarked-cons None ys,
+      not_more xs ys (omega (arith, e)) (λ place at k. h (suc place) at k),
+    )
 not_more (None ∷ xs) (Some y ∷ ys) e h =
-    omega (arith, unmarked-cons None xs, unmarked-cons (Some y) ys,
-    not_more xs ys (omega (arith, e)) (λ place at k. h (suc place) at k))
+    omega (
+      arith,
+      unmarked-cons None xs,
+      unmarked-cons (Some y) ys,
+      not_more xs ys (omega (arith, e)) (λ place at k. h (suc place) at k),
+    )
 not_more (Some x ∷ xs) (None ∷ ys) e h = let k = h zero x refl in absurd (none-some k.0 k.1)
 not_more (Some x ∷ xs) (Some y ∷ ys) e h =
-    omega (arith, unmarked-cons (Some x) xs, unmarked-cons (Some y) ys,
-    not_more xs ys (omega (arith, e)) (λ place at k. h (suc place) at k))
+    omega (
+      arith,
+      unmarked-cons (Some x) xs,
+      unmarked-cons (Some y) ys,
+      not_more xs ys (omega (arith, e)) (λ place at k. h (suc place) at k),
+    )
 
 -- and one more is marked in the other
 pub fewer : (xs ys : List (Option ℕ)) (place at : ℕ) → length xs ≡ length ys → IsCovered xs ys → place < length xs
@@ -53,20 +65,36 @@ fewer [] ys place at e h within none some = absurd (omega arith)
 fewer (x ∷ xs) [] place at e h within none some = absurd (omega (arith, e))
 fewer (None ∷ xs) (None ∷ ys) zero at e h within none some = absurd (none-some at some)
 fewer (None ∷ xs) (Some y ∷ ys) zero at e h within none some =
-    omega (arith, unmarked-cons None xs, unmarked-cons (Some y) ys,
-    not_more xs ys (omega (arith, e)) (λ place at k. h (suc place) at k))
+    omega (
+      arith,
+      unmarked-cons None xs,
+      unmarked-cons (Some y) ys,
+      not_more xs ys (omega (arith, e)) (λ place at k. h (suc place) at k),
+    )
 fewer (Some x ∷ xs) ys zero at e h within none some = absurd (none-some x (sym none))
 fewer (None ∷ xs) (None ∷ ys) (suc place) at e h within none some =
-    omega (arith, unmarked-cons None xs, unmarked-cons None ys,
-    fewer xs ys place at (omega (arith, e)) (λ place at k. h (suc place) at k) (omega (arith, within)) none some)
+    omega (
+      arith,
+      unmarked-cons None xs,
+      unmarked-cons None ys,
+      fewer xs ys place at (omega (arith, e)) (λ place at k. h (suc place) at k) (omega (arith, within)) none some,
+    )
 fewer (None ∷ xs) (Some y ∷ ys) (suc place) at e h within none some =
-    omega (arith, unmarked-cons None xs, unmarked-cons (Some y) ys,
-    fewer xs ys place at (omega (arith, e)) (λ place at k. h (suc place) at k) (omega (arith, within)) none some)
+    omega (
+      arith,
+      unmarked-cons None xs,
+      unmarked-cons (Some y) ys,
+      fewer xs ys place at (omega (arith, e)) (λ place at k. h (suc place) at k) (omega (arith, within)) none some,
+    )
 fewer (Some x ∷ xs) (None ∷ ys) (suc place) at e h within none some = let k = h zero x refl in
     absurd (none-some k.0 k.1)
 fewer (Some x ∷ xs) (Some y ∷ ys) (suc place) at e h within none some =
-    omega (arith, unmarked-cons (Some x) xs, unmarked-cons (Some y) ys,
-    fewer xs ys place at (omega (arith, e)) (λ place at k. h (suc place) at k) (omega (arith, within)) none some)
+    omega (
+      arith,
+      unmarked-cons (Some x) xs,
+      unmarked-cons (Some y) ys,
+      fewer xs ys place at (omega (arith, e)) (λ place at k. h (suc place) at k) (omega (arith, within)) none some,
+    )
 
 -- a rank, one less than the number of places that don't lead to the place, which is one of them
 pub record IsRank (R : ℕ → ℕ → Type 0) (places place rank : ℕ) : Type 0 where
@@ -100,7 +128,7 @@ one_ranked R places before rank ranks h r = record {
     | inr higher ↦
         let e : place ≡ before = omega (arith, less, higher) in
         subst (λ (k : ℕ). IsRank R places k (get_or (ranks ++ rank ∷ []) k 0)) (sym e)
-            (subst (λ (k : ℕ). IsRank R places before k) (sym (get_or_push ranks rank 0 before h.count)) r)
+        (subst (λ (k : ℕ). IsRank R places before k) (sym (get_or_push ranks rank 0 before h.count)) r)
   ];
 }
 
@@ -119,12 +147,12 @@ greater_of R places from to high low within step f t =
     let covered : IsCovered f.marks t.marks = λ place at h.
     let reached = f.distances.reached place at h in
     let near = t.distances.least place (reached.0 ++ from ∷ [])
-        (way_further R place from to reached.0 reached.2 step) in
+    (way_further R place from to reached.0 reached.2 step) in
     (near.0, near.1) in
     let near = t.distances.least from [] step in
     let less : unmarked t.marks < unmarked f.marks =
-        fewer f.marks t.marks from near.0 (f.distances.long ∙ sym t.distances.long) covered
-        (omega (arith, within, f.distances.long)) f.alone near.1 in
+    fewer f.marks t.marks from near.0 (f.distances.long ∙ sym t.distances.long) covered
+    (omega (arith, within, f.distances.long)) f.alone near.1 in
     omega (arith, less, f.counted, t.counted)
 
 pub row_of_place : (rows : List (List ℕ)) (from to : ℕ) → Goes rows from to → to < length rows
@@ -148,7 +176,7 @@ all_ranked rows places ranks e within h = record {
       let low : from < places = omega (arith, within from to step, e) in
       let high : to < places = omega (arith, row_of_place rows from to step, e) in
       greater_of (Goes rows) places from to (get_or ranks from 0) (get_or ranks to 0) low step (h.each from low)
-          (h.each to high);
+      (h.each to high);
 }
 
 -- no place reaches itself

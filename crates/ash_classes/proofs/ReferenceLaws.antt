@@ -72,9 +72,11 @@ row_same classes one other i row at refers h = λ from. (
 pub row_end : (classes : List Class) (other : Class) (i : ℕ) (row : List ℕ) → length classes ≤ i
     → IsRowBefore classes other i row → (from : ℕ) → Contains row from ↔ RefersAt classes from other
 row_end classes other i row past h =
-    λ from. (λ c. ((h from).0 c).1,
-    λ w. (h from).1
-    (let l : from < length classes = slice_get_within classes from w.0 w.1 in omega (arith, l, past), w))
+    λ from. (
+      λ c. ((h from).0 c).1,
+      λ w. (h from).1
+          (let l : from < length classes = slice_get_within classes from w.0 w.1 in omega (arith, l, past), w),
+    )
 
 -- rows
 
@@ -94,23 +96,29 @@ rows_more classes other i rows row at is h = record {
   each = λ from to. elim (cases_lt to i) [
     | inl lower ↦
         let e : get_or (rows ++ row ∷ []) to [] ≡ get_or rows to [] =
-            get_or_append_left rows (row ∷ []) [] to (omega (arith, lower, h.count)) in (
+        get_or_append_left rows (row ∷ []) [] to (omega (arith, lower, h.count)) in (
           λ c. (let w = (h.each from to).0 (subst (λ (r : List ℕ). Contains r from) e c) in (omega (arith, w.0), w.1)),
           λ w. subst (λ (r : List ℕ). Contains r from) (sym e) ((h.each from to).1 (lower, w.1)),
         )
     | inr higher ↦ elim (cases_lt i to) [
       | inl past ↦
           let e : get_or (rows ++ row ∷ []) to [] ≡ [] =
-              get_or_past (rows ++ row ∷ []) to [] (omega (arith, length-append rows (row ∷ []), h.count, past)) in
-          (λ c. absurd (none_in from (subst (λ (r : List ℕ). Contains r from) e c)),
-              λ w. absurd (omega (arith, w.0, past)))
+          get_or_past (rows ++ row ∷ []) to [] (omega (arith, length-append rows (row ∷ []), h.count, past)) in (
+            λ c. absurd (none_in from (subst (λ (r : List ℕ). Contains r from) e c)),
+            λ w. absurd (omega (arith, w.0, past)),
+          )
       | inr here ↦
           let same : i ≡ to = omega (arith, higher, here) in
           let e : get_or (rows ++ row ∷ []) to [] ≡ row =
-              subst (λ (k : ℕ). get_or (rows ++ row ∷ []) k [] ≡ row) same (get_or_push rows row [] i h.count) in (
-            λ c. (omega (arith, same),
-                (other, subst (λ (k : ℕ). slice_get classes k ≡ Some other) same at,
-                (is from).0 (subst (λ (r : List ℕ). Contains r from) e c))),
+          subst (λ (k : ℕ). get_or (rows ++ row ∷ []) k [] ≡ row) same (get_or_push rows row [] i h.count) in (
+            λ c. (
+              omega (arith, same),
+              (
+                other,
+                subst (λ (k : ℕ). slice_get classes k ≡ Some other) same at,
+                (is from).0 (subst (λ (r : List ℕ). Contains r from) e c),
+              ),
+            ),
             λ w. subst (λ (r : List ℕ). Contains r from) (sym e)
                 ((is from).1
                 (subst (λ (c : Class). RefersAt classes from c)
@@ -124,9 +132,11 @@ rows_more classes other i rows row at is h = record {
 pub rows_end : (classes : List Class) (i : ℕ) (rows : List (List ℕ)) → length classes ≤ i → AreRowsBefore classes i rows
     → (from to : ℕ) → Goes rows from to ↔ Refers classes from to
 rows_end classes i rows past h =
-    λ from to. (λ c. ((h.each from to).0 c).1,
-    λ w. (h.each from to).1
-    (let l : to < length classes = slice_get_within classes to w.0 w.1 in omega (arith, l, past), w))
+    λ from to. (
+      λ c. ((h.each from to).0 c).1,
+      λ w. (h.each from to).1
+          (let l : to < length classes = slice_get_within classes to w.0 w.1 in omega (arith, l, past), w),
+    )
 
 -- the class that was read at a place
 pub seen_at : (classes : List (Bor code_class.Class)) (i : ℕ) (x : Bor code_class.Class) → i < length classes

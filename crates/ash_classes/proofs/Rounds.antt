@@ -26,8 +26,8 @@ row_within table to row n within at h e =
     All-from_get_or (λ p. p < n) row.items 0 (λ i lt.
     let here : Contains row.items (get_or row.items i 0) = Contains-get_or row.items i 0 lt in
     let less : get_or row.items i 0 < length (rows_of table) =
-        within (get_or row.items i 0) to
-        (subst (λ (r : List ℕ). Contains r (get_or row.items i 0)) (sym (row_read table to row at h)) here) in
+    within (get_or row.items i 0) to
+    (subst (λ (r : List ℕ). Contains r (get_or row.items i 0)) (sym (row_read table to row at h)) here) in
     omega (arith, less, length-map table (λ (v : Vec ℕ Global). v.items), e))
 
 -- the places that go to the next of a level are marked, after those that go to the ones before it
@@ -40,20 +40,25 @@ marks_further rows level row i distance old mid new before between found within 
     let to : ℕ = get_or level i 0 in
     let last : take (i + 1) level ≡ take i level ++ to ∷ [] = (take_at_read level i 0 within).1 in
     marks_same (λ p. GoesToOne (Goes rows) (take i level) p ⊎ Contains row p)
-        (GoesToOne (Goes rows) (take (i + 1) level)) distance old new before found
+    (GoesToOne (Goes rows) (take (i + 1) level)) distance old new before found
     (λ p t. elim t [
-      | inl h ↦ (h.0,
-          subst (λ (xs : List ℕ). Contains xs h.0) (sym last) (Contains-append_left (take i level) (to ∷ []) h.0 h.1),
-          h.2)
-      | inr h ↦ (to, subst (λ (xs : List ℕ). Contains xs to) (sym last) (Contains-push (take i level) to),
-          subst (λ (r : List ℕ). Contains r p) (sym is_row) h)
+      | inl h ↦ (
+        h.0,
+        subst (λ (xs : List ℕ). Contains xs h.0) (sym last) (Contains-append_left (take i level) (to ∷ []) h.0 h.1),
+        h.2,
+      )
+      | inr h ↦ (
+        to,
+        subst (λ (xs : List ℕ). Contains xs to) (sym last) (Contains-push (take i level) to),
+        subst (λ (r : List ℕ). Contains r p) (sym is_row) h,
+      )
     ])
     (λ p h. elim (Contains-push_cases (take i level) to h.0 (subst (λ (xs : List ℕ). Contains xs h.0) last h.1)) [
       | inl w ↦ inl (h.0, w, h.2)
       | inr e ↦ inr (subst (λ (r : List ℕ). Contains r p) is_row (subst (λ (q : ℕ). Goes rows p q) (sym e) h.2))
     ])
     (marks_then (GoesToOne (Goes rows) (take i level))
-        (λ p. Contains row p) distance old mid new before between found m n)
+    (λ p. Contains row p) distance old mid new before between found m n)
 
 pub marks_level_start : (rows : List (List ℕ)) (level : List ℕ) (distance : ℕ) (marks : List (Option ℕ))
     (found : List ℕ) → Marks (GoesToOne (Goes rows) (take 0 level)) distance marks marks found found
@@ -101,10 +106,10 @@ pub first_search : (R : ℕ → ℕ → Type 0) (places to : ℕ) (row : List �
     → Marks (λ p. Contains row p) 0 (replicate places None) marks [] found → IsSearched R places to 0 marks found
 first_search R places to row marks found there back m =
     let new : (p at : ℕ) → IsAt marks p at → (at ≡ 0) × Contains row p × Contains found p =
-        λ p at h. elim (m.added p at h) [
-          | inl was ↦ absurd (none-some at (sym (same_everywhere None places p) ∙ was))
-          | inr now ↦ now
-        ] in
+    λ p at h. elim (m.added p at h) [
+      | inl was ↦ absurd (none-some at (sym (same_everywhere None places p) ∙ was))
+      | inr now ↦ now
+    ] in
     record {
       long = m.long ∙ length-replicate places None;
       reached = λ p at h. ([], sym (new p at h).0, back p (new p at h).1);
@@ -135,11 +140,14 @@ next_search R places to level marks later found more some s m = record {
       | inl lower ↦ (let n = s.done p mid at r was lower in (n.0, m.unchanged p n.0 n.1, n.2))
       | inr higher ↦
           let e : at ≡ level = omega (arith, s.low mid at was) in
-          let n = m.marked p (mid, s.frontier mid (subst (λ (k : ℕ). IsAt marks mid k) e was), r) in
-          (n.0, n.1, elim (m.added p n.0 n.1) [
-            | inl before ↦ omega (arith, s.low p n.0 before)
-            | inr now ↦ omega (arith, now.0)
-          ])
+          let n = m.marked p (mid, s.frontier mid (subst (λ (k : ℕ). IsAt marks mid k) e was), r) in (
+            n.0,
+            n.1,
+            elim (m.added p n.0 n.1) [
+              | inl before ↦ omega (arith, s.low p n.0 before)
+              | inr now ↦ omega (arith, now.0)
+            ],
+          )
     ]
     | inr now ↦ absurd (omega (arith, now.0, less))
   ];

@@ -22,10 +22,10 @@ module _ {X : Type 0} (Has : List X → Type 0) (Passes : X → Type 0) (any : I
   passed_by xs i x within is not_it left has =
       let begins : drop i xs ≡ get_or xs i x ∷ drop (suc i) xs = drop-cons xs i x within in
       let next : Has (drop (suc i) xs) =
-          elim (any.split (get_or xs i x) (drop (suc i) xs) (subst Has begins (left has))) [
-            | inl it ↦ absurd (not_it (subst Passes (sym is) it))
-            | inr behind ↦ behind
-          ] in
+      elim (any.split (get_or xs i x) (drop (suc i) xs) (subst Has begins (left has))) [
+        | inl it ↦ absurd (not_it (subst Passes (sym is) it))
+        | inr behind ↦ behind
+      ] in
       subst (λ (n : ℕ). Has (drop n xs)) (sym (add-one i)) next
 
   -- none was found

@@ -71,26 +71,26 @@ all_within : (R : ℕ → ℕ → Type 0) (places : ℕ) → ((from to : ℕ) �
 all_within R places within from to [] way place h = cc
 all_within R places within from to (next ∷ between) way place h =
     elim (or_cases (eqb place next) (list_any (eqb place) between) h) [
-  | inl here ↦ subst (λ (p : ℕ). p < places) (sym (eqb-true place next here)) (within from next way.0)
-  | inr later ↦ all_within R places within next to between way.1 place later
-]
+      | inl here ↦ subst (λ (p : ℕ). p < places) (sym (eqb-true place next here)) (within from next way.0)
+      | inr later ↦ all_within R places within next to between way.1 place later
+    ]
 
 round_within : (R : ℕ → ℕ → Type 0) (places : ℕ) → ((from to : ℕ) → R from to → to < places)
     → (first : ℕ) (others : List ℕ) → IsWay R first others first → (place : ℕ)
     → list_any (eqb place) (first ∷ others) ≡ true → place < places
 round_within R places within first others way place h =
     elim (or_cases (eqb place first) (list_any (eqb place) others) h) [
-  | inl here ↦
-      subst (λ (p : ℕ). p < places) (sym (eqb-true place first here))
-      (end_within R places within first first others way)
-  | inr later ↦ all_within R places within first first others way place later
-]
+      | inl here ↦
+          subst (λ (p : ℕ). p < places) (sym (eqb-true place first here))
+          (end_within R places within first first others way)
+      | inr later ↦ all_within R places within first first others way place later
+    ]
 
 few : (R : ℕ → ℕ → Type 0) (places : ℕ) → ((from to : ℕ) → R from to → to < places) → (first : ℕ) (others : List ℕ)
     → IsWay R first others first → IsDistinct eqb (first ∷ others) → HasShorter R first first places
 few R places within first others way once =
     let all : length (first ∷ others) ≤ places =
-        length-le_from_distinct_below (first ∷ others) places once (round_within R places within first others way) in
+    length-le_from_distinct_below (first ∷ others) places once (round_within R places within first others way) in
     (others, way, omega (arith, all))
 
 short_by : (R : ℕ → ℕ → Type 0) (places : ℕ) → ((from to : ℕ) → R from to → to < places)

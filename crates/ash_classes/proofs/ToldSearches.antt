@@ -94,7 +94,7 @@ module _ (R : ℕ → ℕ → Type 0) (goes : ℕ → ℕ → Bool) (places : �
   missed (suc count) from to h [] way long = absurd (omega (arith, long))
   missed (suc count) from to h (next ∷ other) way long =
       let none : onward count from to next ≡ None =
-          below_none (onward count from to) places h next (within from next way.0) in
+      below_none (onward count from to) places h next (within from next way.0) in
       missed count next to (not_onward count from to next none way.0) other way.1 (omega (arith, long))
 
   -- the first of the ways with so many places in between
@@ -127,15 +127,15 @@ module _ (R : ℕ → ℕ → Type 0) (goes : ℕ → ℕ → Bool) (places : �
   found zero from to between h =
       let straight = if_some (goes from to) (Some []) between h in
       subst (λ (xs : List ℕ). IsFirstOf zero from to xs) (same_Some [] between straight.1)
-          ((decides from to).0 straight.0, refl, λ other way long. tt)
+      ((decides from to).0 straight.0, refl, λ other way long. tt)
   found (suc count) from to between h =
       let next = below_some (onward count from to) places between h in
       let on = if_some (goes from next.0)
-          (option_map (λ others. next.0 ∷ others) (foremost goes places count next.0 to)) between next.2 in
+      (option_map (λ others. next.0 ∷ others) (foremost goes places count next.0 to)) between next.2 in
       let rest = map_some (λ others. next.0 ∷ others) (foremost goes places count next.0 to) between on.1 in
       subst (λ (xs : List ℕ). IsFirstOf (suc count) from to xs) rest.2
-          (first_by count from to next.0 rest.0 ((decides from next.0).0 on.0) next.3
-          (found count next.0 to rest.0 rest.1))
+      (first_by count from to next.0 rest.0 ((decides from next.0).0 on.0) next.3
+      (found count next.0 to rest.0 rest.1))
 
   -- the shortest way back, and of these the first
   back_some : (place : ℕ) (between : List ℕ) → shortest_back goes places place ≡ Some between
@@ -156,14 +156,14 @@ module _ (R : ℕ → ℕ → Type 0) (goes : ℕ → ℕ → Bool) (places : �
   back_none place h round =
       let short = short_round R places within place round in
       missed (length short.0) place place
-          (below_none (λ count. foremost goes places count place place) places h (length short.0) short.2) short.0
-          short.1 refl
+      (below_none (λ count. foremost goes places count place place) places h (length short.0) short.2) short.0
+      short.1 refl
 
   round_some : (first : ℕ) (others : List ℕ) → first_round goes places ≡ Some (first, others) → IsTold R first others
   round_some first others h =
       let place = below_some
-          (λ first. option_map (λ others. (first, others)) (shortest_back goes places first)) places (first, others)
-          h in
+      (λ first. option_map (λ others. (first, others)) (shortest_back goes places first)) places (first, others)
+      h in
       let back = map_some (λ others. (place.0, others)) (shortest_back goes places place.0) (first, others) place.2 in
       let told : IsTold R place.0 back.0 = record {
         round = back_some place.0 back.0 back.1;
@@ -180,9 +180,9 @@ module _ (R : ℕ → ℕ → Type 0) (goes : ℕ → ℕ → Bool) (places : �
   round_none h place round =
       let short = short_round R places within place round in
       back_none place
-          (map_none (λ others. (place, others)) (shortest_back goes places place)
-          (below_none (λ first. option_map (λ others. (first, others)) (shortest_back goes places first)) places h place
-          (end_within R places within place place short.0 short.1))) round
+      (map_none (λ others. (place, others)) (shortest_back goes places place)
+      (below_none (λ first. option_map (λ others. (first, others)) (shortest_back goes places first)) places h place
+      (end_within R places within place place short.0 short.1))) round
 
 -- the test of references
 
@@ -258,7 +258,7 @@ some_if_cycle classes first others told = elim (none_or_some (told_cycle classes
   | inl none ↦ absurd (acyclic_if_none classes none first (others, told.round.way))
   | inr some ↦
       let same = only_cycle (Refers classes) first others told some.0.0 some.0.1
-          (cycle_if_some classes some.0.0 some.0.1 some.1) in
+      (cycle_if_some classes some.0.0 some.0.1 some.1) in
       some.1 ∙ ap (λ (n : ℕ). Some (n, some.0.1)) same.0 ∙ ap (λ (ns : List ℕ). Some (first, ns)) same.1
 ]
 

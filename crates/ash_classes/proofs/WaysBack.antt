@@ -26,7 +26,7 @@ one_nearer R places to marks d from k next between at step way short =
     let near = d.least next between way in
     let reached = d.reached next near.0 near.1 in
     let long : k + 1 ≤ suc (length reached.0) =
-        no_shorter R places to marks d from (k + 1) at (next ∷ reached.0) (step, reached.2) in
+    no_shorter R places to marks d from (k + 1) at (next ∷ reached.0) (step, reached.2) in
     let e : near.0 ≡ k = omega (arith, near.2, reached.1, long, short) in
     subst (λ (j : ℕ). IsAt marks next j) e near.1
 
@@ -59,7 +59,7 @@ step_foremost R places to marks d from k next at nearest rest f =
     other_later short [] way long = absurd (omega (arith, long))
     other_later short (q ∷ qs) way long =
         let q_at : IsAt marks q k =
-            one_nearer R places to marks d from k q qs at way.0 way.1 (omega (arith, long, short)) in
+        one_nearer R places to marks d from k q qs at way.0 way.1 (omega (arith, long, short)) in
         let least : next ≤ q = nearest.2 q way.0 q_at in
         elim (cases_lt next q) [
           | inl lower ↦ inl lower

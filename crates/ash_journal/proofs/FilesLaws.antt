@@ -49,13 +49,18 @@ pub generation_append : (generation : ℕ) (image rest : List ℕ)
     → (mark generation ++ (block image ++ 0 ∷ [])) ++ rest ≡ mark generation ++ (block image ++ 0 ∷ rest)
 generation_append generation image rest =
     append_assoc (mark generation) (block image ++ 0 ∷ []) rest
-        ∙ ap (λ (l : List ℕ). mark generation ++ l) (append_assoc (block image) (0 ∷ []) rest)
+    ∙ ap (λ (l : List ℕ). mark generation ++ l) (append_assoc (block image) (0 ∷ []) rest)
 
 pub generation_long : (generation : ℕ) (image : List ℕ)
     → length (mark generation ++ (block image ++ 0 ∷ [])) ≡ 21 + length image
 generation_long generation image =
-    omega (arith, length-append (mark generation) (block image ++ 0 ∷ []), length-mark generation,
-        length-append (block image) (0 ∷ []), length-block image)
+    omega (
+      arith,
+      length-append (mark generation) (block image ++ 0 ∷ []),
+      length-mark generation,
+      length-append (block image) (0 ∷ []),
+      length-block image,
+    )
 
 -- what a crash may leave of the other file while a generation takes its place
 pub replaced_leaves : (stray : Bool) (other_state : OtherState) (g n : ℕ) (image file left : List ℕ)
@@ -65,10 +70,12 @@ pub replaced_leaves : (stray : Bool) (other_state : OtherState) (g n : ℕ) (ima
 replaced_leaves stray other_state g n image file left ready is (inl (inl same)) =
     inl (subst (λ (l : List ℕ). IsAside g l) (sym same) (other_aside stray other_state g file ready is))
 replaced_leaves stray Older g n image file left ready is (inl (inr torn)) =
-    inl (inr (is.0,
-        subst (λ (l : List ℕ). HasMark is.0 (reopened l)) (sym torn.2)
-        (record { rest = is.1.rest; bytes = ap (λ (l : List ℕ). 1 ∷ drop 1 l) is.1.bytes; numbered = is.1.numbered }),
-        is.2))
+    inl (inr (
+      is.0,
+      subst (λ (l : List ℕ). HasMark is.0 (reopened l)) (sym torn.2)
+          (record { rest = is.1.rest; bytes = ap (λ (l : List ℕ). 1 ∷ drop 1 l) is.1.bytes; numbered = is.1.numbered }),
+      is.2,
+    ))
 replaced_leaves stray Shut g n image file left ready is (inl (inr torn)) = absurd (false≢true torn.0)
 replaced_leaves stray Stray g n image file left ready is (inl (inr torn)) = absurd (false≢true torn.0)
 replaced_leaves stray other_state g n image file left ready is (inr (inl rests)) =
@@ -125,16 +132,19 @@ module _ {D : Type 0} (device : Device D) where
       (bodies : List (List ℕ)) → FilesAre device number end size stray other_state c o image bodies
       → IsBehind number (device.seen o) → Represent (image, bodies) (device.seen c) (device.seen o)
   found_represented number end size stray other_state c o image bodies files older =
-      inl (number, record {
-        file = record {
-          gate = files.gate;
-          behind = files.behind;
-          shut = files.shut;
-          bytes = files.bytes;
-          fits = files.fits;
-        };
-        older = older;
-      })
+      inl (
+        number,
+        record {
+          file = record {
+            gate = files.gate;
+            behind = files.behind;
+            shut = files.shut;
+            bytes = files.bytes;
+            fits = files.fits;
+          };
+          older = older;
+        },
+      )
 
   -- ready files settle on what they hold
   pub ready_run : (number end size : ℕ) (stray : Bool) (other_state : OtherState) (swapped : Bool) (c o : D)
@@ -145,10 +155,10 @@ module _ {D : Type 0} (device : Device D) where
   ready_run number end size stray other_state swapped c o image bodies files ready =
       run_now device swapped c o (Is (image, bodies)) files.current_durable files.other_durable
       (repaired_settles number image bodies (device.seen c) files.behind (device.seen o)
-          (files.bytes
-          ∙ ap (λ (g : ℕ). solid number image bodies ++ g ∷ files.behind)
-          (end_shut stray other_state files.gate ready files.gate_is)) files.fits
-          (other_aside stray other_state number (device.seen o) ready files.other_is))
+      (files.bytes
+      ∙ ap (λ (g : ℕ). solid number image bodies ++ g ∷ files.behind)
+      (end_shut stray other_state files.gate ready files.gate_is)) files.fits
+      (other_aside stray other_state number (device.seen o) ready files.other_is))
 
   module _ (number end size : ℕ) (stray : Bool) (other_state : OtherState) (c c' o : D) (image : List ℕ)
       (bodies : List (List ℕ)) (body : List ℕ)
@@ -175,9 +185,14 @@ module _ {D : Type 0} (device : Device D) where
           ∙ ap (λ (l : List ℕ). solid number image bodies ++ 1 ∷ l) (append_assoc (block body) (0 ∷ []) rest)
           ∙ grown number image bodies body (0 ∷ rest);
       fits = fits_push number image bodies body files.fits short;
-      end_is = omega
-          (arith, files.end_is, added_is, length-solid number image bodies,
-          length-solid number image (bodies ++ body ∷ []), longer);
+      end_is = omega (
+        arith,
+        files.end_is,
+        added_is,
+        length-solid number image bodies,
+        length-solid number image (bodies ++ body ∷ []),
+        longer,
+      );
       size_is = omega (arith, files.size_is, added_is, longer);
       gate_is = still stray other_state ready;
       other_is = files.other_is;
@@ -189,9 +204,12 @@ module _ {D : Type 0} (device : Device D) where
         rest = drop (length (block body ++ 0 ∷ [])) files.behind
 
         longer : length (records (bodies ++ body ∷ [])) ≡ length (records bodies) + 5 + length body
-        longer = omega
-            (arith, ap length (records-push bodies body), length-append (records bodies) (1 ∷ block body),
-            length-block body)
+        longer = omega (
+          arith,
+          ap length (records-push bodies body),
+          length-append (records bodies) (1 ∷ block body),
+          length-block body,
+        )
 
         still : (s : Bool) (b : OtherState) → NeedsNoRepair s b → EndIs s 0
         still false b ready = refl
@@ -206,15 +224,15 @@ module _ {D : Type 0} (device : Device D) where
     append_extends swapped left_c left_o call =
         extends_placed device swapped c o c' o new
         (extends_by device c o c' o (device.seen c) (device.seen o)
-            (WhileCommitted (solid number image bodies) (block body ++ 0 ∷ []) files.behind)
-            (λ (v : List ℕ). v ≡ device.seen o) new left_c left_o call
+        (WhileCommitted (solid number image bodies) (block body ++ 0 ∷ []) files.behind)
+        (λ (v : List ℕ). v ≡ device.seen o) new left_c left_o call
         (at_start (device.clock o) (device.leaves o) (λ (v : List ℕ). v ≡ device.seen o) files.other_durable)
         (λ x y p. settles x y p)
         (λ x y q. subst
-            (λ (l : List ℕ). SettleFurther new x (device.seen o) x l) (sym q) (further_same new x (device.seen o)))
+        (λ (l : List ℕ). SettleFurther new x (device.seen o) x l) (sym q) (further_same new x (device.seen o)))
         (λ x y p q. subst
-            (λ (l : List ℕ). SettleFurther new (device.seen c) (device.seen o) x l) (sym q)
-            (settles x (device.seen o) p)))
+        (λ (l : List ℕ). SettleFurther new (device.seen c) (device.seen o) x l) (sym q)
+        (settles x (device.seen o) p)))
       where
         new : Said
         new = Is (image, bodies ++ body ∷ [])
@@ -251,9 +269,11 @@ module _ {D : Type 0} (device : Device D) where
       end_is = omega (arith, added_is, length-solid (number + 1) image [], ap length records-nil);
       size_is = omega (arith, ap length records-nil);
       gate_is = refl;
-      other_is = (number,
-          solid_mark number was bodies (files.gate ∷ files.behind) (device.seen c) files.fits.numbered files.bytes,
-          omega arith);
+      other_is = (
+        number,
+        solid_mark number was bodies (files.gate ∷ files.behind) (device.seen c) files.fits.numbered files.bytes,
+        omega arith,
+      );
       current_durable = on.durable;
       other_durable = files.current_durable;
     }
@@ -269,17 +289,17 @@ module _ {D : Type 0} (device : Device D) where
         (first_of swapped c o') (second_of swapped c o') (Either (Is (image, [])) (Is (was, bodies)))
     install_run swapped call =
         run_begins device swapped c o c o'
-            (λ (u : List ℕ). u ≡ device.seen c)
-            (WhileReplaced (is_older other_state) (mark (number + 1) ++ (block image ++ 0 ∷ [])) (device.seen o))
-            (Either (Is (image, [])) (Is (was, bodies)))
+        (λ (u : List ℕ). u ≡ device.seen c)
+        (WhileReplaced (is_older other_state) (mark (number + 1) ++ (block image ++ 0 ∷ [])) (device.seen o))
+        (Either (Is (image, [])) (Is (was, bodies)))
         (at_start (device.clock c) (device.leaves c) (λ (u : List ℕ). u ≡ device.seen c) files.current_durable) call
         (λ x y p q. subst (λ (l : List ℕ). SettleOn (Either (Is (image, [])) (Is (was, bodies))) l y) (sym p) (
         install_settles number (number + 1) was image bodies (device.seen c) files.behind y
         (files.bytes
-            ∙ ap (λ (g : ℕ). solid number was bodies ++ g ∷ files.behind)
-            (end_shut stray other_state files.gate ready files.gate_is))
+        ∙ ap (λ (g : ℕ). solid number was bodies ++ g ∷ files.behind)
+        (end_shut stray other_state files.gate ready files.gate_is))
         files.fits new_fits (omega arith)
-            (replaced_leaves stray other_state number (number + 1) image (device.seen o) y ready files.other_is q)
+        (replaced_leaves stray other_state number (number + 1) image (device.seen o) y ready files.other_is q)
         ))
 
   -- ---- gates that are stray
@@ -318,16 +338,16 @@ module _ {D : Type 0} (device : Device D) where
     settle_extends swapped left_c left_o one two =
         extends_placed device swapped c o c' o' Nothing
         (extends_by device c o c' o' (device.seen c) (device.seen o)
-            (WhileRepaired stray (solid number image bodies) (files.gate ∷ files.behind))
-            (WhileRepaired (is_stray other_state) [] (device.seen o)) Nothing left_c left_o one two
+        (WhileRepaired stray (solid number image bodies) (files.gate ∷ files.behind))
+        (WhileRepaired (is_stray other_state) [] (device.seen o)) Nothing left_c left_o one two
         (λ x y p. nothing_new (device.seen c) y x y (λ settle.
-            end_settled (MaySettleOn (device.seen c) y) x y p settle))
+        end_settled (MaySettleOn (device.seen c) y) x y p settle))
         (λ x y q. nothing_new x (device.seen o) x y (λ settle.
-            other_settled other_state number x (device.seen o) y (MaySettleOn x (device.seen o)) files.other_is q
-            settle))
+        other_settled other_state number x (device.seen o) y (MaySettleOn x (device.seen o)) files.other_is q
+        settle))
         (λ x y p q. nothing_new (device.seen c) (device.seen o) x y (λ settle.
-            other_settled other_state number x (device.seen o) y (MaySettleOn (device.seen c) (device.seen o))
-            files.other_is q (end_settled (MaySettleOn (device.seen c) (device.seen o)) x (device.seen o) p settle))))
+        other_settled other_state number x (device.seen o) y (MaySettleOn (device.seen c) (device.seen o))
+        files.other_is q (end_settled (MaySettleOn (device.seen c) (device.seen o)) x (device.seen o) p settle))))
       where
         not_shut : (s : Bool) → s ≡ true → EndIs s files.gate → files.gate ≢ 0
         not_shut true same is = is
@@ -339,8 +359,8 @@ module _ {D : Type 0} (device : Device D) where
         end_settled P x y (inl same) settle = subst (λ (l : List ℕ). SettleOn P l y) (files.bytes ∙ sym same) settle
         end_settled P x y (inr torn) settle =
             subst (λ (l : List ℕ). SettleOn P l y) (sym torn.2)
-                (end_repair_settles P number image bodies (device.seen c) files.gate torn.1 files.behind y files.bytes
-                files.fits files.shut (not_shut stray torn.0 files.gate_is) settle)
+            (end_repair_settles P number image bodies (device.seen c) files.gate torn.1 files.behind y files.bytes
+            files.fits files.shut (not_shut stray torn.0 files.gate_is) settle)
 
   -- ---- a first generation
 

@@ -35,7 +35,7 @@ pub shut_torn : (prefix suffix : List ℕ) (at : ℕ) → length prefix ≡ at �
 shut_torn prefix [] at long new torn =
     let stays : new ≡ prefix ++ drop (length prefix) new = front_stays prefix [] at 1 new (omega arith) torn in
     one_or_none prefix (drop (length prefix) new) new
-        (omega (arith, torn.no_longer, length-append prefix [], length-drop (length prefix) new)) stays
+    (omega (arith, torn.no_longer, length-append prefix [], length-drop (length prefix) new)) stays
 shut_torn prefix (b ∷ rest) at long new torn = inr (byte_torn prefix b rest at new (sym long) torn)
 
 -- The bytes are after a gate that stays 0.
@@ -51,10 +51,13 @@ pub bytes_torn : (prefix bytes suffix : List ℕ) (gate at : ℕ) → length pre
     → Torn at (length bytes) (prefix ++ 0 ∷ suffix) new → WhileCommitted prefix bytes suffix new
 bytes_torn prefix bytes suffix gate at long at_is new torn =
     let stays = front_stays (prefix ++ 0 ∷ []) suffix at (length bytes) new
-        (omega (arith, long, at_is, length-append prefix (0 ∷ [])))
-        (subst (λ (l : List ℕ). Torn at (length bytes) l new) (sym (append_assoc prefix (0 ∷ []) suffix)) torn) in
-    inl (drop (length (prefix ++ 0 ∷ [])) new, stays
-        ∙ append_assoc prefix (0 ∷ []) (drop (length (prefix ++ 0 ∷ [])) new))
+    (omega (arith, long, at_is, length-append prefix (0 ∷ [])))
+    (subst (λ (l : List ℕ). Torn at (length bytes) l new) (sym (append_assoc prefix (0 ∷ []) suffix)) torn) in
+    inl (
+      drop (length (prefix ++ 0 ∷ [])) new,
+      stays
+          ∙ append_assoc prefix (0 ∷ []) (drop (length (prefix ++ 0 ∷ [])) new),
+    )
 
 -- and then any byte may be in the gate's place, before them
 pub gate_torn : (prefix bytes suffix : List ℕ) (gate : ℕ) → length prefix ≡ gate → (new : List ℕ)
@@ -68,9 +71,9 @@ pub while_written : (start end : ℕ) (before after : ℕ → List ℕ → Type 
     → During start end before after (TornFrom at n (before start)) → During start end before after P
 while_written start end before after file split at n P only is so call =
     weaker start end before after (TornFrom at n (before start)) P
-        (λ image from.
-        so image (subst
-        (λ (l : List ℕ). Torn at n l image) is (torn_from_only file (before start) at n image only from))) call
+    (λ image from.
+    so image (subst
+    (λ (l : List ℕ). Torn at n l image) is (torn_from_only file (before start) at n image only from))) call
 
 -- what two clauses of a call that succeeded give together
 pub on_ok_both : {T E P Q S : Type 0} (r : Result T E) → (P → Q → S) → OnOk r P → OnOk r Q → OnOk r S

@@ -91,18 +91,24 @@ install_settles g n image image' bodies x rest y is fits fits_new less coming =
         from (inl aside) = old b (aside_closed_or_older g b aside)
         from (inr whole) = elim (open_or_closed b) [
           | inl is_open ↦
-              let one : whole.0 ≡ 1 = open_gate whole.0 (mark n ++ (block image' ++ 0 ∷ whole.1)) b is_open whole.2 in
-              ((image', []), inl refl, inr (n, record {
-                file = new_file b whole.1 (whole.2 ∙ ap (λ (c : ℕ). c ∷ (mark n ++ (block image' ++ 0 ∷ whole.1))) one);
-                older = older_by_mark g n x marked less;
-              }))
+              let one : whole.0 ≡ 1 = open_gate whole.0 (mark n ++ (block image' ++ 0 ∷ whole.1)) b is_open whole.2 in (
+                (image', []),
+                inl refl,
+                inr (
+                  n,
+                  record {
+                    file = new_file b whole.1 (whole.2 ∙ ap (λ (c : ℕ). c ∷ (mark n ++ (block image' ++ 0 ∷ whole.1))) one);
+                    older = older_by_mark g n x marked less;
+                  },
+                ),
+              )
           | inr closed ↦ old b (inl closed)
         ]
 
     preserved : (a b s t : List ℕ) → Installs g n image' x a b → Reopens a b s t → Installs g n image' x s t
     preserved a b s t holds (inl (inl one)) =
         let same = same_file one.0.generation g one.0.image image one.0.bodies bodies one.0.gate 0 one.0.behind rest
-            one.0.fits fits one.0.not_open (λ e. omega (arith, e)) (sym one.0.bytes ∙ holds.0 ∙ is) in
+        one.0.fits fits one.0.not_open (λ e. omega (arith, e)) (sym one.0.bytes ∙ holds.0 ∙ is) in
         absurd (one.0.not_shut same.gates)
     preserved a b s t holds (inl (inr one)) = (one.1 ∙ holds.0, from holds.1)
       where
@@ -125,12 +131,12 @@ install_settles g n image image' bodies x rest y is fits fits_new less coming =
             omega (arith, under, ahead)
         from (inr whole) =
             let opened : whole.0 ≡ 1 =
-                open_gate whole.0 (mark n ++ (block image' ++ 0 ∷ whole.1)) b (mark_open one.0.generation b b_marked)
-                whole.2 in
+            open_gate whole.0 (mark n ++ (block image' ++ 0 ∷ whole.1)) b (mark_open one.0.generation b b_marked)
+            whole.2 in
             let b_is = whole.2 ∙ ap (λ (c : ℕ). c ∷ (mark n ++ (block image' ++ 0 ∷ whole.1))) opened
-                ∙ sym (solid_no_records n image' (0 ∷ whole.1)) in
+            ∙ sym (solid_no_records n image' (0 ∷ whole.1)) in
             let same = same_file one.0.generation n one.0.image image' one.0.bodies [] one.0.gate 0 one.0.behind whole.1
-                one.0.fits fits_new one.0.not_open (λ e. omega (arith, e)) (sym one.0.bytes ∙ b_is) in
+            one.0.fits fits_new one.0.not_open (λ e. omega (arith, e)) (sym one.0.bytes ∙ b_is) in
             one.0.not_shut same.gates
     preserved a b s t holds (inr (inr one)) = absurd (mark_closed g x marked (subst IsClosed holds.0 one.0.closed))
 
@@ -140,7 +146,7 @@ install_settles g n image image' bodies x rest y is fits fits_new less coming =
 abbrev pub IsGrowing : List ℕ → List ℕ → List ℕ → Type 0
 IsGrowing prefix body file =
     ((rest : List ℕ) × (file ≡ prefix ++ 0 ∷ rest))
-        ⊎ ((gate : ℕ) × (rest : List ℕ) × (file ≡ prefix ++ gate ∷ (block body ++ 0 ∷ rest)))
+    ⊎ ((gate : ℕ) × (rest : List ℕ) × (file ≡ prefix ++ gate ∷ (block body ++ 0 ∷ rest)))
 
 short_push : (bodies : List (List ℕ)) (body : List ℕ) → AreShort bodies → length body < 2 ^ 32
     → AreShort (bodies ++ body ∷ [])
@@ -161,7 +167,7 @@ pub grown : (g : ℕ) (image : List ℕ) (bodies : List (List ℕ)) (body rest :
     → solid g image bodies ++ 1 ∷ (block body ++ rest) ≡ solid g image (bodies ++ body ∷ []) ++ rest
 grown g image bodies body rest =
     sym (append_assoc (solid g image bodies) (1 ∷ block body) rest)
-        ∙ ap (λ (l : List ℕ). l ++ rest) (sym (solid-push g image bodies body))
+    ∙ ap (λ (l : List ℕ). l ++ rest) (sym (solid-push g image bodies body))
 
 -- A file at rest settles, with any other, on what it did or on one record more, while that record is written.
 pub append_settles : (P : Said) (g : ℕ) (image : List ℕ) (bodies : List (List ℕ)) (body x rest u y : List ℕ)
@@ -177,13 +183,13 @@ append_settles P g image bodies body x rest u y is fits short growing settle = f
         → SettleOn (Either (Is (image, bodies ++ body ∷ [])) P) w v
     grown_settles w more v w_is settles =
         rest_settles P (Either (Is (image, bodies ++ body ∷ [])) P) g image image bodies (bodies ++ body ∷ []) x w more
-            v file (w_is ∙ grown g image bodies body (0 ∷ more)) (fits_push g image bodies body fits short)
-            (λ was. inl refl) (λ contents one. inr one) settles
+        v file (w_is ∙ grown g image bodies body (0 ∷ more)) (fits_push g image bodies body fits short)
+        (λ was. inl refl) (λ contents one. inr one) settles
 
     from : IsGrowing (solid g image bodies) body u → SettleOn (Either (Is (image, bodies ++ body ∷ [])) P) u y
     from (inl rests) =
         rest_settles P (Either (Is (image, bodies ++ body ∷ [])) P) g image image bodies bodies x u rests.0 y file
-            rests.1 fits (λ was. inr was) (λ contents one. inr one) settle
+        rests.1 fits (λ was. inr was) (λ contents one. inr one) settle
     from (inr whole) = elim (cases_eq whole.0 1) [
       | inl open_now ↦
           grown_settles u whole.1 y
@@ -191,9 +197,9 @@ append_settles P g image bodies body x rest u y is fits short growing settle = f
       | inr shut ↦
           subst (λ (l : List ℕ). SettleOn (Either (Is (image, bodies ++ body ∷ [])) P) l y) (sym whole.2)
           (end_settles P (Either (Is (image, bodies ++ body ∷ [])) P) g image bodies x whole.0
-              (block body ++ 0 ∷ whole.1) y file shut (λ contents one. inr one)
-              (λ v settles older.
-              grown_settles (solid g image bodies ++ 1 ∷ (block body ++ 0 ∷ whole.1)) whole.1 v refl settles) settle)
+          (block body ++ 0 ∷ whole.1) y file shut (λ contents one. inr one)
+          (λ v settles older.
+          grown_settles (solid g image bodies ++ 1 ∷ (block body ++ 0 ∷ whole.1)) whole.1 v refl settles) settle)
     ]
 
 -- A current file at rest and one that is shut or older: they settle on what the first represents alone.
@@ -216,18 +222,19 @@ repaired_settles g image bodies x rest y is fits aside =
     preserved : (a b s t : List ℕ) → (a ≡ x) × IsAside g b → Reopens a b s t → (s ≡ x) × IsAside g t
     preserved a b s t holds (inl (inl one)) =
         let same = same_file one.0.generation g one.0.image image one.0.bodies bodies one.0.gate 0 one.0.behind rest
-            one.0.fits fits one.0.not_open (λ e. omega (arith, e)) (sym one.0.bytes ∙ holds.0 ∙ is) in
+        one.0.fits fits one.0.not_open (λ e. omega (arith, e)) (sym one.0.bytes ∙ holds.0 ∙ is) in
         absurd (one.0.not_shut same.gates)
-    preserved a b s t holds (inl (inr one)) =
-        (one.1 ∙ holds.0,
-        subst (λ (l : List ℕ). IsAside g l) (sym one.0.opened) (aside_reopened g b holds.1 one.0.not_shut))
+    preserved a b s t holds (inl (inr one)) = (
+      one.1 ∙ holds.0,
+      subst (λ (l : List ℕ). IsAside g l) (sym one.0.opened) (aside_reopened g b holds.1 one.0.not_shut),
+    )
     preserved a b s t holds (inr (inl one)) =
         let b_marked : HasMark one.0.generation b =
-            solid_mark one.0.generation one.0.image one.0.bodies (one.0.gate ∷ one.0.behind) b one.0.fits.numbered
-            one.0.bytes in
+        solid_mark one.0.generation one.0.image one.0.bodies (one.0.gate ∷ one.0.behind) b one.0.fits.numbered
+        one.0.bytes in
         let ahead : g < one.0.generation =
-            mark_behind g one.0.generation x marked
-            (subst (λ (l : List ℕ). IsBehind one.0.generation l) holds.0 one.0.older) in
+        mark_behind g one.0.generation x marked
+        (subst (λ (l : List ℕ). IsBehind one.0.generation l) holds.0 one.0.older) in
         let under : one.0.generation < g = aside_mark g one.0.generation b holds.1 b_marked in
         absurd (omega (arith, under, ahead))
     preserved a b s t holds (inr (inr one)) = absurd (mark_closed g x marked (subst IsClosed holds.0 one.0.closed))
@@ -265,14 +272,14 @@ created_settles g image x rest y is fits idle =
     preserved : (a b s t : List ℕ) → (a ≡ x) × IsIdle b → Reopens a b s t → (s ≡ x) × IsIdle t
     preserved a b s t holds (inl (inl one)) =
         let same = same_file one.0.generation g one.0.image image one.0.bodies [] one.0.gate 0 one.0.behind rest
-            one.0.fits fits one.0.not_open (λ e. omega (arith, e)) (sym one.0.bytes ∙ holds.0 ∙ is) in
+        one.0.fits fits one.0.not_open (λ e. omega (arith, e)) (sym one.0.bytes ∙ holds.0 ∙ is) in
         absurd (one.0.not_shut same.gates)
     preserved a b s t holds (inl (inr one)) =
         (one.1 ∙ holds.0, subst IsIdle (sym one.0.opened) (idle_reopened b holds.1 one.0.not_shut))
     preserved a b s t holds (inr (inl one)) =
         absurd (mark_closed one.0.generation b
-            (solid_mark one.0.generation one.0.image one.0.bodies (one.0.gate ∷ one.0.behind) b one.0.fits.numbered
-            one.0.bytes) (idle_closed b holds.1))
+        (solid_mark one.0.generation one.0.image one.0.bodies (one.0.gate ∷ one.0.behind) b one.0.fits.numbered
+        one.0.bytes) (idle_closed b holds.1))
     preserved a b s t holds (inr (inr one)) = absurd (mark_closed g x marked (subst IsClosed holds.0 one.0.closed))
 
 -- while a first generation is written, no file is open or they settle on it
@@ -283,8 +290,8 @@ create_settles image x y short (inr whole) idle_y = elim (open_or_closed x) [
   | inl is_open ↦
       let one : whole.0 ≡ 1 = open_gate whole.0 (mark 1 ++ (block image ++ 0 ∷ whole.1)) x is_open whole.2 in
       inr (created_settles 1 image x whole.1 y
-          (whole.2 ∙ ap (λ (c : ℕ). c ∷ (mark 1 ++ (block image ++ 0 ∷ whole.1))) one
-          ∙ sym (solid_no_records 1 image (0 ∷ whole.1)))
-          (record { numbered = omega arith; image_short = short; bodies_short = tt }) idle_y)
+      (whole.2 ∙ ap (λ (c : ℕ). c ∷ (mark 1 ++ (block image ++ 0 ∷ whole.1))) one
+      ∙ sym (solid_no_records 1 image (0 ∷ whole.1)))
+      (record { numbered = omega arith; image_short = short; bodies_short = tt }) idle_y)
   | inr closed ↦ inl (closed, idle_closed y idle_y)
 ]

@@ -35,7 +35,7 @@ byte_at-shift : (i x : ℕ) → byte_at (suc i) x ≡ byte_at i (x / 256)
 byte_at-shift zero x = refl
 byte_at-shift (suc i) x =
     let shift : x / 256 ^ suc (suc i) ≡ x / 256 / 256 ^ suc i =
-        ap (λ (p : ℕ). x / p) (pow-succ' 256 (suc i)) ∙ sym (div-div-eq-div-mul x 256 (256 ^ suc i)) in
+    ap (λ (p : ℕ). x / p) (pow-succ' 256 (suc i)) ∙ sym (div-div-eq-div-mul x 256 (256 ^ suc i)) in
     ap (λ (y : ℕ). y % 256) shift
 
 bytes_low_first-shift : (i n x : ℕ) → bytes_low_first (suc i) n x ≡ bytes_low_first i n (x / 256)
@@ -55,10 +55,10 @@ bytes_round_trip (suc n) (b ∷ bytes) len fits =
     let low : x % 256 ≡ b = omega arith in
     let rest : x / 256 ≡ high = omega arith in
     let more : bytes_low_first 1 n x ≡ bytes =
-        bytes_low_first-shift 0 n x ∙ ap (bytes_low_first 0 n) rest
-        ∙ bytes_round_trip n bytes (omega arith) (λ i. fits (suc i)) in
+    bytes_low_first-shift 0 n x ∙ ap (bytes_low_first 0 n) rest
+    ∙ bytes_round_trip n bytes (omega arith) (λ i. fits (suc i)) in
     ap (bytes_low_first 0 (suc n)) is ∙ ap (λ (c : ℕ). c ∷ bytes_low_first 1 n x) low
-        ∙ ap (λ (cs : List ℕ). b ∷ cs) more
+    ∙ ap (λ (cs : List ℕ). b ∷ cs) more
 
 pub four_round_trip : (bytes : List ℕ) → length bytes ≡ 4 → AreBytes bytes → four_bytes (little_number 4 bytes) ≡ bytes
 unfolding four_bytes
@@ -75,9 +75,9 @@ eight_round_trip bytes long fits = bytes_round_trip 8 bytes long fits
 pub same_parts : (a b s t : List ℕ) → length a ≡ length b → a ++ s ≡ b ++ t → (a ≡ b) × (s ≡ t)
 same_parts a b s t long is =
     let prefix : a ≡ b =
-        sym (take_at a s (length b) long) ∙ ap (λ (l : List ℕ). take (length b) l) is ∙ take_at b t (length b) refl in
+    sym (take_at a s (length b) long) ∙ ap (λ (l : List ℕ). take (length b) l) is ∙ take_at b t (length b) refl in
     let rest : s ≡ t =
-        sym (drop_at a s (length b) long) ∙ ap (λ (l : List ℕ). drop (length b) l) is ∙ drop_at b t (length b) refl in
+    sym (drop_at a s (length b) long) ∙ ap (λ (l : List ℕ). drop (length b) l) is ∙ drop_at b t (length b) refl in
     (prefix, rest)
 
 length-magic : length magic ≡ 8
@@ -95,8 +95,8 @@ mark_same g h s t g_fits h_fits is =
     let parts = same_parts (mark g) (mark h) s t (length-mark g ∙ sym (length-mark h)) is in
     let numbers : eight_bytes g ≡ eight_bytes h = append_cancel_left magic (eight_bytes g) (eight_bytes h) parts.0 in
     let same : g ≡ h =
-        sym (eight_read g [] g_fits) ∙ ap (λ (l : List ℕ). little_number 8 (l ++ [])) numbers
-        ∙ eight_read h [] h_fits in
+    sym (eight_read g [] g_fits) ∙ ap (λ (l : List ℕ). little_number 8 (l ++ [])) numbers
+    ∙ eight_read h [] h_fits in
     (same, parts.1)
 
 pub length-block : (body : List ℕ) → length (block body) ≡ 4 + length body
@@ -110,12 +110,12 @@ block_same b c s t b_fits c_fits is =
     let long_b = length b in
     let long_c = length c in
     let is' : four_bytes (length b) ++ (b ++ s) ≡ four_bytes (length c) ++ (c ++ t) =
-        sym (append_assoc (four_bytes (length b)) b s) ∙ is ∙ append_assoc (four_bytes (length c)) c t in
+    sym (append_assoc (four_bytes (length b)) b s) ∙ is ∙ append_assoc (four_bytes (length c)) c t in
     let parts = same_parts (four_bytes (length b)) (four_bytes (length c)) (b ++ s) (c ++ t)
-        (length-four (length b) ∙ sym (length-four (length c))) is' in
+    (length-four (length b) ∙ sym (length-four (length c))) is' in
     let same : length b ≡ length c =
-        sym (four_read (length b) [] b_fits) ∙ ap (λ (l : List ℕ). little_number 4 (l ++ [])) parts.0
-        ∙ four_read (length c) [] c_fits in
+    sym (four_read (length b) [] b_fits) ∙ ap (λ (l : List ℕ). little_number 4 (l ++ [])) parts.0
+    ∙ four_read (length c) [] c_fits in
     same_parts b c s t same parts.1
 
 -- ---- records
@@ -133,7 +133,7 @@ records_split : (body : List ℕ) (bodies : List (List ℕ)) (rest : List ℕ)
     → records (body ∷ bodies) ++ rest ≡ 1 ∷ (block body ++ (records bodies ++ rest))
 records_split body bodies rest =
     ap (λ (l : List ℕ). l ++ rest) (records-cons body bodies)
-        ∙ ap (λ (l : List ℕ). 1 ∷ l) (append_assoc (block body) (records bodies) rest)
+    ∙ ap (λ (l : List ℕ). 1 ∷ l) (append_assoc (block body) (records bodies) rest)
 
 abbrev head_or : List ℕ → ℕ
 head_or [] = 0
@@ -150,21 +150,21 @@ pub records_same : (bodies others : List (List ℕ)) (k l : ℕ) (s t : List ℕ
     → l ≢ 1 → records bodies ++ k ∷ s ≡ records others ++ l ∷ t → (bodies ≡ others) × (k ≡ l) × (s ≡ t)
 records_same [] [] k l s t short_b short_o shut_k shut_l is =
     let plain : k ∷ s ≡ l ∷ t =
-        sym (ap (λ (r : List ℕ). r ++ k ∷ s) records-nil) ∙ is ∙ ap (λ (r : List ℕ). r ++ l ∷ t) records-nil in
+    sym (ap (λ (r : List ℕ). r ++ k ∷ s) records-nil) ∙ is ∙ ap (λ (r : List ℕ). r ++ l ∷ t) records-nil in
     (refl, (same_heads k l s t plain).0, (same_heads k l s t plain).1)
 records_same [] (other ∷ others) k l s t short_b short_o shut_k shut_l is =
     let plain : k ∷ s ≡ 1 ∷ (block other ++ (records others ++ l ∷ t)) =
-        sym (ap (λ (r : List ℕ). r ++ k ∷ s) records-nil) ∙ is ∙ records_split other others (l ∷ t) in
+    sym (ap (λ (r : List ℕ). r ++ k ∷ s) records-nil) ∙ is ∙ records_split other others (l ∷ t) in
     absurd (shut_k (same_heads k 1 s (block other ++ (records others ++ l ∷ t)) plain).0)
 records_same (body ∷ bodies) [] k l s t short_b short_o shut_k shut_l is =
     let plain : l ∷ t ≡ 1 ∷ (block body ++ (records bodies ++ k ∷ s)) =
-        sym (ap (λ (r : List ℕ). r ++ l ∷ t) records-nil) ∙ sym is ∙ records_split body bodies (k ∷ s) in
+    sym (ap (λ (r : List ℕ). r ++ l ∷ t) records-nil) ∙ sym is ∙ records_split body bodies (k ∷ s) in
     absurd (shut_l (same_heads l 1 t (block body ++ (records bodies ++ k ∷ s)) plain).0)
 records_same (body ∷ bodies) (other ∷ others) k l s t short_b short_o shut_k shut_l is =
     let plain : 1 ∷ (block body ++ (records bodies ++ k ∷ s)) ≡ 1 ∷ (block other ++ (records others ++ l ∷ t)) =
-        sym (records_split body bodies (k ∷ s)) ∙ is ∙ records_split other others (l ∷ t) in
+    sym (records_split body bodies (k ∷ s)) ∙ is ∙ records_split other others (l ∷ t) in
     let one = block_same body other (records bodies ++ k ∷ s) (records others ++ l ∷ t) short_b.0 short_o.0
-        (ap tail_of plain) in
+    (ap tail_of plain) in
     let more = records_same bodies others k l s t short_b.1 short_o.1 shut_k shut_l one.1 in
     (ap (λ (b : List ℕ). b ∷ bodies) one.0 ∙ ap (λ (bs : List (List ℕ)). other ∷ bs) more.0, more.1, more.2)
 
@@ -172,8 +172,8 @@ pub records-push : (bodies : List (List ℕ)) (body : List ℕ)
     → records (bodies ++ body ∷ []) ≡ records bodies ++ 1 ∷ block body
 records-push [] body =
     records-cons body [] ∙ ap (λ (r : List ℕ). 1 ∷ (block body ++ r)) records-nil
-        ∙ ap (λ (r : List ℕ). 1 ∷ r) (append-nil (block body))
-        ∙ sym (ap (λ (r : List ℕ). r ++ 1 ∷ block body) records-nil)
+    ∙ ap (λ (r : List ℕ). 1 ∷ r) (append-nil (block body))
+    ∙ sym (ap (λ (r : List ℕ). r ++ 1 ∷ block body) records-nil)
 records-push (first ∷ bodies) body =
     records-cons first (bodies ++ body ∷ []) ∙ ap (λ (r : List ℕ). 1 ∷ (block first ++ r)) (records-push bodies body)
     ∙ sym (records_split first bodies (1 ∷ block body))
@@ -185,22 +185,27 @@ pub solid_split : (generation : ℕ) (image : List ℕ) (bodies : List (List ℕ
 unfolding solid
 solid_split generation image bodies rest =
     ap (λ (l : List ℕ). 1 ∷ l)
-        (append_assoc (mark generation) (block image ++ records bodies) rest
-        ∙ ap (λ (l : List ℕ). mark generation ++ l) (append_assoc (block image) (records bodies) rest))
+    (append_assoc (mark generation) (block image ++ records bodies) rest
+    ∙ ap (λ (l : List ℕ). mark generation ++ l) (append_assoc (block image) (records bodies) rest))
 
 pub length-solid : (generation : ℕ) (image : List ℕ) (bodies : List (List ℕ))
     → length (solid generation image bodies) ≡ 21 + length image + length (records bodies)
 unfolding solid
 length-solid generation image bodies =
-    omega (arith, length-append (mark generation) (block image ++ records bodies), length-mark generation,
-        length-append (block image) (records bodies), length-block image)
+    omega (
+      arith,
+      length-append (mark generation) (block image ++ records bodies),
+      length-mark generation,
+      length-append (block image) (records bodies),
+      length-block image,
+    )
 
 pub solid-push : (generation : ℕ) (image : List ℕ) (bodies : List (List ℕ)) (body : List ℕ)
     → solid generation image (bodies ++ body ∷ []) ≡ solid generation image bodies ++ 1 ∷ block body
 unfolding solid
 solid-push generation image bodies body =
     ap (λ (r : List ℕ). 1 ∷ (mark generation ++ (block image ++ r))) (records-push bodies body)
-        ∙ sym (solid_split generation image bodies (1 ∷ block body))
+    ∙ sym (solid_split generation image bodies (1 ∷ block body))
 
 pub record SameFile (g h : ℕ) (image other : List ℕ) (bodies others : List (List ℕ)) (k l : ℕ)
     (s t : List ℕ) : Type 0 where
@@ -215,13 +220,13 @@ pub same_file : (g h : ℕ) (image other : List ℕ) (bodies others : List (List
     → solid g image bodies ++ k ∷ s ≡ solid h other others ++ l ∷ t → SameFile g h image other bodies others k l s t
 same_file g h image other bodies others k l s t fits_g fits_h shut_k shut_l is =
     let plain : 1 ∷ (mark g ++ (block image ++ (records bodies ++ k ∷ s)))
-        ≡ 1 ∷ (mark h ++ (block other ++ (records others ++ l ∷ t))) =
-        sym (solid_split g image bodies (k ∷ s)) ∙ is ∙ solid_split h other others (l ∷ t) in
+    ≡ 1 ∷ (mark h ++ (block other ++ (records others ++ l ∷ t))) =
+    sym (solid_split g image bodies (k ∷ s)) ∙ is ∙ solid_split h other others (l ∷ t) in
     let marks = mark_same g h (block image ++ (records bodies ++ k ∷ s)) (block other ++ (records others ++ l ∷ t))
-        fits_g.numbered fits_h.numbered (ap tail_of plain) in
+    fits_g.numbered fits_h.numbered (ap tail_of plain) in
     let images =
-        block_same image other (records bodies ++ k ∷ s) (records others ++ l ∷ t) fits_g.image_short fits_h.image_short
-        marks.1 in
+    block_same image other (records bodies ++ k ∷ s) (records others ++ l ∷ t) fits_g.image_short fits_h.image_short
+    marks.1 in
     let rest = records_same bodies others k l s t fits_g.bodies_short fits_h.bodies_short shut_k shut_l images.1 in
     record { generations = marks.0; images = images.0; bodies_same = rest.0; gates = rest.1; behind = rest.2 }
 
@@ -258,7 +263,7 @@ long_open (second ∷ rest) file long is = subst IsOpen (sym is) refl
 pub mark_open : (generation : ℕ) (file : List ℕ) → HasMark generation file → IsOpen file
 mark_open generation file marked =
     long_open (mark generation ++ marked.rest) file
-        (omega (arith, length-append (mark generation) marked.rest, length-mark generation)) marked.bytes
+    (omega (arith, length-append (mark generation) marked.rest, length-mark generation)) marked.bytes
 
 pub mark_closed : (generation : ℕ) (file : List ℕ) → HasMark generation file → IsClosed file → ⊥
 mark_closed generation file marked closed = open_closed file (mark_open generation file marked) closed
@@ -268,4 +273,4 @@ pub solid_no_records : (generation : ℕ) (image rest : List ℕ)
     → solid generation image [] ++ rest ≡ 1 ∷ (mark generation ++ (block image ++ rest))
 solid_no_records generation image rest =
     solid_split generation image [] rest
-        ∙ ap (λ (r : List ℕ). 1 ∷ (mark generation ++ (block image ++ (r ++ rest)))) records-nil
+    ∙ ap (λ (r : List ℕ). 1 ∷ (mark generation ++ (block image ++ (r ++ rest)))) records-nil

@@ -56,13 +56,15 @@ chosen_first choice r x y swapped is read =
     let marked = subst (λ (s : Bool). HasMark choice.generation (first_of s x y)) swapped is.0 in
     let other = subst (λ (s : Bool). OtherIs choice.other_state choice.generation (second_of s x y)) swapped is.1 in
     MatchResult-weaker r (read marked)
-    (λ current_file whole.
-        (subst (λ (s : Bool).
-        IsRead choice.generation current_file.image.items current_file.tail.records.items current_file.tail.end
-        current_file.tail.gate (first_of s x y)) (sym swapped) whole, is.1))
+    (λ current_file whole. (
+      subst (λ (s : Bool).
+          IsRead choice.generation current_file.image.items current_file.tail.records.items current_file.tail.end
+          current_file.tail.gate (first_of s x y)) (sym swapped) whole,
+      is.1,
+    ))
     (λ fault cut.
-        cut_first choice.generation fault x y marked
-        (other_closed_or_older choice.other_state choice.generation y other) cut)
+    cut_first choice.generation fault x y marked
+    (other_closed_or_older choice.other_state choice.generation y other) cut)
 
 -- or the second
 pub chosen_second : (choice : Choice) (r : Result CurrentFile OpenFault) (x y : List ℕ) → choice.swapped ≡ true
@@ -78,13 +80,15 @@ chosen_second choice r x y swapped is read =
     let marked = subst (λ (s : Bool). HasMark choice.generation (first_of s x y)) swapped is.0 in
     let other = subst (λ (s : Bool). OtherIs choice.other_state choice.generation (second_of s x y)) swapped is.1 in
     MatchResult-weaker r (read marked)
-    (λ current_file whole.
-        (subst (λ (s : Bool).
-        IsRead choice.generation current_file.image.items current_file.tail.records.items current_file.tail.end
-        current_file.tail.gate (first_of s x y)) (sym swapped) whole, is.1))
+    (λ current_file whole. (
+      subst (λ (s : Bool).
+          IsRead choice.generation current_file.image.items current_file.tail.records.items current_file.tail.end
+          current_file.tail.gate (first_of s x y)) (sym swapped) whole,
+      is.1,
+    ))
     (λ fault cut.
-        cut_second choice.generation fault x y marked
-        (other_closed_or_older choice.other_state choice.generation x other) cut)
+    cut_second choice.generation fault x y marked
+    (other_closed_or_older choice.other_state choice.generation x other) cut)
 
 stray_is : (gate : ℕ) → EndIs (not (nat_eq gate 0)) gate
 stray_is gate = elim (cases_eq gate 0) [
@@ -100,20 +104,20 @@ module _ {D : Type 0} (device : Device D) where
       → FilesAre device g end size (not (nat_eq gate 0)) other_state c o image (bodies_of found)
   files_read c o x y other_state g end gate size image found honest_c honest_o seen_c seen_o only_c only_o read other
       size_is = record {
-    current_honest = honest_c;
-    other_honest = honest_o;
-    gate = gate;
-    behind = read.0.behind;
-    shut = read.1;
-    bytes = seen_c ∙ read.0.bytes;
-    fits = read.0.fits;
-    end_is = read.0.end_is;
-    size_is = omega (arith, size_is, read.0.end_is, length-solid g image (bodies_of found));
-    gate_is = stray_is gate;
-    other_is = subst (λ (l : List ℕ). OtherIs other_state g l) (sym seen_o) other;
-    current_durable = only_c;
-    other_durable = only_o;
-  }
+        current_honest = honest_c;
+        other_honest = honest_o;
+        gate = gate;
+        behind = read.0.behind;
+        shut = read.1;
+        bytes = seen_c ∙ read.0.bytes;
+        fits = read.0.fits;
+        end_is = read.0.end_is;
+        size_is = omega (arith, size_is, read.0.end_is, length-solid g image (bodies_of found));
+        gate_is = stray_is gate;
+        other_is = subst (λ (l : List ℕ). OtherIs other_state g l) (sym seen_o) other;
+        current_durable = only_c;
+        other_durable = only_o;
+      }
 
   pub open_files : (swapped : Bool) (a b : D) (x y : List ℕ) (other_state : OtherState) (g end gate size : ℕ)
       (image : List ℕ) (found : List Record) → IsTrue (device.honest a) → IsTrue (device.honest b) → device.seen a ≡ x
@@ -125,11 +129,11 @@ module _ {D : Type 0} (device : Device D) where
   open_files false a b x y other_state g end gate size image found honest_a honest_b seen_a seen_b only_a only_b read
       other size_is =
       files_read a b x y other_state g end gate size image found honest_a honest_b seen_a seen_b only_a only_b read
-          other size_is
+      other size_is
   open_files true a b x y other_state g end gate size image found honest_a honest_b seen_a seen_b only_a only_b read
       other size_is =
       files_read b a y x other_state g end gate size image found honest_b honest_a seen_b seen_a only_b only_a read
-          other size_is
+      other size_is
 
 -- two disks that were placed by which is current are the first and the second
 pub placed : {D : Type 0} (swapped : Bool) (first second current other : D) → current ≡ first_of swapped first second
@@ -146,12 +150,12 @@ pub open_represented : {D : Type 0} (device : Device D) (swapped : Bool) (a b : 
     → Represent (image, bodies) x y
 open_represented device false a b x y other_state g end gate size image bodies stray seen_a seen_b files =
     subst (λ (l : List ℕ). Represent (image, bodies) l y) seen_a
-        (subst (λ (l : List ℕ). Represent (image, bodies) (device.seen a) l) seen_b
+    (subst (λ (l : List ℕ). Represent (image, bodies) (device.seen a) l) seen_b
     (found_represented device g end size stray other_state a b image bodies files
-        (other_closed_or_older other_state g (device.seen b) files.other_is)))
+    (other_closed_or_older other_state g (device.seen b) files.other_is)))
 open_represented device true a b x y other_state g end gate size image bodies stray seen_a seen_b files =
     subst (λ (l : List ℕ). Represent (image, bodies) l y) seen_a
-        (subst (λ (l : List ℕ). Represent (image, bodies) (device.seen a) l) seen_b
+    (subst (λ (l : List ℕ). Represent (image, bodies) (device.seen a) l) seen_b
     (represent_turned (image, bodies) (device.seen b) (device.seen a)
-        (found_represented device g end size stray other_state b a image bodies files
-        (other_closed_or_older other_state g (device.seen a) files.other_is))))
+    (found_represented device g end size stray other_state b a image bodies files
+    (other_closed_or_older other_state g (device.seen a) files.other_is))))

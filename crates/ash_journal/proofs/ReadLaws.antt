@@ -79,10 +79,10 @@ unmarked_prefix file prefix is gate long none =
     prefix_is : (g : ℕ) → HasMark g file → take (length prefix - 1) (drop 1 prefix) ≡ mark g
     prefix_is g marked =
         let whole : prefix ≡ 1 ∷ mark g =
-            is ∙ ap (λ (l : List ℕ). take 17 l) marked.bytes
-            ∙ ap (λ (l : List ℕ). 1 ∷ l) (take_at (mark g) marked.rest 16 (length-mark g)) in
+        is ∙ ap (λ (l : List ℕ). take 17 l) marked.bytes
+        ∙ ap (λ (l : List ℕ). 1 ∷ l) (take_at (mark g) marked.rest 16 (length-mark g)) in
         ap (λ (l : List ℕ). take (length l - 1) (drop 1 l)) whole
-            ∙ take_all (length (1 ∷ mark g) - 1) (mark g) (omega (arith, length-mark g))
+        ∙ take_all (length (1 ∷ mark g) - 1) (mark g) (omega (arith, length-mark g))
 
 -- ---- a block
 
@@ -94,8 +94,13 @@ size_prefix seen at n is =
 pub cut_block : (seen : List ℕ) (at n : ℕ) → n < 2 ^ 32 → four_bytes n ≡ bytes_at seen at 4 → length seen - at - 4 ≤ n
     → IsCut (drop at seen)
 cut_block seen at n fits is short =
-    inr (n, drop 4 (drop at seen), fits, size_prefix seen at n is,
-        omega (arith, short, length-drop 4 (drop at seen), length-drop at seen))
+    inr (
+      n,
+      drop 4 (drop at seen),
+      fits,
+      size_prefix seen at n is,
+      omega (arith, short, length-drop 4 (drop at seen), length-drop at seen),
+    )
 
 pub whole_block : (seen : List ℕ) (at n : ℕ) (bytes body : List ℕ) (gate : ℕ) → n < 2 ^ 32
     → four_bytes n ≡ bytes_at seen at 4 → bytes ≡ bytes_at seen (at + 4) (n + 1) → length bytes ≡ n + 1
@@ -105,8 +110,8 @@ whole_block seen at n bytes body gate fits is read long parts =
     let body_long : length body ≡ n = omega (arith, long, ap length parts, length-append body (gate ∷ [])) in
     let more = drop (n + 1) (drop (at + 4) seen) in
     let suffix : drop 4 (drop at seen) ≡ body ++ gate ∷ more =
-        drop-drop 4 at seen ∙ sym (take-append-drop (n + 1) (drop (at + 4) seen))
-        ∙ ap (λ (l : List ℕ). l ++ more) (sym read ∙ parts) ∙ append_assoc body (gate ∷ []) more in (
+    drop-drop 4 at seen ∙ sym (take-append-drop (n + 1) (drop (at + 4) seen))
+    ∙ ap (λ (l : List ℕ). l ++ more) (sym read ∙ parts) ∙ append_assoc body (gate ∷ []) more in (
       omega (arith, body_long, fits),
       more,
       size_prefix seen at n is ∙ ap (λ (m : ℕ). four_bytes m ++ drop 4 (drop at seen)) (sym body_long)
@@ -123,8 +128,13 @@ placed_push at [] r placed gate = (omega (arith, gate, ap length records-nil), t
 placed_push at (first ∷ found) r placed gate = (
   placed.0,
   placed_push (at + 5 + length first.body.items) found r placed.1
-      (omega (arith, gate, ap length (records-cons first.body.items (bodies_of found)),
-      length-append (block first.body.items) (records (bodies_of found)), length-block first.body.items)),
+      (omega (
+        arith,
+        gate,
+        ap length (records-cons first.body.items (bodies_of found)),
+        length-append (block first.body.items) (records (bodies_of found)),
+        length-block first.body.items,
+      )),
 )
 
 pub read_start : (g : ℕ) (image rest file : List ℕ) (found : List Record) (at gate : ℕ) → found ≡ []
@@ -132,13 +142,13 @@ pub read_start : (g : ℕ) (image rest file : List ℕ) (found : List Record) (a
     → file ≡ solid g image [] ++ gate ∷ rest → at ≡ length (solid g image []) → IsReadTo g image found at gate file
 read_start g image rest file found at gate none fits is at_is =
     subst (λ (f : List Record). IsReadTo g image f at gate file) (sym none)
-        (record { behind = rest; bytes = is; fits = fits; end_is = at_is; placed = tt })
+    (record { behind = rest; bytes = is; fits = fits; end_is = at_is; placed = tt })
 
 after_gate : (prefix suffix file : List ℕ) (at gate : ℕ) → file ≡ prefix ++ gate ∷ suffix → at ≡ length prefix
     → drop (at + 1) file ≡ suffix
 after_gate prefix suffix file at gate is at_is =
     ap (λ (l : List ℕ). drop (at + 1) l) (is ∙ sym (append_assoc prefix (gate ∷ []) suffix))
-        ∙ drop_at (prefix ++ gate ∷ []) suffix (at + 1) (omega (arith, at_is, length-append prefix (gate ∷ [])))
+    ∙ drop_at (prefix ++ gate ∷ []) suffix (at + 1) (omega (arith, at_is, length-append prefix (gate ∷ [])))
 
 -- an open gate with nothing whole after it
 pub read_cut : (g : ℕ) (image file : List ℕ) (found : List Record) (at gate : ℕ) → gate ≡ 1
@@ -170,10 +180,14 @@ read_more g image file found r at gate next end is_open so_far is_block gate_is 
   fits = subst
       (λ (bs : List (List ℕ)). FieldsFit g image bs) (sym pushed)
       (fits_push g image (bodies_of found) r.body.items so_far.fits is_block.0);
-  end_is = omega
-      (arith, end_is, so_far.end_is,
-      ap length (ap (solid g image) pushed ∙ solid-push g image (bodies_of found) r.body.items),
-      length-append prefix (1 ∷ block r.body.items), length-block r.body.items);
+  end_is = omega (
+    arith,
+    end_is,
+    so_far.end_is,
+    ap length (ap (solid g image) pushed ∙ solid-push g image (bodies_of found) r.body.items),
+    length-append prefix (1 ∷ block r.body.items),
+    length-block r.body.items,
+  );
   placed = placed_push (21 + length image) found r so_far.placed
       (omega (arith, gate_is, so_far.end_is, length-solid g image (bodies_of found)));
 }
@@ -218,8 +232,8 @@ pub read_idle : {D : Type 0} (device : Device D) (a b : D) → IsTrue (device.ho
     → AreIdle (device.leaves a (device.clock a)) → AreIdle (device.leaves b (device.clock b))
 read_idle device a b is read idle =
     fewer_idle (device.leaves a (device.clock a)) (device.leaves b (device.clock b)) idle
-        (at_end (device.clock a) (device.clock b) (device.leaves a) (device.leaves b) (device.leaves a (device.clock a))
-        (read.moments is))
+    (at_end (device.clock a) (device.clock b) (device.leaves a) (device.leaves b) (device.leaves a (device.clock a))
+    (read.moments is))
 
 -- and a disk that has rested has done so still when it was looked at
 pub rested_read : {D : Type 0} (device : Device D) (since : ℕ) (a b : D) → IsTrue (device.honest a)
@@ -259,7 +273,7 @@ pub idle_throughout : {D : Type 0} (device : Device D) (a b c : D) (P : List ℕ
 idle_throughout device a b c P is read idle so call =
     goes_on (device.clock a) (device.clock b) (device.clock c) (device.leaves a) (device.leaves b) (device.leaves c) P
     (weaker (device.clock a) (device.clock b) (device.leaves a) (device.leaves b) (device.leaves a (device.clock a)) P
-        (λ image left. so image (one_idle (device.leaves a (device.clock a)) idle image left)) (read.moments is)) call
+    (λ image left. so image (one_idle (device.leaves a (device.clock a)) idle image left)) (read.moments is)) call
 
 pub started_created : (image file left : List ℕ) → WhileStarted (mark 1 ++ (block image ++ 0 ∷ [])) file left
     → WhileCreated image left
@@ -267,7 +281,11 @@ started_created image file left (inl idle) = inl idle
 started_created image file left (inr (inl rests)) = inl (inr (subst IsShut (sym rests.1) refl))
 started_created image file left (inr (inr whole)) =
     let rest = drop (length (mark 1 ++ (block image ++ 0 ∷ []))) (drop 1 file) in
-    inr (whole.0, rest, whole.1
-        ∙ ap (λ (l : List ℕ). whole.0 ∷ l)
-        (append_assoc (mark 1) (block image ++ 0 ∷ []) rest
-        ∙ ap (λ (l : List ℕ). mark 1 ++ l) (append_assoc (block image) (0 ∷ []) rest)))
+    inr (
+      whole.0,
+      rest,
+      whole.1
+          ∙ ap (λ (l : List ℕ). whole.0 ∷ l)
+          (append_assoc (mark 1) (block image ++ 0 ∷ []) rest
+          ∙ ap (λ (l : List ℕ). mark 1 ++ l) (append_assoc (block image) (0 ∷ []) rest)),
+    )

@@ -34,30 +34,35 @@ rest_settles P Q g image image' bodies bodies' x w rest y file is fits among mor
     represents a b holds =
         subst (λ (l : List ℕ). RepresentOne Q l b) (sym holds.0)
         (elim (current_or_ahead g image bodies P x b file (stand_now P x b holds.1)) [
-      | inl is_current ↦
-          ((image', bodies'), among is_current.1, inl (g, record { file = at_rest; older = is_current.0 }))
-      | inr ahead ↦
-          ((ahead.1, ahead.2), more (ahead.1, ahead.2) ahead.5,
-          inr (ahead.0, record { file = ahead.3; older = older_by_mark g ahead.0 w marked ahead.4 }))
-    ])
+          | inl is_current ↦
+              ((image', bodies'), among is_current.1, inl (g, record { file = at_rest; older = is_current.0 }))
+          | inr ahead ↦ (
+            (ahead.1, ahead.2),
+            more (ahead.1, ahead.2) ahead.5,
+            inr (ahead.0, record { file = ahead.3; older = older_by_mark g ahead.0 w marked ahead.4 }),
+          )
+        ])
 
     preserved : (a b s t : List ℕ) → Rests P x w a b → Reopens a b s t → Rests P x w s t
     preserved a b s t holds (inl (inl one)) =
         let same = same_file one.0.generation g one.0.image image' one.0.bodies bodies' one.0.gate 0 one.0.behind rest
-            one.0.fits fits one.0.not_open (λ e. omega (arith, e)) (sym one.0.bytes ∙ holds.0 ∙ is) in
+        one.0.fits fits one.0.not_open (λ e. omega (arith, e)) (sym one.0.bytes ∙ holds.0 ∙ is) in
         absurd (one.0.not_shut same.gates)
     preserved a b s t holds (inl (inr one)) = (
       one.1 ∙ holds.0,
       settle_step P x b x t holds.1
-          (inl (inr (record {
-            generation = g;
-            image = image;
-            bodies = bodies;
-            file = file;
-            closed = one.0.closed;
-            not_shut = one.0.not_shut;
-            opened = one.0.opened;
-          }, refl))),
+          (inl (inr (
+            record {
+              generation = g;
+              image = image;
+              bodies = bodies;
+              file = file;
+              closed = one.0.closed;
+              not_shut = one.0.not_shut;
+              opened = one.0.opened;
+            },
+            refl,
+          ))),
     )
     preserved a b s t holds (inr (inl one)) = (
       one.1 ∙ holds.0,
@@ -86,15 +91,18 @@ rest_settles P Q g image image' bodies bodies' x w rest y file is fits among mor
 other_for : (g : ℕ) (image : List ℕ) (bodies : List (List ℕ)) (x w b t : List ℕ) → IsFile g image bodies x
     → OtherReopens w b t → Reopens x b x t
 other_for g image bodies x w b t file one =
-    inl (inr (record {
-      generation = g;
-      image = image;
-      bodies = bodies;
-      file = file;
-      closed = one.closed;
-      not_shut = one.not_shut;
-      opened = one.opened;
-    }, refl))
+    inl (inr (
+      record {
+        generation = g;
+        image = image;
+        bodies = bodies;
+        file = file;
+        closed = one.closed;
+        not_shut = one.not_shut;
+        opened = one.opened;
+      },
+      refl,
+    ))
 
 -- a gate of the other, ahead of a file, is put to 1 whatever follows the mark of that file
 end_for : (g : ℕ) (x w b t : List ℕ) → HasMark g x → HasMark g w → EndReopens b w t → Reopens x b x t
@@ -146,33 +154,37 @@ end_settles P Q g image bodies x c rest y file shut more good settle =
     represents a b (inl holds) =
         subst (λ (l : List ℕ). RepresentOne Q l b) (sym holds.0)
         (elim (current_or_ahead g image bodies P x b file (stand_now P x b holds.1)) [
-      | inl is_current ↦
-          ((image, bodies), more (image, bodies) is_current.1, inl (g, record { file = is_file; older = is_current.0 }))
-      | inr ahead ↦
-          ((ahead.1, ahead.2), more (ahead.1, ahead.2) ahead.5,
-          inr (ahead.0, record { file = ahead.3; older = older_by_mark g ahead.0 u marked ahead.4 }))
-    ])
+          | inl is_current ↦
+              ((image, bodies), more (image, bodies) is_current.1, inl (g, record { file = is_file; older = is_current.0 }))
+          | inr ahead ↦ (
+            (ahead.1, ahead.2),
+            more (ahead.1, ahead.2) ahead.5,
+            inr (ahead.0, record { file = ahead.3; older = older_by_mark g ahead.0 u marked ahead.4 }),
+          )
+        ])
 
     preserved : (a b s t : List ℕ) → Turns P Q x u a b → Reopens a b s t → Turns P Q x u s t
     preserved a b s t (inr now) one = inr (settle_step Q a b s t now one)
     preserved a b s t (inl holds) (inl (inl one)) =
         let same = same_file one.0.generation g one.0.image image one.0.bodies bodies one.0.gate c one.0.behind rest
-            one.0.fits file.fits one.0.not_open shut (sym one.0.bytes ∙ holds.0) in
+        one.0.fits file.fits one.0.not_open shut (sym one.0.bytes ∙ holds.0) in
         let opened : s ≡ solid g image bodies ++ 1 ∷ rest =
-            one.0.opened ∙ ap (λ (n : ℕ). solid n one.0.image one.0.bodies ++ 1 ∷ one.0.behind) same.generations
-            ∙ ap (λ (i : List ℕ). solid g i one.0.bodies ++ 1 ∷ one.0.behind) same.images
-            ∙ ap (λ (bs : List (List ℕ)). solid g image bs ++ 1 ∷ one.0.behind) same.bodies_same
-            ∙ ap (λ (r : List ℕ). solid g image bodies ++ 1 ∷ r) same.behind in
+        one.0.opened ∙ ap (λ (n : ℕ). solid n one.0.image one.0.bodies ++ 1 ∷ one.0.behind) same.generations
+        ∙ ap (λ (i : List ℕ). solid g i one.0.bodies ++ 1 ∷ one.0.behind) same.images
+        ∙ ap (λ (bs : List (List ℕ)). solid g image bs ++ 1 ∷ one.0.behind) same.bodies_same
+        ∙ ap (λ (r : List ℕ). solid g image bodies ++ 1 ∷ r) same.behind in
         let older : IsBehind g b = subst (λ (n : ℕ). IsBehind n b) same.generations one.0.older in
         inr (subst (λ (l : List ℕ). SettleOn Q l t) (sym opened)
-            (subst (λ (l : List ℕ). SettleOn Q (solid g image bodies ++ 1 ∷ rest) l) (sym one.1)
-            (good b holds.1 older)))
+        (subst (λ (l : List ℕ). SettleOn Q (solid g image bodies ++ 1 ∷ rest) l) (sym one.1)
+        (good b holds.1 older)))
     preserved a b s t (inl holds) (inl (inr one)) =
         inl (one.1 ∙ holds.0, settle_step P x b x t holds.1 (other_for g image bodies x a b t file one.0))
     preserved a b s t (inl holds) (inr (inl one)) =
-        inl (one.1 ∙ holds.0,
-        settle_step P x b x t holds.1
-        (end_for g x a b t x_marked (subst (λ (l : List ℕ). HasMark g l) (sym holds.0) marked) one.0))
+        inl (
+          one.1 ∙ holds.0,
+          settle_step P x b x t holds.1
+              (end_for g x a b t x_marked (subst (λ (l : List ℕ). HasMark g l) (sym holds.0) marked) one.0),
+        )
     preserved a b s t (inl holds) (inr (inr one)) =
         absurd (mark_closed g u marked (subst IsClosed holds.0 one.0.closed))
 
@@ -199,30 +211,38 @@ follower_settles P g h x u y x_marked marked y_marked less settle =
             absurd (not_older b is_current.0 holds.1
             (same_mark is_current.0 g x (file_mark is_current.0 pair.0 pair.1 x is_current.1.file) x_marked)
             is_current.1.older)
-        from (pair, among, inr is_current) =
-            (pair, among, inr (is_current.0, record {
+        from (pair, among, inr is_current) = (
+          pair,
+          among,
+          inr (
+            is_current.0,
+            record {
               file = is_current.1.file;
               older = older_by_mark g is_current.0 u marked (mark_behind g is_current.0 x x_marked is_current.1.older);
-            }))
+            },
+          ),
+        )
 
     preserved : (a b s t : List ℕ) → Follows P h x u a b → Reopens a b s t → Follows P h x u s t
     preserved a b s t holds (inl (inl one)) =
         absurd (not_older b one.0.generation holds.1
-            (same_mark one.0.generation g a
-            (solid_mark one.0.generation one.0.image one.0.bodies (one.0.gate ∷ one.0.behind) a one.0.fits.numbered
-            one.0.bytes) (subst (λ (l : List ℕ). HasMark g l) (sym holds.0.0) marked)) one.0.older)
+        (same_mark one.0.generation g a
+        (solid_mark one.0.generation one.0.image one.0.bodies (one.0.gate ∷ one.0.behind) a one.0.fits.numbered
+        one.0.bytes) (subst (λ (l : List ℕ). HasMark g l) (sym holds.0.0) marked)) one.0.older)
     preserved a b s t holds (inl (inr one)) = absurd (mark_closed h b holds.1 one.0.closed)
     preserved a b s t holds (inr (inl one)) =
         let number : one.0.generation ≡ h =
-            same_mark one.0.generation h b
-            (solid_mark one.0.generation one.0.image one.0.bodies (one.0.gate ∷ one.0.behind) b one.0.fits.numbered
-            one.0.bytes) holds.1 in
+        same_mark one.0.generation h b
+        (solid_mark one.0.generation one.0.image one.0.bodies (one.0.gate ∷ one.0.behind) b one.0.fits.numbered
+        one.0.bytes) holds.1 in
         let t_marked : HasMark one.0.generation t =
-            solid_mark one.0.generation one.0.image one.0.bodies (1 ∷ one.0.behind) t one.0.fits.numbered
-            one.0.opened in (
-          (one.1 ∙ holds.0.0,
-              settle_step P x b x t holds.0.1
-              (end_for g x a b t x_marked (subst (λ (l : List ℕ). HasMark g l) (sym holds.0.0) marked) one.0)),
+        solid_mark one.0.generation one.0.image one.0.bodies (1 ∷ one.0.behind) t one.0.fits.numbered
+        one.0.opened in (
+          (
+            one.1 ∙ holds.0.0,
+            settle_step P x b x t holds.0.1
+                (end_for g x a b t x_marked (subst (λ (l : List ℕ). HasMark g l) (sym holds.0.0) marked) one.0),
+          ),
           subst (λ (n : ℕ). HasMark n t) number t_marked,
         )
     preserved a b s t holds (inr (inr one)) = absurd (mark_closed g u marked (subst IsClosed holds.0.0 one.0.closed))
@@ -236,12 +256,12 @@ end_repair_settles P g image bodies x k c rest y is fits not_open not_shut settl
   | inl open_now ↦
       subst (λ (n : ℕ). SettleOn P (solid g image bodies ++ n ∷ rest) y) (sym open_now)
       (elim (current_or_ahead g image bodies P x y file (stand_now P x y settle)) [
-    | inl is_current ↦ settle_step P x y (solid g image bodies ++ 1 ∷ rest) y settle (reopens y is_current.0)
-    | inr ahead ↦
-        follower_settles P g ahead.0 x (solid g image bodies ++ 1 ∷ rest) y (file_mark g image bodies x file)
-        (solid_mark g image bodies (1 ∷ rest) (solid g image bodies ++ 1 ∷ rest) fits.numbered refl)
-        (file_mark ahead.0 ahead.1 ahead.2 y ahead.3) ahead.4 settle
-  ])
+        | inl is_current ↦ settle_step P x y (solid g image bodies ++ 1 ∷ rest) y settle (reopens y is_current.0)
+        | inr ahead ↦
+            follower_settles P g ahead.0 x (solid g image bodies ++ 1 ∷ rest) y (file_mark g image bodies x file)
+            (solid_mark g image bodies (1 ∷ rest) (solid g image bodies ++ 1 ∷ rest) fits.numbered refl)
+            (file_mark ahead.0 ahead.1 ahead.2 y ahead.3) ahead.4 settle
+      ])
   | inr shut ↦
       end_settles P P g image bodies x c rest y file shut (λ contents is. is)
       (λ v settles older. settle_step P x v (solid g image bodies ++ 1 ∷ rest) v settles (reopens v older)) settle
@@ -252,19 +272,22 @@ end_repair_settles P g image bodies x k c rest y is fits not_open not_shut settl
 
     reopens : (v : List ℕ) → IsBehind g v → Reopens x v (solid g image bodies ++ 1 ∷ rest) v
     reopens v older =
-        inl (inl (record {
-          generation = g;
-          image = image;
-          bodies = bodies;
-          gate = k;
-          behind = rest;
-          fits = fits;
-          bytes = is;
-          not_open = not_open;
-          not_shut = not_shut;
-          older = older;
-          opened = refl;
-        }, refl))
+        inl (inl (
+          record {
+            generation = g;
+            image = image;
+            bodies = bodies;
+            gate = k;
+            behind = rest;
+            fits = fits;
+            bytes = is;
+            not_open = not_open;
+            not_shut = not_shut;
+            older = older;
+            opened = refl;
+          },
+          refl,
+        ))
 
 -- ---- the other file, while it is closed
 
@@ -290,15 +313,18 @@ other_repair_settles P x y y' closed not_shut alike settle = elim (open_or_close
     from_represented : RepresentOne P x y → SettleOn P x (reopened y)
     from_represented (pair, among, inl is_current) =
         settle_step P x y x (reopened y) settle
-            (inl (inr (record {
-              generation = is_current.0;
-              image = pair.0;
-              bodies = pair.1;
-              file = is_current.1.file;
-              closed = closed;
-              not_shut = not_shut;
-              opened = refl;
-            }, refl)))
+        (inl (inr (
+          record {
+            generation = is_current.0;
+            image = pair.0;
+            bodies = pair.1;
+            file = is_current.1.file;
+            closed = closed;
+            not_shut = not_shut;
+            opened = refl;
+          },
+          refl,
+        )))
     from_represented (pair, among, inr is_current) =
         absurd (not_current is_current.0 pair.0 pair.1 y closed is_current.1.file)
 
@@ -337,20 +363,23 @@ other_repair_settles P x y y' closed not_shut alike settle = elim (open_or_close
         let is : t ≡ reopened y = one.0.opened ∙ ap reopened holds.0 ∙ alike in
         inr (subst (λ (l : List ℕ). SettleOn P l t) (sym one.1) (subst (λ (l : List ℕ). SettleOn P a l) (sym is) (
         settle_step P a y a (reopened y) holds.1
-            (inl (inr (record {
-              generation = one.0.generation;
-              image = one.0.image;
-              bodies = one.0.bodies;
-              file = one.0.file;
-              closed = closed;
-              not_shut = not_shut;
-              opened = refl;
-            }, refl)))
+        (inl (inr (
+          record {
+            generation = one.0.generation;
+            image = one.0.image;
+            bodies = one.0.bodies;
+            file = one.0.file;
+            closed = closed;
+            not_shut = not_shut;
+            opened = refl;
+          },
+          refl,
+        )))
         )))
     preserved closed' a b s t (inl holds) (inr (inl one)) =
         absurd (mark_closed one.0.generation b
-            (solid_mark one.0.generation one.0.image one.0.bodies (one.0.gate ∷ one.0.behind) b one.0.fits.numbered
-            one.0.bytes) (subst IsClosed (sym holds.0) closed'))
+        (solid_mark one.0.generation one.0.image one.0.bodies (one.0.gate ∷ one.0.behind) b one.0.fits.numbered
+        one.0.bytes) (subst IsClosed (sym holds.0) closed'))
     preserved closed' a b s t (inl holds) (inr (inr one)) =
         absurd (not_current one.0.generation one.0.image one.0.bodies b (subst IsClosed (sym holds.0) closed')
         one.0.file)

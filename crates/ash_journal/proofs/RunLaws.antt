@@ -80,9 +80,12 @@ module _ {D : Type 0} (device : Device D) where
     first_later = call.second_later;
     second_later = call.first_later;
     moments = λ s t x y s_end t_end left_x left_y.
-        let was = call.moments t s y x t_end s_end left_y left_x in
-        (was.1, was.0, record { first_left = was.2.second_left; second_left = was.2.first_left },
-            further_turned IsNew was.0 was.1 y x was.3);
+        let was = call.moments t s y x t_end s_end left_y left_x in (
+          was.1,
+          was.0,
+          record { first_left = was.2.second_left; second_left = was.2.first_left },
+          further_turned IsNew was.0 was.1 y x was.3,
+        );
   }
 
   -- of a journal's disks either is the first
@@ -97,11 +100,15 @@ module _ {D : Type 0} (device : Device D) where
   same_extends first second IsNew = record {
     first_later = omega arith;
     second_later = omega arith;
-    moments = λ s t x y s_end t_end left_x left_y.
-        (x, y, record {
-          first_left = left_then (device.leaves first) (device.clock first) s x s_end left_x;
-          second_left = left_then (device.leaves second) (device.clock second) t y t_end left_y;
-        }, further_same IsNew x y);
+    moments = λ s t x y s_end t_end left_x left_y. (
+      x,
+      y,
+      record {
+        first_left = left_then (device.leaves first) (device.clock first) s x s_end left_x;
+        second_left = left_then (device.leaves second) (device.clock second) t y t_end left_y;
+      },
+      further_same IsNew x y,
+    );
   }
 
   -- disks that were only read settle on what they did
@@ -144,8 +151,8 @@ module _ {D : Type 0} (device : Device D) where
         let was = call.moments s t x y s_end t_end left_x left_y in
         further P IsNew was.0 was.1 x y was.3
         (run.moments (min s (device.clock first)) (min t (device.clock second)) was.0 was.1
-            (omega (arith, from_a, run.first_began)) (omega arith) (omega (arith, from_b, run.second_began))
-            (omega arith) was.2.first_left was.2.second_left);
+        (omega (arith, from_a, run.first_began)) (omega arith) (omega (arith, from_b, run.second_began))
+        (omega arith) was.2.first_left was.2.second_left);
   }
 
   -- A run says of what the files represent as they read now what it says of all contents.
@@ -154,7 +161,7 @@ module _ {D : Type 0} (device : Device D) where
       → Run device a b first second P → Represent contents x y → P contents
   represented a b first second P contents x y left_x left_y run is =
       let one = run.moments (device.clock first) (device.clock second) x y run.first_began (omega arith)
-          run.second_began (omega arith) left_x left_y zero x y (refl, refl) in
+      run.second_began (omega arith) left_x left_y zero x y (refl, refl) in
       subst P (sym (represent_once contents one.0 x y is one.2)) one.1
 
   run_turned : (a b : ℕ) (c o : D) (P : Said) → Run device a b c o P → Run device b a o c P
@@ -190,12 +197,12 @@ module _ {D : Type 0} (device : Device D) where
       (second_of swapped c o) S
   run_now swapped c o S only_c only_o settle =
       run_begins swapped c o c o (λ (u : List ℕ). u ≡ device.seen c)
-          (λ (v : List ℕ). v ≡ device.seen o) S
-          (at_start (device.clock c) (device.leaves c) (λ (u : List ℕ). u ≡ device.seen c) only_c)
-          (at_start (device.clock o) (device.leaves o) (λ (v : List ℕ). v ≡ device.seen o) only_o)
+      (λ (v : List ℕ). v ≡ device.seen o) S
+      (at_start (device.clock c) (device.leaves c) (λ (u : List ℕ). u ≡ device.seen c) only_c)
+      (at_start (device.clock o) (device.leaves o) (λ (v : List ℕ). v ≡ device.seen o) only_o)
       (λ u v u_is v_is.
-          subst (λ (l : List ℕ). SettleOn S l v) (sym u_is)
-          (subst (λ (l : List ℕ). SettleOn S (device.seen c) l) (sym v_is) settle))
+      subst (λ (l : List ℕ). SettleOn S l v) (sym u_is)
+      (subst (λ (l : List ℕ). SettleOn S (device.seen c) l) (sym v_is) settle))
 
   -- The other disk has become the current one.
   pub run_swapped : (swapped : Bool) (a b : ℕ) (c o : D) (S : Said)

@@ -46,7 +46,7 @@ pub by_invariant : (P : Said) (I : List ℕ → List ℕ → Type 0) → ((x y :
     → ((x y s t : List ℕ) → I x y → Reopens x y s t → I s t) → (x y : List ℕ) → I x y → SettleOn P x y
 by_invariant P I represents preserved x y holds zero u v times =
     subst (λ (l : List ℕ). RepresentOne P l v) (sym times.0)
-        (subst (λ (l : List ℕ). RepresentOne P x l) (sym times.1) (represents x y holds))
+    (subst (λ (l : List ℕ). RepresentOne P x l) (sym times.1) (represents x y holds))
 by_invariant P I represents preserved x y holds (suc n) u v times =
     by_invariant P I represents preserved times.0 times.1 (preserved x y times.0 times.1 holds times.2) n u v times.3
 
@@ -67,8 +67,8 @@ times_turned (suc n) x y s t times =
 pub settle_turned : (P : Said) (x y : List ℕ) → SettleOn P x y → SettleOn P y x
 settle_turned P x y settle =
     by_invariant P (λ (a b : List ℕ). SettleOn P b a)
-        (λ a b s. (let one = stand_now P b a s in (one.0, one.1, represent_turned one.0 b a one.2)))
-        (λ a b s t holds one. settle_step P b a t s holds (turned a b s t one)) y x settle
+    (λ a b s. (let one = stand_now P b a s in (one.0, one.1, represent_turned one.0 b a one.2)))
+    (λ a b s t holds one. settle_step P b a t s holds (turned a b s t one)) y x settle
 
 -- what they settle on may be said in a weaker way
 pub settle_more : (P Q : Said) → Follow P Q → (x y : List ℕ) → SettleOn P x y → SettleOn Q x y
@@ -82,7 +82,7 @@ pub same_contents : (g h : ℕ) (image other : List ℕ) (bodies others : List (
     → SameFile g h image other bodies others one.gate two.gate one.behind two.behind
 same_contents g h image other bodies others file one two =
     same_file g h image other bodies others one.gate two.gate one.behind two.behind one.fits two.fits one.shut two.shut
-        (sym one.bytes ∙ two.bytes)
+    (sym one.bytes ∙ two.bytes)
 
 -- a file with a mark that is no newer than a generation has a smaller number
 pub mark_behind : (g h : ℕ) (x : List ℕ) → HasMark g x → IsBehind h x → g < h
@@ -109,18 +109,24 @@ current_or_ahead g image bodies P x y file (pair, among, inl is_current) =
           (subst (λ (bs : List (List ℕ)). P (pair.0, bs)) (sym same.bodies_same) among),
     )
 current_or_ahead g image bodies P x y file (pair, among, inr is_current) =
-    inr (is_current.0, pair.0, pair.1, is_current.1.file,
-        mark_behind g is_current.0 x (file_mark g image bodies x file) is_current.1.older, among)
+    inr (
+      is_current.0,
+      pair.0,
+      pair.1,
+      is_current.1.file,
+      mark_behind g is_current.0 x (file_mark g image bodies x file) is_current.1.older,
+      among,
+    )
 
 one_current : (contents other : Contents) (x y : List ℕ) → (g : ℕ) × IsCurrent g contents.0 contents.1 x y
     → Represent other x y → contents ≡ other
 one_current contents other x y one two =
     elim (current_or_ahead one.0 contents.0 contents.1 (Is other) x y one.1.file (other, refl, two)) [
-  | inl is_current ↦ is_current.1
-  | inr ahead ↦ let under : ahead.0 < one.0 =
-      mark_behind ahead.0 one.0 y (file_mark ahead.0 ahead.1 ahead.2 y ahead.3) one.1.older in
-      absurd (omega (arith, under, ahead.4))
-]
+      | inl is_current ↦ is_current.1
+      | inr ahead ↦ let under : ahead.0 < one.0 =
+          mark_behind ahead.0 one.0 y (file_mark ahead.0 ahead.1 ahead.2 y ahead.3) one.1.older in
+          absurd (omega (arith, under, ahead.4))
+    ]
 
 -- two files represent one image and its records
 pub represent_once : (contents other : Contents) (x y : List ℕ) → Represent contents x y → Represent other x y
@@ -143,8 +149,8 @@ pub further : (P IsNew : Said) (u v x y : List ℕ) → SettleFurther IsNew u v 
     → SettleOn (Either IsNew P) x y
 further P IsNew u v x y more settle =
     settle_more (Either IsNew (MaySettleOn u v)) (Either IsNew P)
-        (λ contents one. elim one [ inl new ↦ inl new | inr old ↦ inr (may_settle P u v settle contents old) ]) x y
-        (more (settle_may P u v settle))
+    (λ contents one. elim one [ inl new ↦ inl new | inr old ↦ inr (may_settle P u v settle contents old) ]) x y
+    (more (settle_may P u v settle))
 
 -- nothing has changed
 pub further_same : (IsNew : Said) (x y : List ℕ) → SettleFurther IsNew x y x y
@@ -155,10 +161,10 @@ further_same IsNew x y settle =
 pub further_turned : (IsNew : Said) (u v x y : List ℕ) → SettleFurther IsNew u v x y → SettleFurther IsNew v u y x
 further_turned IsNew u v x y more settle =
     settle_more (Either IsNew (MaySettleOn u v)) (Either IsNew (MaySettleOn v u))
-        (λ contents one. elim one [ inl new ↦ inl new | inr old ↦ inr (may_turned u v contents old) ]) y x
+    (λ contents one. elim one [ inl new ↦ inl new | inr old ↦ inr (may_turned u v contents old) ]) y x
     (settle_turned (Either IsNew (MaySettleOn u v)) x y
-        (more (settle_more (MaySettleOn v u) (MaySettleOn u v)
-        (λ contents old. may_turned v u contents old) u v (settle_turned (MaySettleOn v u) v u settle))))
+    (more (settle_more (MaySettleOn v u) (MaySettleOn u v)
+    (λ contents old. may_turned v u contents old) u v (settle_turned (MaySettleOn v u) v u settle))))
   where
     may_turned : (u v : List ℕ) (contents : Contents) → MaySettleOn u v contents → MaySettleOn v u contents
     may_turned u v contents (n, s, t, times, stand) =

@@ -47,11 +47,11 @@ pub record EndReopens (current other after : List ℕ) : Type 0 where
   pub gate : ℕ
   pub behind : List ℕ
   pub fits : FieldsFit generation image bodies
-  pub bytes : current ≡ solid generation image bodies ++ gate ∷ suffix
+  pub bytes : current ≡ solid generation image bodies ++ gate ∷ behind
   pub not_open : gate ≢ 1
   pub not_shut : gate ≢ 0
   pub older : IsBehind generation other
-  pub opened : after ≡ solid generation image bodies ++ 1 ∷ suffix
+  pub opened : after ≡ solid generation image bodies ++ 1 ∷ behind
 
 -- The first file is current, and 1 is put for the first gate of the other, which a repair would write over since the
 -- other is closed and this gate isn't 0.
@@ -68,7 +68,7 @@ pub record OtherReopens (current other after : List ℕ) : Type 0 where
 abbrev pub ReopensBy : List ℕ → List ℕ → List ℕ → List ℕ → Type 0
 ReopensBy current other current_after other_after =
     (EndReopens current other current_after × (other_after ≡ other))
-        ⊎ (OtherReopens current other other_after × (current_after ≡ current))
+    ⊎ (OtherReopens current other other_after × (current_after ≡ current))
 
 -- Whichever file is current, 1 is put for a gate that a repair would write over.
 abbrev pub Reopens : List ℕ → List ℕ → List ℕ → List ℕ → Type 0
@@ -97,4 +97,4 @@ MaySettleOn first second contents =
 abbrev pub SettleFurther : (Contents → Type 0) → List ℕ → List ℕ → List ℕ → List ℕ → Type 0
 SettleFurther IsNew first second first_after second_after =
     SettleOn (MaySettleOn first second) first second
-        → SettleOn (Either IsNew (MaySettleOn first second)) first_after second_after
+    → SettleOn (Either IsNew (MaySettleOn first second)) first_after second_after

@@ -60,7 +60,7 @@ pub record FilesAre {D : Type 0} (device : Device D) (number end size : ℕ) (st
   pub gate : ℕ
   pub behind : List ℕ
   pub shut : gate ≢ 1
-  pub bytes : device.seen current ≡ solid number image bodies ++ gate ∷ suffix
+  pub bytes : device.seen current ≡ solid number image bodies ++ gate ∷ behind
   pub fits : FieldsFit number image bodies
   pub end_is : end ≡ length (solid number image bodies)
   pub size_is : size ≡ length (records bodies)

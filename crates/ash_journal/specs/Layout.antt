@@ -48,7 +48,7 @@ pub record IsFile (generation : ℕ) (image : List ℕ) (bodies : List (List ℕ
   pub gate : ℕ
   pub behind : List ℕ
   pub shut : gate ≢ 1
-  pub bytes : file ≡ solid generation image bodies ++ gate ∷ suffix
+  pub bytes : file ≡ solid generation image bodies ++ gate ∷ behind
   pub fits : FieldsFit generation image bodies
 
 -- The first gate is 1, and something follows it.

@@ -46,7 +46,7 @@ ChoiceIs choice first second =
 abbrev pub ContentsAre : Choice → CurrentFile → List ℕ → List ℕ → Type 0
 ContentsAre choice current_file first second =
     IsRead choice.generation current_file.image.items current_file.tail.records.items current_file.tail.end
-        current_file.tail.gate (first_of choice.swapped first second)
+    current_file.tail.gate (first_of choice.swapped first second)
     × OtherIs choice.other_state choice.generation (second_of choice.swapped first second)
 
 -- These are the headers of two files, and their lengths.

@@ -44,7 +44,7 @@ AreAt at (r ∷ found) = (r.gate ≡ at) × AreAt (at + 5 + length r.body.items)
 pub record IsReadTo (generation : ℕ) (image : List ℕ) (found : List Record) (end : ℕ) (gate : ℕ)
     (file : List ℕ) : Type 0 where
   pub behind : List ℕ
-  pub bytes : file ≡ solid generation image (bodies_of found) ++ gate ∷ suffix
+  pub bytes : file ≡ solid generation image (bodies_of found) ++ gate ∷ behind
   pub fits : FieldsFit generation image (bodies_of found)
   pub end_is : end ≡ length (solid generation image (bodies_of found))
   pub placed : AreAt (21 + length image) found

@@ -1,13 +1,13 @@
 //! The journal.
 ghost use Rattle.std.specs.Prelude.{◌≡◌, ◌≤◌, ◌+◌, ◌^◌};
 
-use crate::other_state::{Order, OtherState};
 use crate::bytes::{generation_bytes, record_bytes};
 use crate::creation::create_both;
 use crate::error::{AppendError, CreateFault, InstallError, OpenFault};
 use crate::gate::{Gate, commit, repair, replace};
-use crate::two_files::{Contents, read_both};
+use crate::other_state::{Order, OtherState};
 use crate::record::Record;
+use crate::two_files::{Contents, read_both};
 use ash_disk::{DeviceFailed, Disk};
 use std::alloc::Global;
 use std::mem;
@@ -189,7 +189,10 @@ impl<D: Disk> Journal<D> {
                 });
             }
         };
-        let Contents { choice, current_file } = contents;
+        let Contents {
+            choice,
+            current_file,
+        } = contents;
         let order = Order {
             swapped: choice.swapped,
         };

@@ -7,9 +7,9 @@ ghost use Rattle.ash_journal.specs.Layout.{IsOpen, IsClosed, HasMark};
 ghost use Rattle.ash_journal.specs.Opening.{HeadersAre, ChoiceIs, ContentsAre, FaultIs};
 ghost use Rattle.ash_journal.specs.Reading.{HeaderIs, ShutIs};
 
-use crate::other_state::OtherState;
 use crate::error::OpenFault;
 use crate::one_file::{CurrentFile, FileHeader, FirstGate, read_current, read_header};
+use crate::other_state::OtherState;
 use ash_disk::{DeviceFailed, Disk};
 use std::alloc::Global;
 
@@ -211,7 +211,10 @@ pub(crate) fn read_both<D: Disk>(
         Err(fault) => return Err(fault),
     };
     match read_chosen(alloc, first, second, &headers, choice) {
-        Ok(current_file) => Ok(Contents { choice, current_file }),
+        Ok(current_file) => Ok(Contents {
+            choice,
+            current_file,
+        }),
         Err(fault) => Err(fault),
     }
 }

@@ -213,14 +213,16 @@ module _ (calls : List host.Call) (is : List written.Item) where
       let at = written_class place lists.0 lists.1 in
       let listed = subst (λ (c : signatures.ClassSignature). Contains c.interfaces interface) (sym at.2) lists.2 in
       let among = among_listed calls (names_in is) at.0.interfaces interface
-          (among_from (λ i. i ≡ interface) (listed_in calls (names_in is) at.0.interfaces) interface listed refl) in
-      (at.0, at.1,
-          inr (any_among
-          (λ n. n.name ≡ name) at.0.interfaces
-          (among_weaker (λ n. object_named calls (names_in is) n.name ≡ Some (objects.Interface interface))
-          (λ n. n.name ≡ name) at.0.interfaces
-          (λ n e. same_names (names_in is) n.name name interface
-          (named_by calls (names_in is) n.name (objects.Interface interface) e) h) among)))
+      (among_from (λ i. i ≡ interface) (listed_in calls (names_in is) at.0.interfaces) interface listed refl) in (
+        at.0,
+        at.1,
+        inr (any_among
+            (λ n. n.name ≡ name) at.0.interfaces
+            (among_weaker (λ n. object_named calls (names_in is) n.name ≡ Some (objects.Interface interface))
+            (λ n. n.name ≡ name) at.0.interfaces
+            (λ n e. same_names (names_in is) n.name name interface
+            (named_by calls (names_in is) n.name (objects.Interface interface) e) h) among)),
+      )
 
   object_written : (name : List ℕ) (o : ObjectType) (to : ℕ) → object_named calls (names_in is) name ≡ Some o
       → references.ObjectHolds seen to o → HasClass is to (λ w. written_references.IsOf w name)
@@ -345,9 +347,9 @@ module _ (calls : List host.Call) (is : List written.Item) where
       let one = written_class from h.0 h.2 in
       let fields = subst (λ (c : signatures.ClassSignature). Contains c.fields h.1) (sym one.2) h.3 in
       let typed = among_map
-          (λ of. of ≡ h.1) type_declared (all_variables calls (names_in is) (fields_of one.0.members))
-          (among_from (λ of. of ≡ h.1) (map type_declared (all_variables calls (names_in is) (fields_of one.0.members)))
-          h.1 fields refl) in
+      (λ of. of ≡ h.1) type_declared (all_variables calls (names_in is) (fields_of one.0.members))
+      (among_from (λ of. of ≡ h.1) (map type_declared (all_variables calls (names_in is) (fields_of one.0.members)))
+      h.1 fields refl) in
       let other = members_written h.1 to one.0.members h.4 (field_written h.1 one.0.members typed) in
       (other.0, other.1, (one.0, one.1, any_among (λ m. written_references.Holds m other.0) one.0.members other.2))
 
@@ -366,8 +368,8 @@ pub typed_ranks : (calls : List host.Call) (is : List written.Item) (m : Module)
     → references.AreRanks (signatures.signatures_of (offered calls) m) ranks
 typed_ranks calls is m typed ranks are =
     let long : length (classes_of is) ≡ length (map signatures.signature_of_class m.classes) =
-        sym (classes_length (environment calls is) 0 (classes_of is) m.classes typed.classes)
-        ∙ sym (length-mapped signatures.signature_of_class m.classes) in
+    sym (classes_length (environment calls is) 0 (classes_of is) m.classes typed.classes)
+    ∙ sym (length-mapped signatures.signature_of_class m.classes) in
     record {
       count = are.count ∙ long;
       within = subst (λ n. All (λ rank. rank < n) ranks) long are.within;

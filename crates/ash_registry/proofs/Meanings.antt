@@ -86,11 +86,11 @@ whole text t h from to =
     let ends : t.to ≡ length h.before + length h.piece = ap (λ (l : Lexeme). l.to) h.is in
     let len = ap length h.parts in
     let all : length h.after ≡ 0 =
-        omega (arith, length-append (h.before ++ h.piece) h.after, length-append h.before h.piece) in
+    omega (arith, length-append (h.before ++ h.piece) h.after, length-append h.before h.piece) in
     let nothing : h.after ≡ [] = nil_from_length h.after all in
     let text_is : text ≡ h.piece =
-        h.parts ∙ ap (λ a. (h.before ++ h.piece) ++ a) nothing ∙ append-nil (h.before ++ h.piece)
-        ∙ ap (λ b. b ++ h.piece) nil in
+    h.parts ∙ ap (λ a. (h.before ++ h.piece) ++ a) nothing ∙ append-nil (h.before ++ h.piece)
+    ∙ ap (λ b. b ++ h.piece) nil in
     record {
       is = h.is ∙ ap (λ b. lexeme_at b h.piece h.meaning) nil ∙ ap (λ p. lexeme_at [] p h.meaning) (sym text_is)
           ∙ ap (λ m. lexeme_at [] text m) (sym meant);
@@ -119,8 +119,10 @@ other_word text m k no_name no_word no_other = (
 )
 
 no_word : (text : List ℕ) → ((m : Meaning) → IsWord text m → ⊥) → HasNameClass text ANoName
-no_word text none = (λ h. none (name text) h,
-    λ h. elim h [ inl k ↦ none (reserved k.0) k.1 | inr k ↦ none (unsupported k.0) k.1 ])
+no_word text none = (
+  λ h. none (name text) h,
+  λ h. elim h [ inl k ↦ none (reserved k.0) k.1 | inr k ↦ none (unsupported k.0) k.1 ],
+)
 
 -- what a text is that is all of one token
 by_meaning : (text : List ℕ) (m : Meaning) → Means text m → IsWord text m → HasNameClass text (class_of_meaning m)

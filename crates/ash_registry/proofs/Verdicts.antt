@@ -20,7 +20,7 @@ pub for_declared : {A : Type 0} (text : List ℕ) (test : Bool) (first : Registr
     → RegisteredIf (cause test first (refusal e)) (call e) answered old new
 for_declared {A} text test first refusal call answered old new d is passed h e says =
     subst (λ (x : Option Declaration). RegisteredIf {A = A} (cause test first (refusal x)) (call x) answered old new)
-        (one_declared text d e is says) (skip_cause test first (refusal d) (call d) answered old new passed h)
+    (one_declared text d e is says) (skip_cause test first (refusal d) (call d) answered old new passed h)
 
 pub for_name_class : {A : Type 0} (text : List ℕ) (refusal : NameClass → Option RegistryFault) (call : List Call)
     (answered : Result A RegistryFault) (old new : List Call) (s : NameClass) → HasNameClass text s

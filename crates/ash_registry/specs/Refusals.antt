@@ -98,21 +98,21 @@ refusal_of_type calls name ANoName kind = Some BadDeclaration
 refusal_of_type calls name AReserved kind = Some ReservedName
 refusal_of_type calls name AName kind =
     cause (list_any (takes_name name) calls || list_any (takes_kind kind) calls) NameTaken
-        (cause_of_many (nat_le 256 (count_by is_type calls)) calls (AType name kind))
+    (cause_of_many (nat_le 256 (count_by is_type calls)) calls (AType name kind))
 
 -- A service has a kind of its own, and there are at most 16.
 abbrev pub refusal_of_service : List Call → ℕ → Option RegistryFault
 refusal_of_service calls kind =
     cause (list_any (takes_kind kind) calls) NameTaken
-        (cause_of_many (nat_le 16 (count_by is_service calls)) calls (AService kind))
+    (cause_of_many (nat_le 16 (count_by is_service calls)) calls (AService kind))
 
 -- A method is a function of primitives; a type's methods and properties have names of their own, its methods have
 -- numbers of their own, and there are at most 32 of both.
 abbrev pub refusal_of_signature : List Call → List ℕ → ℕ → Signature → Option RegistryFault
 refusal_of_signature calls of id s =
     cause_in calls (types_of s)
-        (cause (list_any (takes_member of s.name) calls || list_any (takes_method of id) calls) NameTaken
-        (cause_of_many (nat_le 32 (count_by (is_member_of of) calls)) calls (AMethod of id (primitive_operation s))))
+    (cause (list_any (takes_member of s.name) calls || list_any (takes_method of id) calls) NameTaken
+    (cause_of_many (nat_le 32 (count_by (is_member_of of) calls)) calls (AMethod of id (primitive_operation s))))
 
 -- What is declared for a method must be a function.
 abbrev pub refusal_of_declared_method : List Call → List ℕ → ℕ → Option Declaration → Option RegistryFault
@@ -133,7 +133,7 @@ method_call _ _ _ = []
 abbrev pub refusal_of_primitive : List Call → List ℕ → ℕ → Primitive → List ℕ → Option RegistryFault
 refusal_of_primitive calls of id value name =
     cause (list_any (takes_member of name) calls || list_any (takes_property of id) calls) NameTaken
-        (cause_of_many (nat_le 32 (count_by (is_member_of of) calls)) calls (AProperty of id value name))
+    (cause_of_many (nat_le 32 (count_by (is_member_of of) calls)) calls (AProperty of id value name))
 
 -- A property is of a primitive type.
 abbrev pub refusal_of_value : List Call → List ℕ → ℕ → Named → List ℕ → Option RegistryFault
@@ -169,8 +169,8 @@ gives_handle_of _ _ = false
 abbrev pub refusal_of_constructor : List Call → List ℕ → List Named → Option RegistryFault
 refusal_of_constructor calls of parameters =
     cause_in calls parameters
-        (cause (list_any (is_factory_of of) calls) FactoryTaken
-        (cause_of_many false calls (AFactory of (filter_map primitive_of parameters))))
+    (cause (list_any (is_factory_of of) calls) FactoryTaken
+    (cause_of_many false calls (AFactory of (filter_map primitive_of parameters))))
 
 -- What is declared for a factory must be a function that gives a handle of the type.
 abbrev pub refusal_of_declared_factory : List Call → List ℕ → Option Declaration → Option RegistryFault
@@ -193,8 +193,8 @@ factory_call _ _ = []
 abbrev pub refusal_of_operation : List Call → ℕ → ℕ → Signature → Option RegistryFault
 refusal_of_operation calls service id s =
     cause_in calls (types_of s)
-        (cause (list_any (takes_name s.name) calls || list_any (takes_function service id) calls) NameTaken
-        (cause_of_many (nat_le 256 (count_by is_function calls)) calls (AFunction service id (primitive_operation s))))
+    (cause (list_any (takes_name s.name) calls || list_any (takes_function service id) calls) NameTaken
+    (cause_of_many (nat_le 256 (count_by is_function calls)) calls (AFunction service id (primitive_operation s))))
 
 -- What is declared for a function of a service must be a function.
 abbrev pub refusal_of_declared_function : List Call → ℕ → ℕ → Option Declaration → Option RegistryFault

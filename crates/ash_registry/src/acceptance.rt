@@ -32,7 +32,12 @@ impl Registry {
     }
 
     // Adds a call against which nothing else speaks, and which takes no name, to so many of at most `max`.
-    pub(crate) fn accept(&mut self, call: Call, count: usize, max: usize) -> Result<(), RegistryFault>
+    pub(crate) fn accept(
+        &mut self,
+        call: Call,
+        count: usize,
+        max: usize,
+    ) -> Result<(), RegistryFault>
         requires { (name : List ℕ) → takes_name name (call_of call) ≡ false }
         ensures { RegisteredIf
             (cause_of_many (nat_le max count) (registered self.old) (call_of call))

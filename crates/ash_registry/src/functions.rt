@@ -49,7 +49,9 @@ impl Registry {
             (registered self.old) (registered self.new) }
     {
         match declared {
-            Some(Declaration::Function(signature)) => self.function_of_signature(service, signature, id),
+            Some(Declaration::Function(signature)) => self.function_of_signature(
+                service, signature, id,
+            ),
             _ => Err(RegistryFault::BadDeclaration),
         }
     }

@@ -44,7 +44,12 @@ impl Registry {
         self.classified_type(name, name_kind, kind)
     }
 
-    fn classified_type(&mut self, name: &str, name_kind: NameKind, kind: u16) -> Result<(), RegistryFault>
+    fn classified_type(
+        &mut self,
+        name: &str,
+        name_kind: NameKind,
+        kind: u16,
+    ) -> Result<(), RegistryFault>
         ensures { RegisteredIf
             (refusal_of_type (registered self.old) name.now (name_class_of name_kind) kind)
             (AType name.now kind ∷ []) result (registered self.old) (registered self.new) }

@@ -56,9 +56,13 @@ listed_at_in : (script : Script) (env : Environment) (place : ℕ) (before : Lis
     (λ (interface : ℕ). type_named env n.name ≡ Some (objects.Interface interface)) (listed_at n.place.at found)
 listed_at_in script env place before n ns (Some (objects.Interface interface)) h r e = fine e
 listed_at_in script env place before n ns (Some (objects.Class class)) h r e =
-    faulty (name n.name, h, refl,
-    meaning.listed_class r
-    (subst (λ found. found ≡ Some (objects.Class class)) (same_named script env n.name (sees r)) e))
+    faulty (
+      name n.name,
+      h,
+      refl,
+      meaning.listed_class r
+          (subst (λ found. found ≡ Some (objects.Class class)) (same_named script env n.name (sees r)) e),
+    )
 listed_at_in script env place before n ns (Some (objects.Host kind)) h r e =
     faulty (name n.name, h, refl, not_listed script env place before n ns r (ap is_declared e))
 listed_at_in script env place before n ns (Some (objects.Array of)) h r e =
@@ -130,9 +134,12 @@ unfolding constructor_named
 named_in script env class before ms c rest h k r = either (is_some ms.class.constructor)
     (λ b. name_taken (the_name c.place.at c.name (is_some ms.class.constructor)) r (rw k.constructor refl) h.0 b)
     (λ b. either (bytes_eq c.name ms.class.name) (λ d. fine refl)
-        (λ d. faulty
-        (name c.name, h.0, refl,
-        meaning.other_constructor r (subst (λ class. bytes_eq c.name class ≡ false) k.name d))))
+    (λ d. faulty (
+      name c.name,
+      h.0,
+      refl,
+      meaning.other_constructor r (subst (λ class. bytes_eq c.name class ≡ false) k.name d),
+    )))
 
 member_in : (script : Script) (env : Environment) (class : List ℕ) (before : List written.Member) (ms : Members)
     (m : written.Member) (rest : List written.Member) → MemberIn script.tokens m → HasMembers class before ms
@@ -142,10 +149,10 @@ unfolding member_typed
 member_in script env class before ms (written.AField v) rest h k r =
     let x = phrases.ClassMembers env class before (written.AField v ∷ rest) in
     bind (vars_in script env ms.names v h (miswritten script env x (stored_use v.of) (sees r) r refl)
-        (λ of e. subst
-        (λ names. OccursIn script (phrases.Variables env (at_type v.of) of names v.decls)) (sym k.names)
-        (phrases.fields r e)))
-        (λ row n. fine (record {
+    (λ of e. subst
+    (λ names. OccursIn script (phrases.Variables env (at_type v.of) of names v.decls)) (sym k.names)
+    (phrases.fields r e)))
+    (λ row n. fine (record {
       names = n ∙ ap (λ names. with_decls names v.decls) k.names ∙ names_after_fields before v;
       name = k.name;
       constructor = k.constructor ∙ same_constructor before (written.AField v) refl;
@@ -153,9 +160,9 @@ member_in script env class before ms (written.AField v) rest h k r =
 member_in script env class before ms (written.AMethod f) rest h k r =
     let x = phrases.ClassMembers env class before (written.AMethod f ∷ rest) in
     bind_by (result_in script env x f.result h.0 (sees r) r refl)
-        (λ of e u. bind_to _
-        (placed_in script ms.names f.place.at f.name x (h.1).0 r (rw k.names refl) (rw k.names refl))
-        (bind (routine_in script env of (routine_of f) h.1 (phrases.method r e)) (λ t w. fine (record {
+    (λ of e u. bind_to _
+    (placed_in script ms.names f.place.at f.name x (h.1).0 r (rw k.names refl) (rw k.names refl))
+    (bind (routine_in script env of (routine_of f) h.1 (phrases.method r e)) (λ t w. fine (record {
       names = ap (λ names. with_one names f.name) k.names ∙ names_after_method before f;
       name = k.name;
       constructor = k.constructor ∙ same_constructor before (written.AMethod f) refl;
@@ -163,10 +170,10 @@ member_in script env class before ms (written.AMethod f) rest h k r =
 member_in script env class before ms (written.AConstructor c) rest h k r =
     bind_to _ (named_in script env class before ms c rest h k r)
     (bind (routine_in script env ty.Void (constructing c) h (phrases.constructor r)) (λ t u. fine (record {
-  names = k.names ∙ names_after_constructor before c;
-  name = k.name;
-  constructor = one_constructor before c;
-})))
+      names = k.names ∙ names_after_constructor before c;
+      name = k.name;
+      constructor = one_constructor before c;
+    })))
 
 members_in : (script : Script) (env : Environment) (class : List ℕ) (before : List written.Member) (ms : Members)
     (rest : List written.Member) → AllByRecursion (MemberIn script.tokens) rest → HasMembers class before ms
@@ -184,9 +191,9 @@ unfolding class_typed
 class_in script env before c is h r =
     let place = length (classes_of before) in
     bind (all_listed_in script env place [] none_listed c.interfaces h.1 refl (phrases.interfaces r)) (λ listed u.
-        bind (members_in script (inside env place) c.name [] (no_members c listed.interfaces) c.members h.2
-        (record { names = refl; name = refl; constructor = refl }) (phrases.members r))
-        (λ ms v. fine tt))
+    bind (members_in script (inside env place) c.name [] (no_members c listed.interfaces) c.members h.2
+    (record { names = refl; name = refl; constructor = refl }) (phrases.members r))
+    (λ ms v. fine tt))
 
 -- modules
 
@@ -240,10 +247,10 @@ unfolding item_typed
 item_in script env before w (written.AClass c) is h k r =
     let x = phrases.Items env before (written.AClass c ∷ is) in
     bind_to _ (untaken_in script w.names c.place.at c.name x h.0 r (rw k.names refl))
-        (bind_to _ (room_in script c.place.at c.name x w.typed h.0 r (rw (k.classes, k.interfaces) refl))
-        (bind (subst
-        (λ place. Fine script (class_typed env place c)) (sym k.classes) (class_in script env before c is h r))
-        (λ t y. fine (record {
+    (bind_to _ (room_in script c.place.at c.name x w.typed h.0 r (rw (k.classes, k.interfaces) refl))
+    (bind (subst
+    (λ place. Fine script (class_typed env place c)) (sym k.classes) (class_in script env before c is h r))
+    (λ t y. fine (record {
       names = ap (λ names. with_name names c.name) k.names
           ∙ names_after_item env.registered before (written.AClass c) c.name refl refl;
       classes = more_classes before (written.AClass c) w.typed.classes t refl k.classes;
@@ -252,8 +259,8 @@ item_in script env before w (written.AClass c) is h k r =
 item_in script env before w (written.AnInterface i) is h k r =
     let x = phrases.Items env before (written.AnInterface i ∷ is) in
     bind_to _ (untaken_in script w.names i.place.at i.name x h.0 r (rw k.names refl))
-        (bind (room_in script i.place.at i.name x w.typed h.0 r (rw (k.classes, k.interfaces) refl))
-        (λ classes v. bind (interface_in script env classes i h (phrases.methods r)) (λ t y. fine (record {
+    (bind (room_in script i.place.at i.name x w.typed h.0 r (rw (k.classes, k.interfaces) refl))
+    (λ classes v. bind (interface_in script env classes i h (phrases.methods r)) (λ t y. fine (record {
       names = ap (λ names. with_name names i.name) k.names
           ∙ names_after_item env.registered before (written.AnInterface i) i.name refl refl;
       classes = same_classes before (written.AnInterface i) (length w.typed.classes) refl k.classes;
@@ -262,8 +269,8 @@ item_in script env before w (written.AnInterface i) is h k r =
 item_in script env before w (written.AFunction f) is h k r =
     let x = phrases.Items env before (written.AFunction f ∷ is) in
     bind_by (result_in script env x f.result h.0 (sees r) r refl)
-        (λ of e u. bind_to _ (untaken_in script w.names f.place.at f.name x (h.1).0 r (rw k.names refl))
-        (bind (routine_in script env of (routine_of f) h.1 (phrases.function r e)) (λ t y. fine (record {
+    (λ of e u. bind_to _ (untaken_in script w.names f.place.at f.name x (h.1).0 r (rw k.names refl))
+    (bind (routine_in script env of (routine_of f) h.1 (phrases.function r e)) (λ t y. fine (record {
       names = ap (λ names. with_name names f.name) k.names
           ∙ names_after_item env.registered before (written.AFunction f) f.name refl refl;
       classes = same_classes before (written.AFunction f) (length w.typed.classes) refl k.classes;
@@ -273,12 +280,12 @@ item_in script env before w (written.AGlobal v) is h k r =
     let x = phrases.Items env before (written.AGlobal v ∷ is) in
     let registered = (sees r).1 in
     let here : w.names ≡ names_before script.calls before =
-        k.names ∙ ap (λ calls. names_before calls before) registered in
+    k.names ∙ ap (λ calls. names_before calls before) registered in
     bind (vars_in script env w.names v h (miswritten script env x (stored_use v.of) (sees r) r refl)
-        (λ of e. subst
-        (λ names. OccursIn script (phrases.Variables env (at_type v.of) of names v.decls)) (sym here)
-        (phrases.globals r e)))
-        (λ row n. fine (record {
+    (λ of e. subst
+    (λ names. OccursIn script (phrases.Variables env (at_type v.of) of names v.decls)) (sym here)
+    (phrases.globals r e)))
+    (λ row n. fine (record {
       names = n ∙ ap (λ names. with_decls names v.decls) k.names ∙ names_after_globals env.registered before v;
       classes = same_classes before (written.AGlobal v) (length w.typed.classes) refl k.classes;
       interfaces = same_interfaces before (written.AGlobal v) (length w.typed.interfaces) refl k.interfaces;

@@ -68,8 +68,8 @@ after_item : (calls : List Call) (before : List written.Item) (i : written.Item)
 after_item calls before i names count e k =
     let counted = globals_counted before i in
     same_names (names_before calls before) (item_names before ++ names) (item_names (before ++ i ∷ []))
-        (256 - globals_in before - count) (256 - globals_in (before ++ i ∷ []))
-        (ap (λ ns. item_names before ++ ns) (sym e) ∙ sym (items_named before i)) (omega arith)
+    (256 - globals_in before - count) (256 - globals_in (before ++ i ∷ []))
+    (ap (λ ns. item_names before ++ ns) (sym e) ∙ sym (items_named before i)) (omega arith)
 
 -- after an item that declares one name, and no variable
 pub names_after_item : (calls : List Call) (before : List written.Item) (i : written.Item) (text : List ℕ)
@@ -122,12 +122,12 @@ names_after_member : (before : List written.Member) (m : written.Member) (names 
     (32 - length (member_names before) - length names) ≡ names_of_members (before ++ m ∷ [])
 names_after_member before m names e =
     let same : member_names before ++ names ≡ member_names (before ++ m ∷ []) =
-        ap (λ ns. member_names before ++ ns) (sym e) ∙ sym (members_named before m) in
+    ap (λ ns. member_names before ++ ns) (sym e) ∙ sym (members_named before m) in
     let counted = length-append (member_names before) names in
     let count : length (member_names before ++ names) ≡ length (member_names (before ++ m ∷ [])) = ap length same in
     same_names (names_of_members before) (member_names before ++ names) (member_names (before ++ m ∷ []))
-        (32 - length (member_names before) - length names) (32 - length (member_names (before ++ m ∷ []))) same
-        (omega arith)
+    (32 - length (member_names before) - length names) (32 - length (member_names (before ++ m ∷ []))) same
+    (omega arith)
 
 pub names_after_method : (before : List written.Member) (f : written.Function)
     → with_one (names_of_members before) f.name ≡ names_of_members (before ++ written.AMethod f ∷ [])
@@ -138,18 +138,18 @@ pub names_after_fields : (before : List written.Member) (v : written.Vars)
 names_after_fields before v =
     let count = length-map v.decls decl_name in
     decls_are (names_of_members before) v.decls
-        ∙ same_names (names_of_members before) (member_names before ++ names_of v) (member_names before ++ names_of v)
-        (32 - length (member_names before) - length v.decls) (32 - length (member_names before) - length (names_of v))
-        refl (omega arith) ∙ names_after_member before (written.AField v) (names_of v) (append-nil (names_of v))
+    ∙ same_names (names_of_members before) (member_names before ++ names_of v) (member_names before ++ names_of v)
+    (32 - length (member_names before) - length v.decls) (32 - length (member_names before) - length (names_of v))
+    refl (omega arith) ∙ names_after_member before (written.AField v) (names_of v) (append-nil (names_of v))
 
 pub names_after_constructor : (before : List written.Member) (c : written.Constructor)
     → names_of_members before ≡ names_of_members (before ++ written.AConstructor c ∷ [])
 names_after_constructor before c =
     let same : member_names before ≡ member_names (before ++ written.AConstructor c ∷ []) =
-        sym (members_named before (written.AConstructor c) ∙ append-nil (member_names before)) in
+    sym (members_named before (written.AConstructor c) ∙ append-nil (member_names before)) in
     same_names (names_of_members before) (member_names before) (member_names (before ++ written.AConstructor c ∷ []))
-        (32 - length (member_names before)) (32 - length (member_names (before ++ written.AConstructor c ∷ []))) same
-        (ap (λ ns. 32 - length ns) same)
+    (32 - length (member_names before)) (32 - length (member_names (before ++ written.AConstructor c ∷ []))) same
+    (ap (λ ns. 32 - length ns) same)
 
 -- methods of an interface, and interfaces that a class lists
 
@@ -162,8 +162,8 @@ pub names_after_signature : (before : List written.InterfaceMethod) (m : written
 names_after_signature before m =
     let counted = length-append before (m ∷ []) in
     same_names (names_of_methods before) (map signature_name before ++ m.name ∷ [])
-        (map signature_name (before ++ m ∷ [])) (32 - length before - 1) (32 - length (before ++ m ∷ []))
-        (mapped signature_name before m) (omega arith)
+    (map signature_name (before ++ m ∷ [])) (32 - length before - 1) (32 - length (before ++ m ∷ []))
+    (mapped signature_name before m) (omega arith)
 
 pub names_after_listed : (before : List written.TypeName) (n : written.TypeName)
     → with_name (names_listed before) n.name ≡ names_listed (before ++ n ∷ [])

@@ -102,7 +102,7 @@ met_in script op a b h k w =
     let x = adapted s b.form b.ty a in
     let y = adapted s a.form a.ty b in
     met_as_in script s x y (meets s (assumed s y.ty x.ty) (assumed s x.ty y.ty))
-        (adapted_in script.tokens s b.form b.ty a h) (adapted_in script.tokens s a.form a.ty b k) w
+    (adapted_in script.tokens s b.form b.ty a h) (adapted_in script.tokens s a.form a.ty b k) w
 
 pub operate_in : (script : Script) (op : BinaryOp) (a b : Typed) → HasStart script.tokens a.at
     → HasStart script.tokens b.at

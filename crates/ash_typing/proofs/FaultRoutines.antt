@@ -179,9 +179,9 @@ unfolding signature_typed
 signature_in script env before ss m ms h n r =
     let x = phrases.Methods env before (m ∷ ms) in
     bind (result_in script env x m.result h.0 (sees r) r refl) (λ of u.
-        bind_to _ (placed_in script ss.names m.place.at m.name x h.1 r (rw n refl) (rw n refl))
-        (bind (parameters_in script env [] m.parameters h.2 (phrases.method_parameters r)) (λ parameters w.
-        fine (ap (λ names. with_one names m.name) n ∙ names_after_signature before m))))
+    bind_to _ (placed_in script ss.names m.place.at m.name x h.1 r (rw n refl) (rw n refl))
+    (bind (parameters_in script env [] m.parameters h.2 (phrases.method_parameters r)) (λ parameters w.
+    fine (ap (λ names. with_one names m.name) n ∙ names_after_signature before m))))
 
 signatures_in : (script : Script) (env : Environment) (before : List written.InterfaceMethod) (ss : Signatures)
     (ms : List written.InterfaceMethod) → AllByRecursion (InterfaceMethodIn script.tokens) ms

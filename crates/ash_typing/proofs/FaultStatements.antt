@@ -232,12 +232,12 @@ mutual
   stmt_in script scope (written.For p f c es s) h r =
       let inside = behind (block_of scope) f in
       for_in script p.line (argument_count (written.exprs es)) (head_typed (block_of scope) f)
-          (maybe_typed inside.env c) (all_typed inside.env (written.exprs es)) (stmt_typed (loop_of inside) s)
-          (head_in script (block_of scope) f h.1 h.2 (phrases.for_head r))
-          (maybe_in script inside.env c h.3 (for_condition script scope p f s c es r))
-          (all_in script inside.env (written.exprs es) h.4 (phrases.for_steps r))
-          (stmt_in script (loop_of inside) s h.5 (phrases.for_body r)) (λ t a b.
-          for_unconditional script scope p f s c es t r (typed_by inside.env c t a) b)
+      (maybe_typed inside.env c) (all_typed inside.env (written.exprs es)) (stmt_typed (loop_of inside) s)
+      (head_in script (block_of scope) f h.1 h.2 (phrases.for_head r))
+      (maybe_in script inside.env c h.3 (for_condition script scope p f s c es r))
+      (all_in script inside.env (written.exprs es) h.4 (phrases.for_steps r))
+      (stmt_in script (loop_of inside) s h.5 (phrases.for_body r)) (λ t a b.
+      for_unconditional script scope p f s c es t r (typed_by inside.env c t a) b)
   stmt_in script scope (written.Switch p e cs) h r =
       bind_by (typed_in script scope.env false e h.1 (phrases.switch_value r)) (λ v q k.
       bind (cases_in script (switch_of scope) (kind_in v.ty) [] cs h.2 (phrases.cases r q)) (λ rows u.

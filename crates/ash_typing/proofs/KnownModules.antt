@@ -134,10 +134,15 @@ members_known env (written.AConstructor c ∷ xs) ms after h =
     let n = bind_ok (constructor_named ms.class c) _ m.0 m.1 in
     let t = bind_ok (routine_typed env ty.Void n.0) _ m.0 n.2 in
     let g = named_sound ms.class c n.0 n.1 in
-    let go = members_known env xs m.0 after m.2 in
-    (go.0, go.1,
-        (routine_known env ty.Void (constructing c) t.0
-        (subst (λ (r : Routine). routine_typed env ty.Void r ≡ Ok t.0) g.2 t.1), go.2))
+    let go = members_known env xs m.0 after m.2 in (
+      go.0,
+      go.1,
+      (
+        routine_known env ty.Void (constructing c) t.0
+            (subst (λ (r : Routine). routine_typed env ty.Void r ≡ Ok t.0) g.2 t.1),
+        go.2,
+      ),
+    )
 
 class_known : (env : Environment) (place : ℕ) (c : written.Class) (t : modules.Class) → class_typed env place c ≡ Ok t
     → KnownClass (ty_in env) c
@@ -218,10 +223,11 @@ rule_constructors env class (c ∷ (d ∷ cs)) t h = absurd h
 
 rule_class : (env : Environment) (place : ℕ) (c : written.Class) (t : modules.Class) → IsClass env place c t
     → KnownClass (ty_in env) c
-rule_class env place c t is =
-    (rule_fields (inside env place) (fields_of c.members) t.fields is.fields,
-    rule_functions (inside env place) (methods_of c.members) t.methods is.methods,
-    rule_constructors (inside env place) c.name (constructors_of c.members) t.constructor is.constructor)
+rule_class env place c t is = (
+  rule_fields (inside env place) (fields_of c.members) t.fields is.fields,
+  rule_functions (inside env place) (methods_of c.members) t.methods is.methods,
+  rule_constructors (inside env place) c.name (constructors_of c.members) t.constructor is.constructor,
+)
 
 rule_classes : (env : Environment) (place : ℕ) (cs : List written.Class) (ts : List modules.Class)
     → AreClasses env place cs ts → AllByRecursion (KnownClass (ty_in env)) cs
@@ -240,10 +246,12 @@ pub rules_known : (env : Environment) (is : List written.Item) (m : modules.Modu
     → AreInterfaces env (interfaces_of is) (classes_before 0 is) m.interfaces
     → AreClasses env 0 (classes_of is) m.classes → AllZip (IsFunction env) (functions_of is) m.functions
     → AllZip (AreVariables env) (globals_of is) m.globals → KnownItems (ty_in env) is
-rules_known env is m ts cs fs vs =
-    (rule_interfaces env (interfaces_of is) (classes_before 0 is) m.interfaces ts,
-    rule_classes env 0 (classes_of is) m.classes cs, rule_functions env (functions_of is) m.functions fs,
-    rule_vars env (globals_of is) m.globals vs)
+rules_known env is m ts cs fs vs = (
+  rule_interfaces env (interfaces_of is) (classes_before 0 is) m.interfaces ts,
+  rule_classes env 0 (classes_of is) m.classes cs,
+  rule_functions env (functions_of is) m.functions fs,
+  rule_vars env (globals_of is) m.globals vs,
+)
 
 -- what the items of a module see
 
@@ -267,11 +275,13 @@ signatures_seen : (calls : List host.Call) (named : Heads) (ms : List written.In
     → AllByRecursion (KnownSignature (ty_named calls named)) ms
     → AllByRecursion IsKnownFunction (map (signature_head calls named) ms)
 signatures_seen calls named [] h = tt
-signatures_seen calls named (m ∷ ms) h =
-    (record {
-      result = result_known calls named m.result h.0.0;
-      parameters = types_known calls named m.parameters h.0.1;
-    }, signatures_seen calls named ms h.1)
+signatures_seen calls named (m ∷ ms) h = (
+  record {
+    result = result_known calls named m.result h.0.0;
+    parameters = types_known calls named m.parameters h.0.1;
+  },
+  signatures_seen calls named ms h.1,
+)
 
 interfaces_seen : (calls : List host.Call) (named : Heads) (is : List written.Interface)
     → AllByRecursion (KnownInterface (ty_named calls named)) is
@@ -304,12 +314,14 @@ classes_known : (calls : List host.Call) (named : Heads) (cs : List written.Clas
     → AllByRecursion (KnownClass (ty_named calls named)) cs
     → AllByRecursion IsKnownClass (map (class_head calls named) cs)
 classes_known calls named [] h = tt
-classes_known calls named (c ∷ cs) h =
-    (record {
-      fields = variables_known calls named (fields_of c.members) h.0.0;
-      methods = functions_known calls named (methods_of c.members) h.0.1;
-      parameters = construction_known calls named (constructors_of c.members) h.0.2;
-    }, classes_known calls named cs h.1)
+classes_known calls named (c ∷ cs) h = (
+  record {
+    fields = variables_known calls named (fields_of c.members) h.0.0;
+    methods = functions_known calls named (methods_of c.members) h.0.1;
+    parameters = construction_known calls named (constructors_of c.members) h.0.2;
+  },
+  classes_known calls named cs h.1,
+)
 
 -- types are looked up by the names of classes and interfaces alone
 
@@ -349,8 +361,10 @@ pub same_object : (calls : List host.Call) (is : List written.Item) (name : List
     → object_named calls (heads calls is) name ≡ object_named calls (names_in is) name
 unfolding object_named heads
 same_object calls is name =
-    rw (same_class calls (names_in is) name 0 (classes_of is),
-    same_interface calls (names_in is) name 0 (interfaces_of is)) refl
+    rw (
+      same_class calls (names_in is) name 0 (classes_of is),
+      same_interface calls (names_in is) name 0 (interfaces_of is),
+    ) refl
 
 same_element : (calls : List host.Call) (is : List written.Item) (of : written.Element)
     → element_named calls (heads calls is) of ≡ element_named calls (names_in is) of

@@ -81,7 +81,7 @@ same_signature f g h k name types =
     let parts = and_parts (is_same f.result g.result) (are_same f.parameters g.parameters) types in
     let names = (bytes_eq-Decides f.name g.name).0 name in
     let results =
-        equal_types f.result g.result (result_is_known f.result h.result) (result_is_known g.result k.result) parts.0 in
+    equal_types f.result g.result (result_is_known f.result h.result) (result_is_known g.result k.result) parts.0 in
     let parameters = equal_lists f.parameters g.parameters h.parameters k.parameters parts.1 in
     λ i. record {
       name = sym names i;
@@ -104,7 +104,7 @@ method_found methods f place known is h =
     go (Some (at_place, g)) at called k e =
         let c = cond_some (has_types_of f g) at_place place e in
         subst (λ p. slice_get (map signature_of methods) p ≡ Some (signature_of f)) c.1
-            (mapped signature_of methods at_place g at ∙ ap (λ s. Some s) (same_signature f g is k called c.0))
+        (mapped signature_of methods at_place g at ∙ ap (λ s. Some s) (same_signature f g is k called c.0))
 
 abbrev IsAt : List modules.Signature → modules.Signature → ℕ → Type 0
 IsAt declared s place = slice_get declared place ≡ Some s
@@ -123,7 +123,7 @@ methods_found methods [] places known is h =
 methods_found methods (f ∷ fs) places known is h =
     let found = both_found (method_for methods f) (methods_for methods fs) places h in
     subst (AllZip (IsAt (map signature_of methods)) (signature_of f ∷ map signature_of fs)) found.4
-        (method_found methods f found.0 known is.0 found.2, methods_found methods fs found.1 known is.1 found.3)
+    (method_found methods f found.0 known is.0 found.2, methods_found methods fs found.1 known is.1 found.3)
 
 -- what is at a place, before each is changed
 pub unmapped : {A B : Type 0} (f : A → B) (xs : List A) (k : ℕ) (y : B) → slice_get (map f xs) k ≡ Some y
@@ -158,22 +158,23 @@ implementation_by : (env : Environment) (place : ℕ) (i : modules.Implementatio
 unfolding implemented
 implementation_by env place i t declaring c known at_interface at_class same h =
     let of_interface =
-        at_some IsKnownInterface (slice_get env.heads.interfaces i.interface) declaring
-        (if_get IsKnownInterface env.heads.interfaces i.interface known.interfaces) at_interface in
+    at_some IsKnownInterface (slice_get env.heads.interfaces i.interface) declaring
+    (if_get IsKnownInterface env.heads.interfaces i.interface known.interfaces) at_interface in
     let of_class =
-        at_some IsKnownClass (slice_get env.heads.classes place) c
-        (if_get IsKnownClass env.heads.classes place known.classes) at_class in
+    at_some IsKnownClass (slice_get env.heads.classes place) c
+    (if_get IsKnownClass env.heads.classes place known.classes) at_class in
     let found : methods_for c.methods declaring.methods ≡ Some i.methods =
-        subst₂ (λ (one : Option Class) (other : Option Interface).
-        methods_for (option_map_or methods_of_class one []) (option_map_or methods_of_interface other [])
-        ≡ Some i.methods) at_class at_interface h in
+    subst₂ (λ (one : Option Class) (other : Option Interface).
+    methods_for (option_map_or methods_of_class one []) (option_map_or methods_of_interface other [])
+    ≡ Some i.methods) at_class at_interface h in
     let are = methods_found c.methods declaring.methods i.methods of_class.methods of_interface.methods found in
     let methods : map signature_of c.methods ≡ map signatures.signature_of t.methods =
-        ap (λ (s : signatures.ClassSignature). s.methods) same in
-    (signatures_of_interface declaring,
-        mapped signatures_of_interface env.heads.interfaces i.interface declaring at_interface,
-        implement t.methods (map signature_of declaring.methods) i.methods
-        (subst (λ all. AllZip (IsAt all) (map signature_of declaring.methods) i.methods) methods are))
+    ap (λ (s : signatures.ClassSignature). s.methods) same in (
+      signatures_of_interface declaring,
+      mapped signatures_of_interface env.heads.interfaces i.interface declaring at_interface,
+      implement t.methods (map signature_of declaring.methods) i.methods
+          (subst (λ all. AllZip (IsAt all) (map signature_of declaring.methods) i.methods) methods are),
+    )
 
 interface_within : (s : signatures.Signatures) (interface : ℕ) → signatures.IsObjectType s (objects.Interface interface)
     → interface < length s.interfaces
@@ -185,9 +186,9 @@ implementation_sound : (env : Environment) (place : ℕ) (n : written.TypeName) 
     → sound.IsImplementation (seen_in env).signatures t.methods i
 implementation_sound env place n i t known at is =
     let within =
-        interface_within (seen_in env).signatures i.interface
-        (at_some (signatures.IsObjectType (seen_in env).signatures) (object_named env.registered env.heads n.name)
-        (objects.Interface i.interface) (object_sound env.registered env.heads n.name) is.interface) in
+    interface_within (seen_in env).signatures i.interface
+    (at_some (signatures.IsObjectType (seen_in env).signatures) (object_named env.registered env.heads n.name)
+    (objects.Interface i.interface) (object_sound env.registered env.heads n.name) is.interface) in
     let declaring = within_map signatures_of_interface env.heads.interfaces i.interface within in
     let class = unmapped signature_of_class env.heads.classes place (signatures.signature_of_class t) at in
     implementation_by env place i t declaring.0 class.0 known declaring.1 class.1 class.2 is.methods
@@ -274,13 +275,14 @@ classes_sound env place (c ∷ cs) (t ∷ ts) known at nest h =
       locals = tt;
     } in
     let first = subst
-        (λ k. slice_get (seen_in env).signatures.classes k ≡ Some (signatures.signature_of_class t)) here
-        (at zero t refl) in
-    (class_sound env place c t known inner first nest.0 h.0,
-        classes_sound env (place + 1) cs ts known
-        (λ k u e. let next : place + suc k ≡ place + 1 + k = omega arith in
-        subst (λ n. slice_get (seen_in env).signatures.classes n ≡ Some (signatures.signature_of_class u)) next
-        (at (suc k) u e)) nest.1 h.1)
+    (λ k. slice_get (seen_in env).signatures.classes k ≡ Some (signatures.signature_of_class t)) here
+    (at zero t refl) in (
+      class_sound env place c t known inner first nest.0 h.0,
+      classes_sound env (place + 1) cs ts known
+          (λ k u e. let next : place + suc k ≡ place + 1 + k = omega arith in
+          subst (λ n. slice_get (seen_in env).signatures.classes n ≡ Some (signatures.signature_of_class u)) next
+          (at (suc k) u e)) nest.1 h.1,
+    )
 
 pub classes_length : (env : Environment) (place : ℕ) (cs : List written.Class) (ts : List modules.Class)
     → AreClasses env place cs ts → length ts ≡ length cs

@@ -246,10 +246,13 @@ member_place : (env : Environment) (t : Term) (o : ObjectType) (text : List ℕ)
     → IsSound env (read_term found.1 (Read (Held t.tree found.0)))
 member_place env t o text found known h i =
     read_sound env (Read (Held t.tree found.0)) found.1
-    (at_some (λ found. IsVariableType found.1) (member_in env o text) found (member_known env o text known) i)
-    (_, refl, sound.member h
-    (at_some (λ found. operations.IsMember (seen_in env).signatures o found.0 (var_type found.1)) (member_in env o text)
-    found (member_sound env o text) i))
+    (at_some (λ found. IsVariableType found.1) (member_in env o text) found (member_known env o text known) i) (
+      _,
+      refl,
+      sound.member h
+          (at_some (λ found. operations.IsMember (seen_in env).signatures o found.0 (var_type found.1)) (member_in env o text)
+          found (member_sound env o text) i),
+    )
 
 invoked_sound : (env : Environment) (t : Term) (o : ObjectType) (text : List ℕ) (m : Invoked) (trees : Exprs)
     → IsKnown env → sound.IsWellTyped (seen_in env) t.tree (value (vars.Handle o)) → method_in env o text ≡ Some m
@@ -266,10 +269,13 @@ element_place : (env : Environment) (t u : Term) (of : Element) (k : Kind) → o
     → IsSound env (read_term (ty_of_element of) (Read (Indexed t.tree (converted_to (ty.Integer kinds.Uint) u) of)))
 element_place env t u of k e h i g =
     read_sound env (Read (Indexed t.tree (converted_to (ty.Integer kinds.Uint) u) of)) (ty_of_element of)
-    (element_known of)
-    (_, refl, subst (sound.HasPlace (seen_in env) (Indexed t.tree (converted_to (ty.Integer kinds.Uint) u) of))
-    (sym (element_type of))
-    (sound.element (handle_sound env t (objects.Array of) e h) (converted_sound env u k kinds.Uint i g)))
+    (element_known of) (
+      _,
+      refl,
+      subst (sound.HasPlace (seen_in env) (Indexed t.tree (converted_to (ty.Integer kinds.Uint) u) of))
+          (sym (element_type of))
+          (sound.element (handle_sound env t (objects.Array of) e h) (converted_sound env u k kinds.Uint i g)),
+    )
 
 -- expressions
 
@@ -285,9 +291,9 @@ mutual
   term_sound {env} (call {text = text} {callee = callee} {parameters = parameters} {trees = trees} c q all args) known =
       let takes = callee_takes env text callee parameters known c q in
       plain env callee.result (call_of callee.target (map var_type parameters) trees)
-          (call_sound env callee parameters trees
-          (at_some (λ callee. IsResultType callee.result) (callee_in env text) callee (callee_known env text known) c)
-          takes (arguments_sound env args takes.1 (terms_sound all known)))
+      (call_sound env callee parameters trees
+      (at_some (λ callee. IsResultType callee.result) (callee_in env text) callee (callee_known env text known) c)
+      takes (arguments_sound env args takes.1 (terms_sound all known)))
   term_sound {env} (brackets {t = t} h) known = let s = term_sound h known in
       record { gives = s.gives; place = bracketed_place env t.form t.tree t.ty s.place }
   term_sound {env} (to_integer {t = t} {j = j} {k = k} h i l) known =
@@ -296,11 +302,11 @@ mutual
       plain env ty.Bool t.tree (of_type env t.tree t.ty ty.Bool l (term_sound h known).gives)
   term_sound {env} (new_array {of = of} {elements = elements} {ts = ts} {trees = trees} e all args) known =
       let takes = array_takes env elements (length ts)
-          (at_some (IsElement (seen_in env).signatures) (element_named env.registered env.heads of) elements
-          (element_sound env.registered env.heads of) e) in
+      (at_some (IsElement (seen_in env).signatures) (element_named env.registered env.heads of) elements
+      (element_sound env.registered env.heads of) e) in
       plain env (ty.Handle (objects.Array elements))
-          (Call (targets.Array elements) (map var_type (array_parameters (length ts))) trees)
-          (sound.call takes.0 (arguments_sound env args takes.1 (terms_sound all known)))
+      (Call (targets.Array elements) (map var_type (array_parameters (length ts))) trees)
+      (sound.call takes.0 (arguments_sound env args takes.1 (terms_sound all known)))
   term_sound {env} (cast {to = to} {t = t} {o = o} {from = from} n c h i) known =
       plain env (ty.Handle o) (Cast o t.tree)
       (sound.cast (cast_is env o c
@@ -337,20 +343,20 @@ mutual
   term_sound {env} (assign {t = t} {u = u} {at = at} h i s k l) known =
       let is = stored_type t.form t.ty (known_type h known) s in
       plain env t.ty (Assign at (converted_to t.ty u))
-          (subst (sound.IsWellTyped (seen_in env) (Assign at (converted_to t.ty u))) (variable_value t.ty is.0)
-          (sound.assign (assigned_place env t.form t.tree t.ty at (term_sound h known).place i) is.1
-          (fits_sound env t.ty u (known_type h known) (known_type k known) (term_sound k known).gives l)))
+      (subst (sound.IsWellTyped (seen_in env) (Assign at (converted_to t.ty u))) (variable_value t.ty is.0)
+      (sound.assign (assigned_place env t.form t.tree t.ty at (term_sound h known).place i) is.1
+      (fits_sound env t.ty u (known_type h known) (known_type k known) (term_sound k known).gives l)))
   term_sound {env} (update {c = c} {t = t} {u = u} {at = at} {j = j} {k = k} f h i s l m n) known =
       let right = adapted_to (sort_of (binary_of c)) (term t.ty Null) u in
       let made = updated_sound env c (adapted_to (sort_of (binary_of c)) u (term t.ty Null)).ty right j k at
-          (integer_place env t at k (term_sound h known) i l)
-          (adapted_sound env (sort_of (binary_of c)) (term t.ty Null) u (term_sound m known).gives) n in
+      (integer_place env t at k (term_sound h known) i l)
+      (adapted_sound env (sort_of (binary_of c)) (term t.ty Null) u (term_sound m known).gives) n in
       plain env t.ty
-          (Update at k (record { operator = c; of = j })
-          (right_of (binary_of c) (operands.Integers j) (term t.ty Null) u))
-          (subst (GivesType env
-          (Update at k (record { operator = c; of = j })
-          (right_of (binary_of c) (operands.Integers j) (term t.ty Null) u))) (sym l) made)
+      (Update at k (record { operator = c; of = j })
+      (right_of (binary_of c) (operands.Integers j) (term t.ty Null) u))
+      (subst (GivesType env
+      (Update at k (record { operator = c; of = j })
+      (right_of (binary_of c) (operands.Integers j) (term t.ty Null) u))) (sym l) made)
 
   pub terms_sound : {env : Environment} {es : written.Exprs} {ts : List Term} → AllHaveType env es ts → IsKnown env
       → AllByRecursion (IsArgument env) ts
@@ -365,9 +371,9 @@ mutual
       let left = adapted_to s u t in
       let right = adapted_to s t u in
       links_sound rest known (outcome_known s o)
-          (plain env (outcome s o) (applied op o (left_of op o t u) (right_of op o t u))
-          (operated_sound env op o left right (adapted_known s u t k) (adapted_known s t u (known_type e known))
-          (adapted_sound env s u t h.gives) (adapted_sound env s t u (term_sound e known).gives) m))
+      (plain env (outcome s o) (applied op o (left_of op o t u) (right_of op o t u))
+      (operated_sound env op o left right (adapted_known s u t k) (adapted_known s t u (known_type e known))
+      (adapted_sound env s u t h.gives) (adapted_sound env s t u (term_sound e known).gives) m))
 
   suffixes_sound : {env : Environment} {t : Term} {ss : written.Suffixes} {u : Term} → SuffixesHaveType env t ss u
       → IsKnown env → IsSound env t → IsSound env u
@@ -381,8 +387,8 @@ mutual
   suffix_sound {env} (method {text = text} {t = t} {o = o} {m = m} {trees = trees} e i all args) known h =
       let is = at_some (IsSoundMethod env o) (method_in env o text) m (method_sound env o text known) i in
       plain env m.result (Invoke t.tree m.method (map var_type m.parameters) trees)
-          (invoked_sound env t o text m trees known (handle_sound env t o e h.gives) i
-          (arguments_sound env args is.1 (terms_sound all known)))
+      (invoked_sound env t o text m trees known (handle_sound env t o e h.gives) i
+      (arguments_sound env args is.1 (terms_sound all known)))
   suffix_sound {env} (index {t = t} {u = u} {elements = of} {k = k} e d i) known h =
       element_place env t u of k e h.gives i (term_sound d known).gives
   suffix_sound {env} (increment_after {t = t} {at = at} {k = k} e i) known h =

@@ -102,9 +102,11 @@ found_with {A} {B} {K} test h (x ∷ xs) = go (test x) refl (found_with test h x
         (λ (z : A). (test z ≡ true) × ((key : K) (y : B) → h key z ≡ Some y → Contains (filter_map (h key) xs) y))
         → IfSome (cond b (Some x) (find test xs)) (λ (z : A). (test z ≡ true)
         × ((key : K) (y : B) → h key z ≡ Some y → Contains (filter_map (h key) (x ∷ xs)) y))
-    go true e rest =
-        (e, λ key y k.
-        subst (λ o. Contains (cons_option o (filter_map (h key) xs)) y) (sym k) (here y (filter_map (h key) xs)))
+    go true e rest = (
+      e,
+      λ key y k.
+          subst (λ o. Contains (cons_option o (filter_map (h key) xs)) y) (sym k) (here y (filter_map (h key) xs)),
+    )
     go false e rest =
         if_weaker (find test xs) (λ z k. (k.0, λ key y l. there (h key x) (filter_map (h key) xs) y (k.1 key y l))) rest
 
@@ -192,31 +194,31 @@ variable_sound env text =
     let Q : Known → Type 0 = λ known. IsPlaceOf env known.0 known.1 in
     let At : ℕ × Ty → Type 0 = λ found. slice_get (map type_declared env.locals) found.0 ≡ Some (var_type found.1) in
     let locals : IfSome (last_named text 0 None env.locals) At =
-        last_place At text 0 None env.locals tt (λ k v e. let same : k ≡ 0 + k = omega arith in
-        subst (λ n. slice_get (map type_declared env.locals) n ≡ Some (var_type v.of)) same
-        (mapped type_declared env.locals k v e)) in
+    last_place At text 0 None env.locals tt (λ k v e. let same : k ≡ 0 + k = omega arith in
+    subst (λ n. slice_get (map type_declared env.locals) n ≡ Some (var_type v.of)) same
+    (mapped type_declared env.locals k v e)) in
     let local = if_map Q
-        (λ (found : ℕ × Ty). (Read (Stored (variables.Local found.0 (var_type found.1))), found.1))
-        (last_named text 0 None env.locals)
-        (if_weaker (last_named text 0 None env.locals) (λ found h. (_, refl, sound.local h)) locals) in
+    (λ (found : ℕ × Ty). (Read (Stored (variables.Local found.0 (var_type found.1))), found.1))
+    (last_named text 0 None env.locals)
+    (if_weaker (last_named text 0 None env.locals) (λ found h. (_, refl, sound.local h)) locals) in
     let own = if_then (λ (c : ℕ × Class). (env.this ≡ Some c.0) × (slice_get env.heads.classes c.0 ≡ Some c.1)) Q
-        (λ (c : ℕ × Class).
-        option_map (λ (found : Member × Ty). (Read (Held (This c.0) found.0), found.1)) (field_in c.0 c.1 text))
-        (this_class env)
-        (λ c h. if_map Q
-        (λ (found : Member × Ty). (Read (Held (This c.0) found.0), found.1)) (field_in c.0 c.1 text)
-        (if_weaker (field_in c.0 c.1 text)
-        (λ found k. (_, refl, sound.member (sound.this h.0) k)) (field_sound env c.0 c.1 text h.1)))
-        (this_is env.heads.classes env.this) in
+    (λ (c : ℕ × Class).
+    option_map (λ (found : Member × Ty). (Read (Held (This c.0) found.0), found.1)) (field_in c.0 c.1 text))
+    (this_class env)
+    (λ c h. if_map Q
+    (λ (found : Member × Ty). (Read (Held (This c.0) found.0), found.1)) (field_in c.0 c.1 text)
+    (if_weaker (field_in c.0 c.1 text)
+    (λ found k. (_, refl, sound.member (sound.this h.0) k)) (field_sound env c.0 c.1 text h.1)))
+    (this_is env.heads.classes env.this) in
     let global =
-        if_map Q (λ (found : ℕ × Declared).
-        (Read (Stored (variables.Global found.0 (var_type found.1.of))), found.1.of))
-        (first_from (declares text) 0 env.heads.globals)
-        (if_weaker (first_from (declares text) 0 env.heads.globals)
-        (λ found h. (_, refl, sound.global (mapped type_declared env.heads.globals found.0 found.1 h)))
-        (first_place (declares text) env.heads.globals)) in
+    if_map Q (λ (found : ℕ × Declared).
+    (Read (Stored (variables.Global found.0 (var_type found.1.of))), found.1.of))
+    (first_from (declares text) 0 env.heads.globals)
+    (if_weaker (first_from (declares text) 0 env.heads.globals)
+    (λ found h. (_, refl, sound.global (mapped type_declared env.heads.globals found.0 found.1 h)))
+    (first_place (declares text) env.heads.globals)) in
     if_or Q (local_in env.locals text) (option_or (own_field_in env text) (global_in env.heads.globals text)) local
-        (if_or Q (own_field_in env text) (global_in env.heads.globals text) own global)
+    (if_or Q (own_field_in env text) (global_in env.heads.globals text) own global)
 
 property_found : (env : Environment) (kind : ℕ) (text : List ℕ) (call : host.Call)
     → host.takes_member (name_of_kind env.registered kind) text call ≡ true
@@ -226,9 +228,9 @@ property_found : (env : Environment) (kind : ℕ) (text : List ℕ) (call : host
 property_found env kind text (host.AProperty other id of name) e among =
     let of_type = both (bytes_eq (name_of_kind env.registered kind) other) (bytes_eq text name) e in
     let at : property_at (name_of_kind env.registered kind) id (host.AProperty other id of name) ≡ Some of =
-        rw (of_type.0, same_number id) refl in
+    rw (of_type.0, same_number id) refl in
     subst (λ type. operations.IsMember (seen_in env).signatures (OfHost kind) (Property id type) type)
-        (sym (primitive_type of)) (operations.property (among id of at))
+    (sym (primitive_type of)) (operations.property (among id of at))
 property_found env kind text _ e among = tt
 
 pub member_sound : (env : Environment) (o : ObjectType) (text : List ℕ)
@@ -244,11 +246,11 @@ member_sound env (OfInterface i) text = tt
 member_sound env (OfHost kind) text =
     let name = name_of_kind env.registered kind in
     if_then (λ (call : host.Call). (host.takes_member name text call ≡ true)
-        × ((id : ℕ) (of : Primitive) → property_at name id call ≡ Some of
-        → Contains (filter_map (property_at name id) env.registered) of)) (IsSoundMember env (OfHost kind)) property
-        (find (host.takes_member name text) env.registered)
-        (λ call h. property_found env kind text call h.0 h.1)
-        (found_with (host.takes_member name text) (property_at name) env.registered)
+    × ((id : ℕ) (of : Primitive) → property_at name id call ≡ Some of
+    → Contains (filter_map (property_at name id) env.registered) of)) (IsSoundMember env (OfHost kind)) property
+    (find (host.takes_member name text) env.registered)
+    (λ call h. property_found env kind text call h.0 h.1)
+    (found_with (host.takes_member name text) (property_at name) env.registered)
 member_sound env (OfArray of) text = tt
 
 -- methods
@@ -285,8 +287,10 @@ array_method_is s of arrays.IsEmpty = operations.of_array
 
 pub array_method_sound : (env : Environment) (of : Element) (m : ArrayMethod)
     → IsSoundMethod env (OfArray of) (array_method_of of m)
-array_method_sound env of m =
-    (subst (λ parameters.
-    operations.IsMethod (seen_in env).signatures (OfArray of) (array_method_of of m).method parameters
-    (result_type (array_method_of of m).result)) (sym (array_parameters of m))
-    (array_method_is (seen_in env).signatures of m), array_known of m)
+array_method_sound env of m = (
+  subst (λ parameters.
+      operations.IsMethod (seen_in env).signatures (OfArray of) (array_method_of of m).method parameters
+      (result_type (array_method_of of m).result)) (sym (array_parameters of m))
+      (array_method_is (seen_in env).signatures of m),
+  array_known of m,
+)

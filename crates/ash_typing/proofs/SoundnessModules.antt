@@ -35,10 +35,10 @@ globals_length env [] (t ∷ ts) h = absurd h
 globals_length env (v ∷ vs) [] h = absurd h
 globals_length env (v ∷ vs) (t ∷ ts) h =
     length-append (map signatures.type_declared t.values) (signatures.types_of_globals ts)
-        ∙ ap₂ (λ a b. a + b)
-        (length-mapped signatures.type_declared t.values
-        ∙ zip_length (IsDeclared env (ty_in env v.of)) v.decls t.values h.0.values) (globals_length env vs ts h.1)
-        ∙ sym (count_names v (variable_names vs))
+    ∙ ap₂ (λ a b. a + b)
+    (length-mapped signatures.type_declared t.values
+    ∙ zip_length (IsDeclared env (ty_in env v.of)) v.decls t.values h.0.values) (globals_length env vs ts h.1)
+    ∙ sym (count_names v (variable_names vs))
 
 pub module_sound : (calls : List host.Call) (is : List written.Item) (m : modules.Module) → ItemsDeclareInBlocks is
     → IsTyped calls is m → sound.IsSound (offered calls) m
@@ -46,7 +46,7 @@ module_sound calls is m nest typed =
     let env = environment calls is in
     let known = typed_known calls is m typed in
     let same : signatures_in calls (heads calls is) ≡ signatures.signatures_of (offered calls) m =
-        sym (same_signatures calls is m typed) in
+    sym (same_signatures calls is m typed) in
     let count = classes_length env 0 (classes_of is) m.classes typed.classes in
     let interfaces = interfaces_length env (interfaces_of is) (classes_before 0 is) m.interfaces typed.interfaces in
     let few = typed.few_types in
@@ -79,6 +79,6 @@ module_sound calls is m nest typed =
     at m same k t h =
         let here : k ≡ 0 + k = omega arith in
         subst (λ n. slice_get (signatures_in calls (heads calls is)).classes n ≡ Some (signatures.signature_of_class t))
-            here
+        here
         (subst (λ (s : signatures.Signatures). slice_get s.classes k ≡ Some (signatures.signature_of_class t))
-            (sym same) (mapped signatures.signature_of_class m.classes k t h))
+        (sym same) (mapped signatures.signature_of_class m.classes k t h))

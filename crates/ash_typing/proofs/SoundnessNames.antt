@@ -65,12 +65,13 @@ host_method_found : (env : Environment) (kind : ℕ) (text : List ℕ) (call : h
 host_method_found env kind text (host.AMethod other id operation) e among =
     let of_type = both (bytes_eq (name_of_kind env.registered kind) other) (bytes_eq text operation.name) e in
     let at : method_at (name_of_kind env.registered kind) id (host.AMethod other id operation)
-        ≡ Some (host_signature operation) = rw (of_type.0, same_number id) refl in
-    let is = among id (host_signature operation) at in
-    (subst₂ (λ parameters result.
-        operations.IsMethod (seen_in env).signatures (OfHost kind) (methods.Host id result) parameters result)
-        (sym (primitive_types operation.parameters)) (sym (primitive_result operation.result)) (operations.of_host is),
-        primitives_known operation.parameters)
+    ≡ Some (host_signature operation) = rw (of_type.0, same_number id) refl in
+    let is = among id (host_signature operation) at in (
+      subst₂ (λ parameters result.
+          operations.IsMethod (seen_in env).signatures (OfHost kind) (methods.Host id result) parameters result)
+          (sym (primitive_types operation.parameters)) (sym (primitive_result operation.result)) (operations.of_host is),
+      primitives_known operation.parameters,
+    )
 host_method_found env kind text _ e among = tt
 
 pub method_sound : (env : Environment) (o : ObjectType) (text : List ℕ) → IsKnown env
@@ -90,8 +91,11 @@ method_sound env (OfClass i) text known =
           result = found.1.result;
           parameters = found.1.parameters;
         }) (first_from (is_called text) 0 c.methods) (if_weaker (first_from (is_called text) 0 c.methods)
-        (λ found h. (operations.of_class {c = signature_of_class c} (mapped signature_of_class env.heads.classes i c e)
-        h.0, h.1)) (functions_found (is_called text) c.methods k.methods))
+        (λ found h. (
+          operations.of_class {c = signature_of_class c} (mapped signature_of_class env.heads.classes i c e)
+              h.0,
+          h.1,
+        )) (functions_found (is_called text) c.methods k.methods))
 method_sound env (OfInterface i) text known =
     go (slice_get env.heads.interfaces i) refl (if_get IsKnownInterface env.heads.interfaces i known.interfaces)
   where
@@ -111,11 +115,11 @@ method_sound env (OfInterface i) text known =
 method_sound env (OfHost kind) text known =
     let name = name_of_kind env.registered kind in
     if_then (λ (call : host.Call). (host.takes_member name text call ≡ true)
-        × ((id : ℕ) (of : HostSignature) → method_at name id call ≡ Some of
-        → Contains (filter_map (method_at name id) env.registered) of)) (IsSoundMethod env (OfHost kind)) host_method
-        (find (host.takes_member name text) env.registered)
-        (λ call h. host_method_found env kind text call h.0 h.1)
-        (found_with (host.takes_member name text) (method_at name) env.registered)
+    × ((id : ℕ) (of : HostSignature) → method_at name id call ≡ Some of
+    → Contains (filter_map (method_at name id) env.registered) of)) (IsSoundMethod env (OfHost kind)) host_method
+    (find (host.takes_member name text) env.registered)
+    (λ call h. host_method_found env kind text call h.0 h.1)
+    (found_with (host.takes_member name text) (method_at name) env.registered)
 method_sound env (OfArray of) text known = let found =
     find (is_array_method text)
     (arrays.Length ∷ arrays.Resize ∷ arrays.InsertLast ∷ arrays.RemoveLast ∷ arrays.IsEmpty ∷ []) in
@@ -142,10 +146,11 @@ IsSoundCallee env callee = IfSome callee.parameters (IsCalledWith env callee)
 pub class_takes : (env : Environment) (class : ℕ) (c : Class) → IsKnown env → slice_get env.heads.classes class ≡ Some c
     → operations.IsTarget (seen_in env).signatures (targets.Class class) (map var_type c.parameters)
     (result_type (ty.Handle (OfClass class))) × AllByRecursion IsVariableType c.parameters
-class_takes env class c known e =
-    (operations.class {c = signature_of_class c} (mapped signature_of_class env.heads.classes class c e),
-    (at_some IsKnownClass (slice_get env.heads.classes class) c
-    (if_get IsKnownClass env.heads.classes class known.classes) e).parameters)
+class_takes env class c known e = (
+  operations.class {c = signature_of_class c} (mapped signature_of_class env.heads.classes class c e),
+  (at_some IsKnownClass (slice_get env.heads.classes class) c
+      (if_get IsKnownClass env.heads.classes class known.classes) e).parameters,
+)
 
 abbrev function_by : ℕ × ℕ → host.Call → Option HostSignature
 function_by key call = function_at key.0 key.1 call
@@ -155,12 +160,13 @@ service_found : (env : Environment) (call : host.Call)
     → Contains (filter_map (function_by key) env.registered) of) → IfSome (service_function call) (IsSoundCallee env)
 service_found env (host.AFunction service id operation) among =
     let at : function_at service id (host.AFunction service id operation) ≡ Some (host_signature operation) =
-        rw (same_number service, same_number id) refl in
-    let is = among (service, id) (host_signature operation) at in
-    (subst₂ (λ parameters result.
-        operations.IsTarget (seen_in env).signatures (targets.Service service id result) parameters result)
-        (sym (primitive_types operation.parameters)) (sym (primitive_result operation.result)) (operations.service is),
-        primitives_known operation.parameters)
+    rw (same_number service, same_number id) refl in
+    let is = among (service, id) (host_signature operation) at in (
+      subst₂ (λ parameters result.
+          operations.IsTarget (seen_in env).signatures (targets.Service service id result) parameters result)
+          (sym (primitive_types operation.parameters)) (sym (primitive_result operation.result)) (operations.service is),
+      primitives_known operation.parameters,
+    )
 service_found env _ among = tt
 
 -- the factory of a type
@@ -180,11 +186,13 @@ factory_found env name kind among = go (find (host.is_factory_of name) env.regis
     go None e = tt
     go (Some (host.AFactory of parameters)) e =
         let at : factory_at env.registered kind (host.AType name kind) ≡ Some parameters =
-            rw (same_number kind, e) refl in
-        (subst (λ types.
-            operations.IsTarget (seen_in env).signatures (targets.Host kind) types
-            (Some (var_type (ty.Handle (OfHost kind))))) (sym (primitive_types parameters))
-            (operations.host (among kind parameters at)), primitives_known parameters)
+        rw (same_number kind, e) refl in (
+          subst (λ types.
+              operations.IsTarget (seen_in env).signatures (targets.Host kind) types
+              (Some (var_type (ty.Handle (OfHost kind))))) (sym (primitive_types parameters))
+              (operations.host (among kind parameters at)),
+          primitives_known parameters,
+        )
     go (Some _) e = tt
 
 pub host_found : (env : Environment) (call : host.Call)
@@ -204,70 +212,74 @@ own_found : (env : Environment) (text : List ℕ) (class : ℕ) (c : Class) → 
     }))
 own_found env text class c known this e =
     let of_class =
-        at_some IsKnownClass (slice_get env.heads.classes class) c
-        (if_get IsKnownClass env.heads.classes class known.classes) e in
+    at_some IsKnownClass (slice_get env.heads.classes class) c
+    (if_get IsKnownClass env.heads.classes class known.classes) e in
     if_weaker (first_from (is_called text) 0 c.methods)
-        (λ found h. ((this,
-        operations.of_class {c = signature_of_class c} (mapped signature_of_class env.heads.classes class c e) h.0),
-        h.1)) (functions_found (is_called text) c.methods of_class.methods)
+    (λ found h. (
+      (
+        this,
+        operations.of_class {c = signature_of_class c} (mapped signature_of_class env.heads.classes class c e) h.0,
+      ),
+      h.1,
+    )) (functions_found (is_called text) c.methods of_class.methods)
 
 pub callee_sound : (env : Environment) (text : List ℕ) → IsKnown env → IfSome (callee_in env text) (IsSoundCallee env)
 unfolding callee_in
 callee_sound env text known =
     let Q = IsSoundCallee env in
     let own = if_then (λ (c : ℕ × Class). (env.this ≡ Some c.0) × (slice_get env.heads.classes c.0 ≡ Some c.1)) Q
-        (λ (c : ℕ × Class).
-        option_map (λ (found : ℕ × Function).
-        record {
-          target = callables.OwnMethod c.0 found.0 (result_type found.1.result);
-          result = found.1.result;
-          parameters = Some found.1.parameters;
-        }) (first_from (is_called text) 0 c.1.methods)) (this_class env)
-        (λ c h. if_map Q
-        (λ (found : ℕ × Function).
-        record {
-          target = callables.OwnMethod c.0 found.0 (result_type found.1.result);
-          result = found.1.result;
-          parameters = Some found.1.parameters;
-        }) (first_from (is_called text) 0 c.1.methods) (own_found env text c.0 c.1 known h.0 h.1))
-        (this_is env.heads.classes env.this) in
+    (λ (c : ℕ × Class).
+    option_map (λ (found : ℕ × Function).
+    record {
+      target = callables.OwnMethod c.0 found.0 (result_type found.1.result);
+      result = found.1.result;
+      parameters = Some found.1.parameters;
+    }) (first_from (is_called text) 0 c.1.methods)) (this_class env)
+    (λ c h. if_map Q
+    (λ (found : ℕ × Function).
+    record {
+      target = callables.OwnMethod c.0 found.0 (result_type found.1.result);
+      result = found.1.result;
+      parameters = Some found.1.parameters;
+    }) (first_from (is_called text) 0 c.1.methods) (own_found env text c.0 c.1 known h.0 h.1))
+    (this_is env.heads.classes env.this) in
     let function =
-        if_map Q (λ (found : ℕ × Function).
-        record {
-          target = callables.Target (targets.Function found.0 (result_type found.1.result));
-          result = found.1.result;
-          parameters = Some found.1.parameters;
-        }) (first_from (is_called text) 0 env.heads.functions)
-        (if_weaker (first_from (is_called text) 0 env.heads.functions)
-        (λ found h. (operations.function h.0, h.1))
-        (functions_found (is_called text) env.heads.functions known.functions)) in
+    if_map Q (λ (found : ℕ × Function).
+    record {
+      target = callables.Target (targets.Function found.0 (result_type found.1.result));
+      result = found.1.result;
+      parameters = Some found.1.parameters;
+    }) (first_from (is_called text) 0 env.heads.functions)
+    (if_weaker (first_from (is_called text) 0 env.heads.functions)
+    (λ found h. (operations.function h.0, h.1))
+    (functions_found (is_called text) env.heads.functions known.functions)) in
     let service =
-        if_then (λ (call : host.Call). (host.takes_name text call ≡ true)
-        × ((key : ℕ × ℕ) (of : HostSignature) → function_by key call ≡ Some of
-        → Contains (filter_map (function_by key) env.registered) of)) Q service_function (named_in env.registered text)
-        (λ call h. service_found env call h.1) (found_with (host.takes_name text) function_by env.registered) in
+    if_then (λ (call : host.Call). (host.takes_name text call ≡ true)
+    × ((key : ℕ × ℕ) (of : HostSignature) → function_by key call ≡ Some of
+    → Contains (filter_map (function_by key) env.registered) of)) Q service_function (named_in env.registered text)
+    (λ call h. service_found env call h.1) (found_with (host.takes_name text) function_by env.registered) in
     let class = if_map Q
-        (λ (found : ℕ × Class).
-        record {
-          target = callables.Target (targets.Class found.0);
-          result = ty.Handle (OfClass found.0);
-          parameters = Some found.1.parameters;
-        }) (first_from (is_class text) 0 env.heads.classes) (if_weaker (first_from (is_class text) 0 env.heads.classes)
-        (λ found h. class_takes env found.0 found.1 known h) (first_place (is_class text) env.heads.classes)) in
+    (λ (found : ℕ × Class).
+    record {
+      target = callables.Target (targets.Class found.0);
+      result = ty.Handle (OfClass found.0);
+      parameters = Some found.1.parameters;
+    }) (first_from (is_class text) 0 env.heads.classes) (if_weaker (first_from (is_class text) 0 env.heads.classes)
+    (λ found h. class_takes env found.0 found.1 known h) (first_place (is_class text) env.heads.classes)) in
     let kind = if_then
-        (λ (call : host.Call). (host.takes_name text call ≡ true)
-        × ((k : ℕ) (of : List Primitive) → factory_at env.registered k call ≡ Some of
-        → Contains (filter_map (factory_at env.registered k) env.registered) of)) Q (host_type env.registered)
-        (named_in env.registered text)
-        (λ call h. host_found env call h.1)
-        (found_with (host.takes_name text) (factory_at env.registered) env.registered) in
+    (λ (call : host.Call). (host.takes_name text call ≡ true)
+    × ((k : ℕ) (of : List Primitive) → factory_at env.registered k call ≡ Some of
+    → Contains (filter_map (factory_at env.registered k) env.registered) of)) Q (host_type env.registered)
+    (named_in env.registered text)
+    (λ call h. host_found env call h.1)
+    (found_with (host.takes_name text) (factory_at env.registered) env.registered) in
     if_or Q (own_method_in env text) (option_or (function_in env.heads.functions text) (callee_beside env text)) own
-        (if_or Q (function_in env.heads.functions text) (callee_beside env text) function
-        (if_or Q (option_and_then service_function (named_in env.registered text))
-        (option_or (class_in env.heads.classes text)
-        (option_and_then (host_type env.registered) (named_in env.registered text))) service
-        (if_or Q (class_in env.heads.classes text)
-        (option_and_then (host_type env.registered) (named_in env.registered text)) class kind)))
+    (if_or Q (function_in env.heads.functions text) (callee_beside env text) function
+    (if_or Q (option_and_then service_function (named_in env.registered text))
+    (option_or (class_in env.heads.classes text)
+    (option_and_then (host_type env.registered) (named_in env.registered text))) service
+    (if_or Q (class_in env.heads.classes text)
+    (option_and_then (host_type env.registered) (named_in env.registered text)) class kind)))
 
 -- types that are named
 
@@ -284,30 +296,30 @@ object_sound calls heads name =
     let s = signatures_in calls heads in
     let Q = IsObjectType s in
     let class = if_map Q
-        (λ (found : ℕ × Class). OfClass found.0) (first_from (is_class name) 0 heads.classes)
-        (if_weaker (first_from (is_class name) 0 heads.classes)
-        (λ found h. object_class
-        (slice_get_within s.classes found.0 (signature_of_class found.1)
-        (mapped signature_of_class heads.classes found.0 found.1 h))) (first_place (is_class name) heads.classes)) in
+    (λ (found : ℕ × Class). OfClass found.0) (first_from (is_class name) 0 heads.classes)
+    (if_weaker (first_from (is_class name) 0 heads.classes)
+    (λ found h. object_class
+    (slice_get_within s.classes found.0 (signature_of_class found.1)
+    (mapped signature_of_class heads.classes found.0 found.1 h))) (first_place (is_class name) heads.classes)) in
     let interface =
-        if_map Q (λ (found : ℕ × Interface). OfInterface found.0)
-        (first_from (is_interface_named name) 0 heads.interfaces)
-        (if_weaker (first_from (is_interface_named name) 0 heads.interfaces)
-        (λ found h. object_interface
-        (slice_get_within s.interfaces found.0 (signatures_of_interface found.1)
-        (mapped signatures_of_interface heads.interfaces found.0 found.1 h)))
-        (first_place (is_interface_named name) heads.interfaces)) in
+    if_map Q (λ (found : ℕ × Interface). OfInterface found.0)
+    (first_from (is_interface_named name) 0 heads.interfaces)
+    (if_weaker (first_from (is_interface_named name) 0 heads.interfaces)
+    (λ found h. object_interface
+    (slice_get_within s.interfaces found.0 (signatures_of_interface found.1)
+    (mapped signatures_of_interface heads.interfaces found.0 found.1 h)))
+    (first_place (is_interface_named name) heads.interfaces)) in
     let kind = if_then
-        (λ (call : host.Call). (host.takes_name name call ≡ true)
-        × ((key : Unit {0}) (kind : ℕ) → kind_in call ≡ Some kind → Contains (filter_map kind_in calls) kind)) Q
-        host_object (find (host.takes_name name) calls)
-        (λ call h. kind_found calls heads call (h.1 tt))
-        (found_with (host.takes_name name) (λ (key : Unit {0}). kind_in) calls) in
+    (λ (call : host.Call). (host.takes_name name call ≡ true)
+    × ((key : Unit {0}) (kind : ℕ) → kind_in call ≡ Some kind → Contains (filter_map kind_in calls) kind)) Q
+    host_object (find (host.takes_name name) calls)
+    (λ call h. kind_found calls heads call (h.1 tt))
+    (found_with (host.takes_name name) (λ (key : Unit {0}). kind_in) calls) in
     if_or Q (class_type heads.classes name)
-        (option_or (interface_type heads.interfaces name)
-        (option_and_then host_object (find (host.takes_name name) calls))) class
-        (if_or Q (interface_type heads.interfaces name)
-        (option_and_then host_object (find (host.takes_name name) calls)) interface kind)
+    (option_or (interface_type heads.interfaces name)
+    (option_and_then host_object (find (host.takes_name name) calls))) class
+    (if_or Q (interface_type heads.interfaces name)
+    (option_and_then host_object (find (host.takes_name name) calls)) interface kind)
 
 primitive_element : (s : Signatures) (of : Primitive) → IsElement s (element_of of)
 primitive_element s primitives.Bool = truths

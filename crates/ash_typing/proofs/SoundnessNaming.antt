@@ -28,9 +28,10 @@ distinct_fewer : (xs ys zs : List (List ℕ)) → ((P : List ℕ → Type 0) →
 unfolding IsDistinct
 distinct_fewer [] ys zs fewer d h = d
 distinct_fewer (x ∷ xs) ys zs fewer d h =
-    let other : List ℕ → Type 0 = λ y. bytes_eq x y ≡ false in
-    (all_append other xs zs (all_front other xs ys h.0) (fewer other (all_rest other xs ys h.0)),
-        distinct_fewer xs ys zs fewer d h.1)
+    let other : List ℕ → Type 0 = λ y. bytes_eq x y ≡ false in (
+      all_append other xs zs (all_front other xs ys h.0) (fewer other (all_rest other xs ys h.0)),
+      distinct_fewer xs ys zs fewer d h.1,
+    )
 
 -- functions
 

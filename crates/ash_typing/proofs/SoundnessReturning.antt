@@ -122,7 +122,7 @@ mutual
       let parts = and_parts (has_default cs) (not (breaks_out cs) && last_returns cs) h in
       let more = and_parts (not (breaks_out cs)) (last_returns cs) parts.1 in
       typed.in_switch (default_typed are parts.0)
-          (λ b. not_both (breaks_out cs) more.0 (out_written are b)) (cases_typed are more.1)
+      (λ b. not_both (breaks_out cs) more.0 (out_written are b)) (cases_typed are more.1)
   return_typed (break_out i) h = absurd (cc)
   return_typed (continue_on i) h = absurd (cc)
   return_typed (return_nothing i) h = typed.returned

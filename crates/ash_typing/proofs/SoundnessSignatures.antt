@@ -116,8 +116,8 @@ same_fields : {env : Environment} {calls : List host.Call} {named : Heads} → N
 same_fields agree [] ts h = ap (map signatures.type_declared) h
 same_fields {env} {calls} {named} agree (v ∷ vs) ts h =
     ap (map signatures.type_declared) h.5 ∙ map-append signatures.type_declared h.0 h.1
-        ∙ ap₂ (λ xs ys. xs ++ ys) (same_decls agree v h.0 h.3) (same_fields agree vs h.1 h.4)
-        ∙ sym (map-append type_declared (variables calls named v) (all_variables calls named vs))
+    ∙ ap₂ (λ xs ys. xs ++ ys) (same_decls agree v h.0 h.3) (same_fields agree vs h.1 h.4)
+    ∙ sym (map-append type_declared (variables calls named v) (all_variables calls named vs))
 
 same_construction : {env : Environment} {calls : List host.Call} {named : Heads} → NamesAgree env calls named
     → (class : List ℕ) (cs : List written.Constructor) (t : Option modules.Function) → HasConstructor env class cs t
@@ -136,8 +136,8 @@ same_listed agree place [] (i ∷ is) h = absurd h
 same_listed agree place (n ∷ ns) [] h = absurd h
 same_listed {env} {calls} {named} agree place (n ∷ ns) (i ∷ is) h =
     ap (λ places. i.interface ∷ places) (same_listed agree place ns is h.1)
-        ∙ ap (λ (o : Option ObjectType). with_place (interface_place o) (listed_in calls named ns))
-        (sym h.0.interface ∙ agree.names n.name)
+    ∙ ap (λ (o : Option ObjectType). with_place (interface_place o) (listed_in calls named ns))
+    (sym h.0.interface ∙ agree.names n.name)
 
 same_class : {env : Environment} {calls : List host.Call} {named : Heads} → NamesAgree env calls named
     → (place : ℕ) (c : written.Class) (t : modules.Class) → IsClass env place c t
@@ -202,7 +202,7 @@ unfolding heads
 same_signatures calls is m typed =
     let named = names_in is in
     let agree : NamesAgree (environment calls is) calls named =
-        record { types = same_type calls is; names = same_object calls is } in
+    record { types = same_type calls is; names = same_object calls is } in
     let interfaces = same_interfaces agree (interfaces_of is) (classes_before 0 is) m.interfaces typed.interfaces in
     let classes = same_classes agree 0 (classes_of is) m.classes typed.classes in
     let functions = same_methods agree (functions_of is) m.functions typed.functions in

@@ -267,11 +267,11 @@ mutual
       nest =
       let head = head_sound i (block_known scope known) in
       let inside =
-          sound_statements.loop {test = First} (maybe_sound m head.known.env) (steps_sound all head.known.env)
-          ((stmt_sound body (loop_known (behind (block_of scope) f) head.known) nest.1).alone nest.0) in
+      sound_statements.loop {test = First} (maybe_sound m head.known.env) (steps_sound all head.known.env)
+      ((stmt_sound body (loop_known (behind (block_of scope) f) head.known) nest.1).alone nest.0) in
       plain scope (written.For p f c es s) (For p.line g (repeated First tree (map tree_of_term ts) t)) refl known
-          (sound_statements.for head.head
-          (subst (λ next. sound_statements.IsLoop next (repeated First tree (map tree_of_term ts) t)) head.seen inside))
+      (sound_statements.for head.head
+      (subst (λ next. sound_statements.IsLoop next (repeated First tree (map tree_of_term ts) t)) head.seen inside))
   stmt_sound {scope} (switch {p = p} {e = e} {cs = cs} {t = t} {k = k} {rows = rows} h i are) known nest =
       plain scope (written.Switch p e cs) (Switch p.line k t.tree rows) refl known
       (sound_statements.switch (of_type scope.env t.tree t.ty (ty.Integer k) i (term_sound h known.env).gives)
@@ -310,5 +310,5 @@ mutual
   labelled_sound {scope} (more_stmts {s = s} {ts = ts} h rest) known nest =
       let first = stmt_sound h known nest.1 in
       sound_statements.and_labelled (first.alone nest.0)
-          (subst (λ next. sound_statements.AreLabelled (seen_at next) ts) (same_after scope s nest.0)
-          (labelled_sound rest first.known nest.2))
+      (subst (λ next. sound_statements.AreLabelled (seen_at next) ts) (same_after scope s nest.0)
+      (labelled_sound rest first.known nest.2))

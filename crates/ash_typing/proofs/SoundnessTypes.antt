@@ -224,7 +224,7 @@ identity_sound env a b f x y o k l h i e =
     let c = identity_if (agrees a b) o e in
     let r = agreeing a b k l c.0 in
     subst (λ o. AreMet env sort.Identity o a b f x y) c.1
-        (value_type a, value_type b, h, reference_operand a r.0, i, reference_operand b r.1)
+    (value_type a, value_type b, h, reference_operand a r.0, i, reference_operand b r.1)
 
 met_sound : (env : Environment) (s : Sort) (a b : Ty) (f : Form) (x y : Expr) (o : Operands) → is_known a ≡ true
     → is_known b ≡ true → GivesType env x a → GivesType env y b → meets s a b ≡ Some o → AreMet env s o a b f x y

@@ -155,15 +155,15 @@ constructed_sound : (env : Environment) (o : ObjectType) (ts : List Term) (tree 
 constructed_sound env o ts tree known h arguments
     (construct {callee = callee} {parameters = parameters} {trees = trees} c q args) =
     let builds =
-        at_some (Builds env o) (construction env o (length ts)) callee (construction_builds env o (length ts) known h)
-        c in
+    at_some (Builds env o) (construction env o (length ts)) callee (construction_builds env o (length ts) known h)
+    c in
     let takes = at_some
-        (λ parameters.
-        operations.IsTarget (seen_in env).signatures builds.target (map var_type parameters) (Some (vars.Handle o))
-        × AllByRecursion IsVariableType parameters) callee.parameters parameters builds.takes q in
+    (λ parameters.
+    operations.IsTarget (seen_in env).signatures builds.target (map var_type parameters) (Some (vars.Handle o))
+    × AllByRecursion IsVariableType parameters) callee.parameters parameters builds.takes q in
     subst (λ target.
-        sound_statements.BeginsWith (seen_in env) (vars.Object o)
-        (Some (call_of target (map var_type parameters) trees))) (sym builds.called)
+    sound_statements.BeginsWith (seen_in env) (vars.Object o)
+    (Some (call_of target (map var_type parameters) trees))) (sym builds.called)
     (sound_statements.constructed builds.constructs (sound.call takes.0 (arguments_sound env args takes.1 arguments)))
 
 -- what variables begin with
@@ -236,12 +236,12 @@ variables_sound {scope} (and_declared {of = of} {d = d} {ds = ds} {value = w} {v
     let first = declared_sound i known.env k type in
     let more = variables_sound rest (more_known scope (declared of d ∷ []) known (v, tt)) v k type in
     let seen = subst
-        (λ env. sound_statements.AreDeclared env ws (map type_declared (map (declared of) ds)))
-        (seen_with scope.env (declared of d ∷ [])) more in
+    (λ env. sound_statements.AreDeclared env ws (map type_declared (map (declared of) ds)))
+    (seen_with scope.env (declared of d ∷ [])) more in
     subst (λ type.
-        sound_statements.AreDeclared (seen_in scope.env) (w ∷ ws) (type ∷ map type_declared (map (declared of) ds)))
-        (is_of i)
+    sound_statements.AreDeclared (seen_in scope.env) (w ∷ ws) (type ∷ map type_declared (map (declared of) ds)))
+    (is_of i)
     (sound_statements.and_declared first
-        (subst (λ type.
-        sound_statements.AreDeclared (sound_statements.with_locals (seen_in scope.env) (type ∷ [])) ws
-        (map type_declared (map (declared of) ds))) (sym (is_of i)) seen))
+    (subst (λ type.
+    sound_statements.AreDeclared (sound_statements.with_locals (seen_in scope.env) (type ∷ [])) ws
+    (map type_declared (map (declared of) ds))) (sym (is_of i)) seen))

@@ -55,7 +55,7 @@ decls_complete (and_declared {scope = scope} {of = of} {d = d} {ds = ds} {value 
     bind_is (fresh scope of d) _ (declared of d) _ (fresh_is scope of d free)
     (bind_is (decl_typed scope.env at of d) _ value _ (declared_complete is at)
     (bind_is (decls_typed (with_variables scope (declared of d ∷ [])) at of ds) _ values _ (decls_complete rest at)
-        refl))
+    refl))
 
 vars_complete : (scope : Scope) (v : written.Vars) (values : List Initialization)
     → known_ty v.of (ty_in scope.env v.of) ≡ Ok (ty_in scope.env v.of)
@@ -219,7 +219,7 @@ switch_is : (scope : Scope) (p : Place) (e : written.Expr) (cs : written.Cases) 
 switch_is scope p e cs t k rows h is i =
     bind_is (typed scope.env false e) _ (placed (first_at e) t) _ h
     (bind_is (cases_typed (switch_of scope) (kind_in t.ty) [] cs) _ rows _
-        (ap (λ kind. cases_typed (switch_of scope) kind [] cs) (kind_is t.ty k is) ∙ i)
+    (ap (λ kind. cases_typed (switch_of scope) kind [] cs) (kind_is t.ty k is) ∙ i)
     (bind_is (integer_of (first_at e) t.ty) _ k _ (integer_is (first_at e) t.ty k is) refl))
 
 -- statements
@@ -240,15 +240,15 @@ mutual
   stmt_complete (if_else {scope = scope} {p = p} {c = c} {s = s} {r = r} {tree = tree} {t = t} {u = u} h i j) =
       let k = tested h in
       if_else_is p.line (typed scope.env false c) (stmt_typed scope s) (stmt_typed scope r) k.of t u tree k.typed k.test
-          k.is (stmt_complete i) (stmt_complete j)
+      k.is (stmt_complete i) (stmt_complete j)
   stmt_complete (while_loop {scope = scope} {p = p} {c = c} {s = s} {tree = tree} {t = t} h i) =
       let k = tested h in
       while_is p.line (typed scope.env false c) (stmt_typed (loop_of scope) s) k.of t tree k.typed k.test k.is
-          (stmt_complete i)
+      (stmt_complete i)
   stmt_complete (do_loop {scope = scope} {p = p} {c = c} {s = s} {tree = tree} {t = t} i h) =
       let k = tested h in
       do_while_is p.line (typed scope.env false c) (stmt_typed (loop_of scope) s) k.of t tree k.typed k.test k.is
-          (stmt_complete i)
+      (stmt_complete i)
   stmt_complete
       (for_loop {scope = scope} {p = p} {f = f} {s = s} {c = c} {es = es} {h = g} {t = t} {tree = tree} {ts = ts} h i j
       k) =
@@ -256,8 +256,8 @@ mutual
       let m = maybe_tested i in
       let us = all_placed (written.exprs es) ts in
       for_is p.line (head_typed (block_of scope) f) (stmt_typed (loop_of within) s) (maybe_typed within.env c)
-          (all_typed within.env (written.exprs es)) g t m.of us tree (map tree_of_term ts) (head_complete h) m.typed
-          m.test m.is (all_complete j) (trees_of us ∙ ap (map tree_of_term) (all_terms j)) (stmt_complete k)
+      (all_typed within.env (written.exprs es)) g t m.of us tree (map tree_of_term ts) (head_complete h) m.typed
+      m.test m.is (all_complete j) (trees_of us ∙ ap (map tree_of_term) (all_terms j)) (stmt_complete k)
   stmt_complete (switch {scope = scope} {p = p} {e = e} {cs = cs} {t = t} {k = k} {rows = rows} h is i) =
       switch_is scope p e cs t k rows (complete h) is (cases_complete i)
   stmt_complete (break_out {scope = scope} {p = p} h) = break_is (scope.in_loop || scope.in_switch) p h
@@ -270,7 +270,7 @@ mutual
   stmts_complete no_more_stmts = refl
   stmts_complete (more_stmts {scope = scope} {s = s} {ss = ss} {t = t} {ts = ts} h i) =
       bind_is (stmt_typed scope s) _ t _ (stmt_complete h)
-          (bind_is (stmts_typed (behind scope s) ss) _ ts _ (stmts_complete i) refl)
+      (bind_is (stmts_typed (behind scope s) ss) _ ts _ (stmts_complete i) refl)
 
   pub cases_complete : {scope : Scope} {k : Kind} {before : List Label} {cs : written.Cases} {rows : Cases}
       → AreCases scope k before cs rows → cases_typed scope (Some k) before cs ≡ Ok rows

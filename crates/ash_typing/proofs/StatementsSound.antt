@@ -81,7 +81,7 @@ known_after scope (written.Declare p v) t k h =
     let v_is = bind_ok (vars_typed scope v) _ t h in
     let known = bind_ok (known_ty v.of (ty_in scope.env v.of)) _ v_is.0 v_is.1 in
     more_known scope (map (declared (ty_in scope.env v.of)) v.decls) k
-        (decls_known (ty_in scope.env v.of) v.decls (known_sound scope.env v.of v.of known.0 known.1).0)
+    (decls_known (ty_in scope.env v.of) v.decls (known_sound scope.env v.of v.of known.0 known.1).0)
 known_after scope _ t k h = k
 
 head_known : (scope : Scope) (f : written.Stmt) (g : Head) → IsKnownScope scope → head_typed scope f ≡ Ok g
@@ -91,7 +91,7 @@ head_known scope (written.Declare p v) g k h =
     let v_is = bind_ok (vars_typed scope v) _ g h in
     let known = bind_ok (known_ty v.of (ty_in scope.env v.of)) _ v_is.0 v_is.1 in
     more_known scope (map (declared (ty_in scope.env v.of)) v.decls) k
-        (decls_known (ty_in scope.env v.of) v.decls (known_sound scope.env v.of v.of known.0 known.1).0)
+    (decls_known (ty_in scope.env v.of) v.decls (known_sound scope.env v.of v.of known.0 known.1).0)
 head_known scope _ g k h = k
 
 -- variables
@@ -112,11 +112,11 @@ decls_sound scope k at of known (d ∷ ds) values h =
     let r = bind_ok (decls_typed (with_variables scope (f.0 ∷ [])) at of ds) _ values v.2 in
     let s = fresh_sound scope of d f.0 f.1 in
     let rest : decls_typed (with_variables scope (declared of d ∷ [])) at of ds ≡ Ok r.0 =
-        subst (λ (x : Declared). decls_typed (with_variables scope (x ∷ [])) at of ds ≡ Ok r.0) s.1 r.1 in
+    subst (λ (x : Declared). decls_typed (with_variables scope (x ∷ [])) at of ds ≡ Ok r.0) s.1 r.1 in
     subst (AreDeclared scope of (d ∷ ds)) (ok_is (v.0 ∷ r.0) values r.2)
     (and_declared s.0 (declared_sound scope.env k.env at of d v.0 v.1)
-        (decls_sound (with_variables scope (declared of d ∷ [])) (more_known scope (declared of d ∷ []) k (known, tt))
-        at of known ds r.0 rest))
+    (decls_sound (with_variables scope (declared of d ∷ [])) (more_known scope (declared of d ∷ []) k (known, tt))
+    at of known ds r.0 rest))
 
 vars_declared : (scope : Scope) → IsKnownScope scope → (v : written.Vars) (values : List Initialization)
     → vars_typed scope v ≡ Ok values
@@ -124,9 +124,11 @@ vars_declared : (scope : Scope) → IsKnownScope scope → (v : written.Vars) (v
 unfolding vars_typed
 vars_declared scope k v values h =
     let o = bind_ok (known_ty v.of (ty_in scope.env v.of)) _ values h in
-    let s = known_sound scope.env v.of v.of o.0 o.1 in
-    (s.0, decls_sound scope k (at_type v.of) (ty_in scope.env v.of) s.0 v.decls values
-        (subst (λ (of : Ty). decls_typed scope (at_type v.of) of v.decls ≡ Ok values) s.1 o.2))
+    let s = known_sound scope.env v.of v.of o.0 o.1 in (
+      s.0,
+      decls_sound scope k (at_type v.of) (ty_in scope.env v.of) s.0 v.decls values
+          (subst (λ (of : Ty). decls_typed scope (at_type v.of) of v.decls ≡ Ok values) s.1 o.2),
+    )
 
 vars_sound : (scope : Scope) → IsKnownScope scope → (p : Place) (v : written.Vars) (values : List Initialization)
     → vars_typed scope v ≡ Ok values → IsStmt scope (written.Declare p v) (Declare p.line values)
@@ -146,7 +148,7 @@ head_sound scope k (written.Declare p v) g h =
 head_sound scope k (written.Evaluate p e) g h =
     let v = bind_ok (typed scope.env false e) _ g h in
     subst (IsHead scope (written.Evaluate p e)) (ok_is _ g v.2)
-        (head_evaluates (sound scope.env k.env false e v.0 v.1))
+    (head_evaluates (sound scope.env k.env false e v.0 v.1))
 head_sound scope k (written.Block p ss) g h = absurd (no_err _ g h)
 head_sound scope k (written.If p c s) g h = absurd (no_err _ g h)
 head_sound scope k (written.IfElse p c s t) g h = absurd (no_err _ g h)
@@ -192,8 +194,8 @@ maybe_sound env k (Some e) t fit h i =
     let c = bind_ok (typed env false e) _ t h in
     let is = ok_is (Some c.0) t c.2 in
     subst (λ (x : Option Typed). MayBeCondition env (Some e) (option_map tree_of x)) is
-        (until (condition_sound env k e c.0 fit c.1
-        (subst (λ (x : Option Typed). maybe_condition_is x ≡ Ok fit) (sym is) i)))
+    (until (condition_sound env k e c.0 fit c.1
+    (subst (λ (x : Option Typed). maybe_condition_is x ≡ Ok fit) (sym is) i)))
 
 steps_sound : (env : Environment) → IsKnown env → (es : List written.Expr) (ts : List Typed)
     → all_typed env (written.exprs es) ≡ Ok ts → AllHaveType env (written.exprs es) (terms ts)
@@ -295,7 +297,7 @@ return_sound scope k p (Some e) t h =
     let r = bind_ok (returned scope.env.heads.classes scope.gives p.at v.0) _ t v.2 in
     let s = returned_sound scope.env.heads.classes scope.gives p.at v.0 r.0 r.1 in
     subst (IsStmt scope (written.Return p (Some e))) (ap (λ (x : Expr). Return p.line (Some x)) s.1 ∙ ok_is _ t r.2)
-        (return_value (sound scope.env k.env false e v.0 v.1) s.0)
+    (return_value (sound scope.env k.env false e v.0 v.1) s.0)
 
 -- labels
 
@@ -334,36 +336,36 @@ mutual
   stmt_sound scope k (written.Block p ss) t h =
       let ts = bind_ok (stmts_typed (block_of scope) ss) _ t h in
       subst (IsStmt scope (written.Block p ss)) (ok_is _ t ts.2)
-          (block (stmts_sound (block_of scope) (block_known scope k) ss ts.0 ts.1))
+      (block (stmts_sound (block_of scope) (block_known scope k) ss ts.0 ts.1))
   stmt_sound scope k (written.If p c s) t h =
       if_parts p.line (typed scope.env false c) (stmt_typed scope s) t h (λ v u fit e f g is.
       subst (IsStmt scope (written.If p c s)) is
-          (if_only (condition_sound scope.env k.env c v fit e g) (stmt_sound scope k s u f)))
+      (if_only (condition_sound scope.env k.env c v fit e g) (stmt_sound scope k s u f)))
   stmt_sound scope k (written.IfElse p c s r) t h =
       if_else_parts p.line (typed scope.env false c) (stmt_typed scope s) (stmt_typed scope r) t h
-          (λ v u w fit e f i g is.
+      (λ v u w fit e f i g is.
       subst (IsStmt scope (written.IfElse p c s r)) is
-          (if_else (condition_sound scope.env k.env c v fit e g) (stmt_sound scope k s u f) (stmt_sound scope k r w i)))
+      (if_else (condition_sound scope.env k.env c v fit e g) (stmt_sound scope k s u f) (stmt_sound scope k r w i)))
   stmt_sound scope k (written.While p c s) t h =
       while_parts p.line (typed scope.env false c) (stmt_typed (loop_of scope) s) t h (λ v u fit e f g is.
       subst (IsStmt scope (written.While p c s)) is
-          (while_loop (condition_sound scope.env k.env c v fit e g)
-          (stmt_sound (loop_of scope) (loop_known scope k) s u f)))
+      (while_loop (condition_sound scope.env k.env c v fit e g)
+      (stmt_sound (loop_of scope) (loop_known scope k) s u f)))
   stmt_sound scope k (written.DoWhile p s c) t h =
       do_parts p.line (stmt_typed (loop_of scope) s) (typed scope.env false c) t h (λ u v fit f e g is.
       subst (IsStmt scope (written.DoWhile p s c)) is
-          (do_loop (stmt_sound (loop_of scope) (loop_known scope k) s u f)
-          (condition_sound scope.env k.env c v fit e g)))
+      (do_loop (stmt_sound (loop_of scope) (loop_known scope k) s u f)
+      (condition_sound scope.env k.env c v fit e g)))
   stmt_sound scope k (written.For p f c es s) t h =
       let within = behind (block_of scope) f in
       for_parts p.line (head_typed (block_of scope) f) (maybe_typed within.env c)
-          (all_typed within.env (written.exprs es)) (stmt_typed (loop_of within) s) t h (λ g v us u fit i e j l m is.
+      (all_typed within.env (written.exprs es)) (stmt_typed (loop_of within) s) t h (λ g v us u fit i e j l m is.
       let inner = head_known (block_of scope) f g (block_known scope k) i in
       subst (IsStmt scope (written.For p f c es s))
-          (ap (λ (trees : List Expr). For p.line g (repeated First (option_map tree_of v) trees u)) (sym (trees_of us))
-          ∙ is)
+      (ap (λ (trees : List Expr). For p.line g (repeated First (option_map tree_of v) trees u)) (sym (trees_of us))
+      ∙ is)
       (for_loop (head_sound (block_of scope) (block_known scope k) f g i) (maybe_sound within.env inner.env c v fit e m)
-          (steps_sound within.env inner.env es us j) (stmt_sound (loop_of within) (loop_known within inner) s u l)))
+      (steps_sound within.env inner.env es us j) (stmt_sound (loop_of within) (loop_known within inner) s u l)))
   stmt_sound scope k (written.Switch p e cs) t h =
       let v = bind_ok (typed scope.env false e) _ t h in
       let rows = bind_ok (cases_typed (switch_of scope) (kind_in (v.0).ty) [] cs) _ t v.2 in
@@ -371,9 +373,9 @@ mutual
       let has = sound scope.env k.env false e v.0 v.1 in
       let is = integer_sound (v.0).at (v.0).ty j.0 (known_type has k.env) j.1 in
       subst (IsStmt scope (written.Switch p e cs)) (ok_is _ t j.2)
-          (switch has is
-          (cases_sound (switch_of scope) (switch_known scope k) j.0 [] cs rows.0
-          (subst (λ kind. cases_typed (switch_of scope) kind [] cs ≡ Ok rows.0) (kind_found (v.0).ty j.0 is) rows.1)))
+      (switch has is
+      (cases_sound (switch_of scope) (switch_known scope k) j.0 [] cs rows.0
+      (subst (λ kind. cases_typed (switch_of scope) kind [] cs ≡ Ok rows.0) (kind_found (v.0).ty j.0 is) rows.1)))
   stmt_sound scope k (written.Break p) t h = break_sound scope p t h
   stmt_sound scope k (written.Continue p) t h = continue_sound scope p t h
   stmt_sound scope k (written.Return p e) t h = return_sound scope k p e t h
@@ -385,8 +387,8 @@ mutual
       let t = bind_ok (stmt_typed scope s) _ ts h in
       let r = bind_ok (stmts_typed (behind scope s) ss) _ ts t.2 in
       subst (AreStmts scope (written.stmt s ss)) (ok_is _ ts r.2)
-          (more_stmts (stmt_sound scope k s t.0 t.1)
-          (stmts_sound (behind scope s) (known_after scope s t.0 k t.1) ss r.0 r.1))
+      (more_stmts (stmt_sound scope k s t.0 t.1)
+      (stmts_sound (behind scope s) (known_after scope s t.0 k t.1) ss r.0 r.1))
 
   pub cases_sound : (scope : Scope) → IsKnownScope scope
       → (k : Kind) (before : List Label) (cs : written.Cases) (rows : Cases)
@@ -399,6 +401,6 @@ mutual
       let rest = bind_ok (cases_typed scope (Some k) (before ++ l ∷ []) cs) _ rows body.2 in
       let is = label_sound k before (is_last cs) p.at l label.0 label.1 in
       subst (AreCases scope k before (written.next_case (written.labelled p l ss) cs))
-          (ap (λ (x : Label). next_case (labelled x body.0) rest.0) (sym is.1) ∙ ok_is _ rows rest.2)
+      (ap (λ (x : Label). next_case (labelled x body.0) rest.0) (sym is.1) ∙ ok_is _ rows rest.2)
       (more_cases is.0 (stmts_sound scope known ss body.0 body.1)
-          (cases_sound scope known k (before ++ l ∷ []) cs rest.0 rest.1))
+      (cases_sound scope known k (before ++ l ∷ []) cs rest.0 rest.1))

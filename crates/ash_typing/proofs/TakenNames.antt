@@ -130,13 +130,15 @@ pub untaken_sound : (n : Names) (at : ℕ) (name : List ℕ) (m : Names) → Dis
 unfolding untaken
 untaken_sound n at name m d h = if_ok (is_taken n name) _ _ (Ok m) h
     (λ b e. absurd (no_err _ m e))
-    (λ b e. neither (is_some (named_in n.registered name)) (list_any (bytes_eq name) n.taken) b (λ f g.
-    (record {
-      free = (is_none (named_in n.registered name) f, tt);
-      distinct = distinct_push n.taken name d g;
-      room = omega arith;
-    }, sym (ok_is (names_with n (n.taken ++ name ∷ []) n.room) m e)
-        ∙ same_names n (n.taken ++ name ∷ []) (n.taken ++ name ∷ []) n.room (n.room - 0) refl (omega arith))))
+    (λ b e. neither (is_some (named_in n.registered name)) (list_any (bytes_eq name) n.taken) b (λ f g. (
+      record {
+        free = (is_none (named_in n.registered name) f, tt);
+        distinct = distinct_push n.taken name d g;
+        room = omega arith;
+      },
+      sym (ok_is (names_with n (n.taken ++ name ∷ []) n.room) m e)
+          ∙ same_names n (n.taken ++ name ∷ []) (n.taken ++ name ∷ []) n.room (n.room - 0) refl (omega arith),
+    )))
 
 pub untaken_complete : (n : Names) (at : ℕ) (name : List ℕ) → CanTake n (name ∷ []) 0
     → untaken n at name ≡ Ok (grown n (name ∷ []) 0)
@@ -156,8 +158,11 @@ one_sound : (n : Names) (at : ℕ) (m : Names) → one_more n at ≡ Ok m → (1
 unfolding one_more
 one_sound n at m h = if_ok (nat_eq n.room 0) _ _ (Ok m) h
     (λ b e. absurd (no_err _ m e))
-    (λ b e. (some_room n.room b, sym (ok_is (names_with n n.taken (n.room - 1)) m e)
-        ∙ same_names n n.taken (n.taken ++ []) (n.room - 1) (n.room - 1) (sym (append-nil n.taken)) refl))
+    (λ b e. (
+      some_room n.room b,
+      sym (ok_is (names_with n n.taken (n.room - 1)) m e)
+          ∙ same_names n n.taken (n.taken ++ []) (n.room - 1) (n.room - 1) (sym (append-nil n.taken)) refl,
+    ))
 
 one_complete : (n : Names) (at : ℕ) → 1 ≤ n.room → one_more n at ≡ Ok (grown n [] 1)
 unfolding one_more
@@ -172,9 +177,11 @@ placed_sound n at name m d h =
     let u = bind_ok (untaken n at name) (λ next. one_more next at) m h in
     let s = untaken_sound n at name u.0 d u.1 in
     let o = one_sound u.0 at m u.2 in
-    let r : 1 ≤ n.room - 0 = subst (λ (x : Names). 1 ≤ x.room) s.1 o.0 in
-    (record { free = s.0.free; distinct = s.0.distinct; room = omega arith }, o.1 ∙ ap (λ (x : Names). grown x [] 1) s.1
-        ∙ grown-then n (name ∷ []) [] 0 1 1 refl)
+    let r : 1 ≤ n.room - 0 = subst (λ (x : Names). 1 ≤ x.room) s.1 o.0 in (
+      record { free = s.0.free; distinct = s.0.distinct; room = omega arith },
+      o.1 ∙ ap (λ (x : Names). grown x [] 1) s.1
+          ∙ grown-then n (name ∷ []) [] 0 1 1 refl,
+    )
 
 pub placed_complete : (n : Names) (at : ℕ) (name : List ℕ) → CanTake n (name ∷ []) 1
     → placed n at name ≡ Ok (grown n (name ∷ []) 1)
@@ -183,4 +190,4 @@ placed_complete n at name a =
     bind_is (untaken n at name) (λ next. one_more next at) (grown n (name ∷ []) 0) (grown n (name ∷ []) 1)
     (untaken_complete n at name (record { free = a.free; distinct = a.distinct; room = omega arith }))
     (one_complete (grown n (name ∷ []) 0) at (omega arith)
-        ∙ ap (λ (m : Names). Ok m) (grown-then n (name ∷ []) [] 0 1 1 refl))
+    ∙ ap (λ (m : Names). Ok m) (grown-then n (name ∷ []) [] 0 1 1 refl))

@@ -155,11 +155,11 @@ members_sound env known (written.AField v ∷ xs) ms after d h =
     let g = vars_sound env known ms.names v r.0 d r.1 in
     let next : Members = members_with ms (names_of v) (length v.decls) r.0.variables.values [] ms.class.constructor in
     let step : m.0 ≡ next =
-        sym (ok_is _ m.0 r.2)
-        ∙ same_members ms.class.name ms.class.line ms.class.interfaces r.0.names next.names _ _ ms.class.constructor _ _
-        g.taken refl (sym (append-nil ms.class.methods)) in
+    sym (ok_is _ m.0 r.2)
+    ∙ same_members ms.class.name ms.class.line ms.class.interfaces r.0.names next.names _ _ ms.class.constructor _ _
+    g.taken refl (sym (append-nil ms.class.methods)) in
     let go = members_sound env known xs next after g.can.distinct
-        (subst (λ (x : Members). members_typed env x xs ≡ Ok after) step m.2) in
+    (subst (λ (x : Members). members_typed env x xs ≡ Ok after) step m.2) in
     let count = count_names v (member_names xs) in
     record {
       can = takes_then ms.names (names_of v) (member_names xs) (length v.decls) (length (member_names xs)) _ count g.can
@@ -181,11 +181,11 @@ members_sound env known (written.AMethod f ∷ xs) ms after d h =
     let g = placed_sound ms.names f.place.at f.name p.0 d p.1 in
     let next : Members = members_with ms (f.name ∷ []) 1 [] (t.0 ∷ []) ms.class.constructor in
     let step : m.0 ≡ next =
-        sym (ok_is _ m.0 t.2)
-        ∙ same_members ms.class.name ms.class.line ms.class.interfaces p.0 next.names _ _ ms.class.constructor _ _ g.1
-        (sym (append-nil ms.class.fields)) refl in
+    sym (ok_is _ m.0 t.2)
+    ∙ same_members ms.class.name ms.class.line ms.class.interfaces p.0 next.names _ _ ms.class.constructor _ _ g.1
+    (sym (append-nil ms.class.fields)) refl in
     let go = members_sound env known xs next after g.0.distinct
-        (subst (λ (x : Members). members_typed env x xs ≡ Ok after) step m.2) in
+    (subst (λ (x : Members). members_typed env x xs ≡ Ok after) step m.2) in
     let k = length (member_names xs) in
     record {
       can = takes_then ms.names (f.name ∷ []) (member_names xs) 1 k (suc k) (omega arith) g.0 go.can;
@@ -205,12 +205,12 @@ members_sound env known (written.AConstructor c ∷ xs) ms after d h =
     let g = named_sound ms.class c n.0 n.1 in
     let next : Members = members_with ms [] 0 [] [] (Some t.0) in
     let step : m.0 ≡ next =
-        sym (ok_is _ m.0 t.2)
-        ∙ same_members ms.class.name ms.class.line ms.class.interfaces ms.names next.names _ _ (Some t.0) _ _
-        (sym (grown-none ms.names)) (sym (append-nil ms.class.fields)) (sym (append-nil ms.class.methods)) in
+    sym (ok_is _ m.0 t.2)
+    ∙ same_members ms.class.name ms.class.line ms.class.interfaces ms.names next.names _ _ (Some t.0) _ _
+    (sym (grown-none ms.names)) (sym (append-nil ms.class.fields)) (sym (append-nil ms.class.methods)) in
     let none = takes_none ms.names d in
     let go = members_sound env known xs next after none.distinct
-        (subst (λ (x : Members). members_typed env x xs ≡ Ok after) step m.2) in
+    (subst (λ (x : Members). members_typed env x xs ≡ Ok after) step m.2) in
     let k = length (member_names xs) in
     let is : IsConstructor env ms.class.name c t.0 = record {
       named = g.1;
@@ -258,8 +258,8 @@ members_complete env known (written.AField v ∷ xs) ms fs ts o can are_fs are_t
     bind_is (member_typed env ms (written.AField v)) _ next _
     (bind_is (vars_typed env ms.names v) _ _ next (vars_complete env known ms.names v f first are)
     (ap (λ (x : Members). Ok x)
-        (same_members ms.class.name ms.class.line ms.class.interfaces next.names next.names _ _ ms.class.constructor _ _
-        refl refl (sym (append-nil ms.class.methods)))))
+    (same_members ms.class.name ms.class.line ms.class.interfaces next.names next.names _ _ ms.class.constructor _ _
+    refl refl (sym (append-nil ms.class.methods)))))
     (members_complete env known xs next more ts o rest are_fs.4 are_ts constructs
     ∙ ap (λ (x : Members). Ok x)
     (members_with-then ms (names_of v) (member_names xs) j k _ values more [] ts ms.class.constructor o count
@@ -277,14 +277,14 @@ members_complete env known (written.AMethod f ∷ xs) ms fs (t ∷ ts) o can are
     (bind_is (result_typed env f.result) _ (result_in env f.result) next (result_complete env f.result is.passed)
     (bind_is (placed ms.names f.place.at f.name) _ next.names next (placed_complete ms.names f.place.at f.name first)
     (bind_is (routine_typed env (result_in env f.result) (routine_of f)) _ t next
-        (routine_complete env (result_in env f.result) (routine_of f) t is.routine)
+    (routine_complete env (result_in env f.result) (routine_of f) t is.routine)
     (ap (λ (x : Members). Ok x)
-        (same_members ms.class.name ms.class.line ms.class.interfaces next.names next.names _ _ ms.class.constructor _ _
-        refl (sym (append-nil ms.class.fields)) refl)))))
+    (same_members ms.class.name ms.class.line ms.class.interfaces next.names next.names _ _ ms.class.constructor _ _
+    refl (sym (append-nil ms.class.fields)) refl)))))
     (members_complete env known xs next fs ts o rest are_fs are_ts.1 constructs
-        ∙ ap (λ (x : Members). Ok x)
-        (members_with-then ms (f.name ∷ []) (member_names xs) 1 k (suc k) [] fs (t ∷ []) ts ms.class.constructor o
-        (omega arith)))
+    ∙ ap (λ (x : Members). Ok x)
+    (members_with-then ms (f.name ∷ []) (member_names xs) 1 k (suc k) [] fs (t ∷ []) ts ms.class.constructor o
+    (omega arith)))
 members_complete env known (written.AConstructor c ∷ xs) ms fs ts o can are_fs are_ts constructs =
     let k = length (member_names xs) in
     let rest = takes_rest ms.names [] (member_names xs) 0 k k (omega arith) can in
@@ -293,14 +293,14 @@ members_complete env known (written.AConstructor c ∷ xs) ms fs ts o can are_fs
     bind_is (member_typed env ms (written.AConstructor c)) _ next _
     (bind_is (constructor_named ms.class c) _ (constructing c) next (named_complete ms.class c none is.named)
     (bind_is (routine_typed env ty.Void (constructing c)) _ t next
-        (routine_complete env ty.Void (constructing c) t is.routine)
+    (routine_complete env ty.Void (constructing c) t is.routine)
     (ap (λ (x : Members). Ok x)
-        (same_members ms.class.name ms.class.line ms.class.interfaces ms.names next.names _ _ (Some t) _ _
-        (sym (grown-none ms.names)) (sym (append-nil ms.class.fields)) (sym (append-nil ms.class.methods))))))
+    (same_members ms.class.name ms.class.line ms.class.interfaces ms.names next.names _ _ (Some t) _ _
+    (sym (grown-none ms.names)) (sym (append-nil ms.class.fields)) (sym (append-nil ms.class.methods))))))
     (members_complete env known xs next fs ts o rest are_fs are_ts
-        (subst (λ cs. Constructs env ms.class.name (Some t) cs o) (sym alone) made)
-        ∙ ap (λ (x : Members). Ok x)
-        (members_with-then ms [] (member_names xs) 0 k k [] fs [] ts (Some t) o (omega arith))))
+    (subst (λ cs. Constructs env ms.class.name (Some t) cs o) (sym alone) made)
+    ∙ ap (λ (x : Members). Ok x)
+    (members_with-then ms [] (member_names xs) 0 k k [] fs [] ts (Some t) o (omega arith))))
 
 -- classes
 
@@ -316,10 +316,10 @@ class_sound env known place c typed h =
     let m = bind_ok (members_typed (inside env place) (no_members c l.0.interfaces) c.members) _ typed l.2 in
     let list = listed_sound env place c.interfaces none_listed l.0 tt l.1 in
     let go = members_sound (inside env place) (within_known env place known) c.members (no_members c l.0.interfaces) m.0
-        tt m.1 in
+    tt m.1 in
     let is : typed
-        ≡ (members_with (no_members c l.0.interfaces) (member_names c.members) (length (member_names c.members))
-        go.fields go.methods go.constructor).class = sym (ok_is _ typed m.2) ∙ ap class_of_members go.is in
+    ≡ (members_with (no_members c l.0.interfaces) (member_names c.members) (length (member_names c.members))
+    go.fields go.methods go.constructor).class = sym (ok_is _ typed m.2) ∙ ap class_of_members go.is in
     subst (λ (t : Class). IsClass env place c t) (sym is) (record {
       name = refl;
       line = refl;
@@ -339,13 +339,13 @@ class_complete env known place c typed is =
     let n = is.name in
     let l = is.line in
     let once : CanTake none_listed.names (map listed_name c.interfaces) 0 =
-        record { free = all_free (map listed_name c.interfaces); distinct = is.listed_once; room = omega arith } in
+    record { free = all_free (map listed_name c.interfaces); distinct = is.listed_once; room = omega arith } in
     let can : CanTake (no_members c typed.interfaces).names (member_names c.members) (length (member_names c.members)) =
-        record { free = all_free (member_names c.members); distinct = is.differ; room = is.few } in
+    record { free = all_free (member_names c.members); distinct = is.differ; room = is.few } in
     bind_is (all_listed env place none_listed c.interfaces) _
-        (listed_with none_listed (map listed_name c.interfaces) typed.interfaces) typed
+    (listed_with none_listed (map listed_name c.interfaces) typed.interfaces) typed
     (listed_complete env place c.interfaces none_listed typed.interfaces once is.interfaces)
     (bind_is (members_typed (inside env place) (no_members c typed.interfaces) c.members) _ _ typed
     (members_complete (inside env place) (within_known env place known) c.members (no_members c typed.interfaces)
-        typed.fields typed.methods typed.constructor can is.fields is.methods is.constructor)
+    typed.fields typed.methods typed.constructor can is.fields is.methods is.constructor)
     (ap (λ (t : Class). Ok t) (rw (sym n, sym l) refl)))

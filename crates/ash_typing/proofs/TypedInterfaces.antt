@@ -101,7 +101,7 @@ signatures_sound env (m ∷ ms) ss after d h =
     let next : Signatures = signatures_with ss (m.name ∷ []) 1 (t ∷ []) in
     let step : o.0 ≡ next = sym (ok_is _ o.0 q.2) ∙ same_signatures p.0 next.names _ _ g.1 refl in
     let go = signatures_sound env ms next after g.0.distinct
-        (subst (λ (x : Signatures). signatures_typed env x ms ≡ Ok after) step o.2) in
+    (subst (λ (x : Signatures). signatures_typed env x ms ≡ Ok after) step o.2) in
     record {
       can = takes_then ss.names (m.name ∷ []) (map signature_name ms) 1 (length ms) (suc (length ms)) (omega arith) g.0
           go.can;
@@ -128,10 +128,10 @@ signatures_complete env (m ∷ ms) ss (t ∷ ts) can are =
     (bind_is (result_typed env m.result) _ (result_in env m.result) next (result_complete env m.result is.passed_result)
     (bind_is (placed ss.names m.place.at m.name) _ next.names next (placed_complete ss.names m.place.at m.name first)
     (bind_is (parameters_typed env [] m.parameters) _ (map (parameter_of env) m.parameters) next
-        (parameters_complete env m.parameters [] is.passed is.differ)
+    (parameters_complete env m.parameters [] is.passed is.differ)
     (ap (λ (s : Signature). Ok (signatures_of next.names (ss.methods ++ s ∷ []))) (sym (signature_exact env m t is))))))
     (signatures_complete env ms next ts rest are.1
-        ∙ ap (λ (x : Signatures). Ok x) (signatures_with-then ss m.name names k t ts))
+    ∙ ap (λ (x : Signatures). Ok x) (signatures_with-then ss m.name names k t ts))
 
 -- interfaces
 
@@ -142,9 +142,9 @@ interface_sound env classes i typed h =
     let m = bind_ok (signatures_typed env no_signatures i.methods) _ typed h in
     let go = signatures_sound env i.methods no_signatures m.0 tt m.1 in
     let is : typed
-        ≡ interface_of i classes
-        (signatures_with no_signatures (map signature_name i.methods) (length i.methods) go.methods) =
-        sym (ok_is _ typed m.2) ∙ ap (interface_of i classes) go.is in
+    ≡ interface_of i classes
+    (signatures_with no_signatures (map signature_name i.methods) (length i.methods) go.methods) =
+    sym (ok_is _ typed m.2) ∙ ap (interface_of i classes) go.is in
     subst (IsInterface env i classes) (sym is) (record {
       name = refl;
       line = refl;
@@ -162,7 +162,7 @@ interface_complete env classes i typed is =
     let l = is.line in
     let b = is.before in
     let can : CanTake no_signatures.names (map signature_name i.methods) (length i.methods) =
-        record { free = all_free (map signature_name i.methods); distinct = is.differ; room = is.few } in
+    record { free = all_free (map signature_name i.methods); distinct = is.differ; room = is.few } in
     bind_is (signatures_typed env no_signatures i.methods) _ _ typed
     (signatures_complete env i.methods no_signatures typed.methods can is.methods)
     (ap (λ (t : Interface). Ok t) (rw (sym n, sym l, sym b) refl))
@@ -238,7 +238,7 @@ listed_sound env class (n ∷ ns) listed after d h =
     let next : Listed = listed_with listed (n.name ∷ []) (i.0 ∷ []) in
     let step : m.0 ≡ next = sym (ok_is _ m.0 i.2) ∙ same_listed u.0 next.names _ _ s.1 refl in
     let go = listed_sound env class ns next after s.0.distinct
-        (subst (λ (x : Listed). all_listed env class x ns ≡ Ok after) step m.2) in
+    (subst (λ (x : Listed). all_listed env class x ns ≡ Ok after) step m.2) in
     let is : IsListed env class n i.0 = record {
       interface = listed_at_sound n.place.at (object_named env.registered env.heads n.name) p.0 p.1
           ∙ ap (λ place. Some (OfInterface place)) (sym t.0);
@@ -266,10 +266,10 @@ listed_complete env class (n ∷ ns) listed (t ∷ ts) can are =
     let next : Listed = listed_with listed (n.name ∷ []) (t ∷ []) in
     bind_is (listed_typed env class listed n) _ next _
     (bind_is (listed_at n.place.at (object_named env.registered env.heads n.name)) _ t.interface next
-        (listed_at_complete n.place.at (object_named env.registered env.heads n.name) t.interface is.interface)
+    (listed_at_complete n.place.at (object_named env.registered env.heads n.name) t.interface is.interface)
     (bind_is (untaken listed.names n.place.at n.name) _ next.names next
-        (untaken_complete listed.names n.place.at n.name first)
+    (untaken_complete listed.names n.place.at n.name first)
     (bind_is (implemented_at n.place.at t.interface (implemented env class t.interface)) _ t next
-        (implemented_complete n.place.at (implemented env class t.interface) t is.methods) refl)))
+    (implemented_complete n.place.at (implemented env class t.interface) t is.methods) refl)))
     (listed_complete env class ns next ts rest are.1
-        ∙ ap (λ (x : Listed). Ok x) (listed_with-then listed n.name names t ts))
+    ∙ ap (λ (x : Listed). Ok x) (listed_with-then listed n.name names t ts))

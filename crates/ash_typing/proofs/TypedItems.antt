@@ -129,14 +129,14 @@ items_sound env known (written.AClass c ∷ is) w after d few h =
     let q = room_sound c.place.at w.typed o.0 o.1 in
     let next : Walked = walked_with w (c.name ∷ []) 0 [] (t.0 ∷ []) [] [] in
     let step : m.0 ≡ next =
-        sym (ok_is _ m.0 t.2)
-        ∙ same_walked u.0 next.names _ _ _ _ _ _ _ _ s.1 (sym (append-nil w.typed.interfaces)) refl
-        (sym (append-nil w.typed.functions)) (sym (append-nil w.typed.globals)) in
+    sym (ok_is _ m.0 t.2)
+    ∙ same_walked u.0 next.names _ _ _ _ _ _ _ _ s.1 (sym (append-nil w.typed.interfaces)) refl
+    (sym (append-nil w.typed.functions)) (sym (append-nil w.typed.globals)) in
     let places = one_longer w.typed.classes t.0 in
     let same = no_longer w.typed.interfaces in
     let below = q.0 in
     let go = items_sound env known is next after s.0.distinct (omega arith)
-        (subst (λ (x : Walked). items_typed env x is ≡ Ok after) step m.2) in
+    (subst (λ (x : Walked). items_typed env x is ≡ Ok after) step m.2) in
     let room = go.few in
     let k = length (variable_names (globals_of is)) in
     record {
@@ -147,9 +147,10 @@ items_sound env known (written.AClass c ∷ is) w after d few h =
           subst (λ n. AreInterfaces env (interfaces_of is) (classes_before n is) go.interfaces) places
           go.are_interfaces;
       classes = t.0 ∷ go.classes;
-      are_classes =
-          (class_sound env known (length w.typed.classes) c t.0 (subst (λ n. class_typed env n c ≡ Ok t.0) q.1 t.1),
-          subst (λ n. AreClasses env n (classes_of is) go.classes) places go.are_classes);
+      are_classes = (
+        class_sound env known (length w.typed.classes) c t.0 (subst (λ n. class_typed env n c ≡ Ok t.0) q.1 t.1),
+        subst (λ n. AreClasses env n (classes_of is) go.classes) places go.are_classes,
+      );
       functions = go.functions;
       are_functions = go.are_functions;
       globals = go.globals;
@@ -167,24 +168,25 @@ items_sound env known (written.AnInterface i ∷ is) w after d few h =
     let q = room_sound i.place.at w.typed o.0 o.1 in
     let next : Walked = walked_with w (i.name ∷ []) 0 (t.0 ∷ []) [] [] [] in
     let step : m.0 ≡ next =
-        sym (ok_is _ m.0 t.2)
-        ∙ same_walked u.0 next.names _ _ _ _ _ _ _ _ s.1 refl (sym (append-nil w.typed.classes))
-        (sym (append-nil w.typed.functions)) (sym (append-nil w.typed.globals)) in
+    sym (ok_is _ m.0 t.2)
+    ∙ same_walked u.0 next.names _ _ _ _ _ _ _ _ s.1 refl (sym (append-nil w.typed.classes))
+    (sym (append-nil w.typed.functions)) (sym (append-nil w.typed.globals)) in
     let places = no_longer w.typed.classes in
     let longer = one_longer w.typed.interfaces t.0 in
     let below = q.0 in
     let go = items_sound env known is next after s.0.distinct (omega arith)
-        (subst (λ (x : Walked). items_typed env x is ≡ Ok after) step m.2) in
+    (subst (λ (x : Walked). items_typed env x is ≡ Ok after) step m.2) in
     let room = go.few in
     let k = length (variable_names (globals_of is)) in
     record {
       can = takes_then w.names (i.name ∷ []) (item_names is) 0 k k (omega arith) s.0 go.can;
       few = omega arith;
       interfaces = t.0 ∷ go.interfaces;
-      are_interfaces =
-          (interface_sound env (length w.typed.classes) i t.0 (subst (λ n. interface_typed env n i ≡ Ok t.0) q.1 t.1),
-          subst (λ n. AreInterfaces env (interfaces_of is) (classes_before n is) go.interfaces) places
-          go.are_interfaces);
+      are_interfaces = (
+        interface_sound env (length w.typed.classes) i t.0 (subst (λ n. interface_typed env n i ≡ Ok t.0) q.1 t.1),
+        subst (λ n. AreInterfaces env (interfaces_of is) (classes_before n is) go.interfaces) places
+            go.are_interfaces,
+      );
       classes = go.classes;
       are_classes = subst (λ n. AreClasses env n (classes_of is) go.classes) places go.are_classes;
       functions = go.functions;
@@ -203,13 +205,13 @@ items_sound env known (written.AFunction f ∷ is) w after d few h =
     let s = untaken_sound w.names f.place.at f.name u.0 d u.1 in
     let next : Walked = walked_with w (f.name ∷ []) 0 [] [] (t.0 ∷ []) [] in
     let step : m.0 ≡ next =
-        sym (ok_is _ m.0 t.2)
-        ∙ same_walked u.0 next.names _ _ _ _ _ _ _ _ s.1 (sym (append-nil w.typed.interfaces))
-        (sym (append-nil w.typed.classes)) refl (sym (append-nil w.typed.globals)) in
+    sym (ok_is _ m.0 t.2)
+    ∙ same_walked u.0 next.names _ _ _ _ _ _ _ _ s.1 (sym (append-nil w.typed.interfaces))
+    (sym (append-nil w.typed.classes)) refl (sym (append-nil w.typed.globals)) in
     let places = no_longer w.typed.classes in
     let same = no_longer w.typed.interfaces in
     let go = items_sound env known is next after s.0.distinct (omega arith)
-        (subst (λ (x : Walked). items_typed env x is ≡ Ok after) step m.2) in
+    (subst (λ (x : Walked). items_typed env x is ≡ Ok after) step m.2) in
     let room = go.few in
     let k = length (variable_names (globals_of is)) in
     record {
@@ -236,13 +238,13 @@ items_sound env known (written.AGlobal v ∷ is) w after d few h =
     let j = length v.decls in
     let next : Walked = walked_with w (names_of v) j [] [] [] (r.0.variables ∷ []) in
     let step : m.0 ≡ next =
-        sym (ok_is _ m.0 r.2)
-        ∙ same_walked r.0.names next.names _ _ _ _ _ _ _ _ g.taken (sym (append-nil w.typed.interfaces))
-        (sym (append-nil w.typed.classes)) (sym (append-nil w.typed.functions)) refl in
+    sym (ok_is _ m.0 r.2)
+    ∙ same_walked r.0.names next.names _ _ _ _ _ _ _ _ g.taken (sym (append-nil w.typed.interfaces))
+    (sym (append-nil w.typed.classes)) (sym (append-nil w.typed.functions)) refl in
     let places = no_longer w.typed.classes in
     let same = no_longer w.typed.interfaces in
     let go = items_sound env known is next after g.can.distinct (omega arith)
-        (subst (λ (x : Walked). items_typed env x is ≡ Ok after) step m.2) in
+    (subst (λ (x : Walked). items_typed env x is ≡ Ok after) step m.2) in
     let room = go.few in
     let k = length (variable_names (globals_of is)) in
     let count = count_names v (variable_names (globals_of is)) in
@@ -293,13 +295,13 @@ items_complete env known (written.AClass c ∷ is) w ts (t ∷ cs) fs vs can few
     (bind_is (room_for_type c.place.at w.typed) _ n next (room_complete c.place.at w.typed (omega arith))
     (bind_is (class_typed env n c) _ t next (class_complete env known n c t are_cs.0)
     (ap (λ (x : Walked). Ok x)
-        (same_walked next.names next.names _ _ _ _ _ _ _ _ refl (sym (append-nil w.typed.interfaces)) refl
-        (sym (append-nil w.typed.functions)) (sym (append-nil w.typed.globals)))))))
+    (same_walked next.names next.names _ _ _ _ _ _ _ _ refl (sym (append-nil w.typed.interfaces)) refl
+    (sym (append-nil w.typed.functions)) (sym (append-nil w.typed.globals)))))))
     (items_complete env known is next ts cs fs vs rest (omega arith)
-        (subst (λ n. AreInterfaces env (interfaces_of is) (classes_before n is) ts) (sym places) are_ts)
-        (subst (λ n. AreClasses env n (classes_of is) cs) (sym places) are_cs.1) are_fs are_vs
-        ∙ ap (λ (x : Walked). Ok x)
-        (walked_with-then w (c.name ∷ []) (item_names is) 0 k k [] ts (t ∷ []) cs [] fs [] vs (omega arith)))
+    (subst (λ n. AreInterfaces env (interfaces_of is) (classes_before n is) ts) (sym places) are_ts)
+    (subst (λ n. AreClasses env n (classes_of is) cs) (sym places) are_cs.1) are_fs are_vs
+    ∙ ap (λ (x : Walked). Ok x)
+    (walked_with-then w (c.name ∷ []) (item_names is) 0 k k [] ts (t ∷ []) cs [] fs [] vs (omega arith)))
 items_complete env known (written.AnInterface i ∷ is) w [] cs fs vs can few are_ts are_cs are_fs are_vs = absurd are_ts
 items_complete env known (written.AnInterface i ∷ is) w (t ∷ ts) cs fs vs can few are_ts are_cs are_fs are_vs =
     let k = length (variable_names (globals_of is)) in
@@ -314,13 +316,13 @@ items_complete env known (written.AnInterface i ∷ is) w (t ∷ ts) cs fs vs ca
     (bind_is (room_for_type i.place.at w.typed) _ n next (room_complete i.place.at w.typed (omega arith))
     (bind_is (interface_typed env n i) _ t next (interface_complete env n i t are_ts.0)
     (ap (λ (x : Walked). Ok x)
-        (same_walked next.names next.names _ _ _ _ _ _ _ _ refl refl (sym (append-nil w.typed.classes))
-        (sym (append-nil w.typed.functions)) (sym (append-nil w.typed.globals)))))))
+    (same_walked next.names next.names _ _ _ _ _ _ _ _ refl refl (sym (append-nil w.typed.classes))
+    (sym (append-nil w.typed.functions)) (sym (append-nil w.typed.globals)))))))
     (items_complete env known is next ts cs fs vs rest (omega arith)
-        (subst (λ n. AreInterfaces env (interfaces_of is) (classes_before n is) ts) (sym places) are_ts.1)
-        (subst (λ n. AreClasses env n (classes_of is) cs) (sym places) are_cs) are_fs are_vs
-        ∙ ap (λ (x : Walked). Ok x)
-        (walked_with-then w (i.name ∷ []) (item_names is) 0 k k (t ∷ []) ts [] cs [] fs [] vs (omega arith)))
+    (subst (λ n. AreInterfaces env (interfaces_of is) (classes_before n is) ts) (sym places) are_ts.1)
+    (subst (λ n. AreClasses env n (classes_of is) cs) (sym places) are_cs) are_fs are_vs
+    ∙ ap (λ (x : Walked). Ok x)
+    (walked_with-then w (i.name ∷ []) (item_names is) 0 k k (t ∷ []) ts [] cs [] fs [] vs (omega arith)))
 items_complete env known (written.AFunction f ∷ is) w ts cs [] vs can few are_ts are_cs are_fs are_vs = absurd are_fs
 items_complete env known (written.AFunction f ∷ is) w ts cs (t ∷ fs) vs can few are_ts are_cs are_fs are_vs =
     let k = length (variable_names (globals_of is)) in
@@ -334,15 +336,15 @@ items_complete env known (written.AFunction f ∷ is) w ts cs (t ∷ fs) vs can 
     (bind_is (result_typed env f.result) _ (result_in env f.result) next (result_complete env f.result is_f.passed)
     (bind_is (untaken w.names f.place.at f.name) _ next.names next (untaken_complete w.names f.place.at f.name first)
     (bind_is (routine_typed env (result_in env f.result) (routine_of f)) _ t next
-        (routine_complete env (result_in env f.result) (routine_of f) t is_f.routine)
+    (routine_complete env (result_in env f.result) (routine_of f) t is_f.routine)
     (ap (λ (x : Walked). Ok x)
-        (same_walked next.names next.names _ _ _ _ _ _ _ _ refl (sym (append-nil w.typed.interfaces))
-        (sym (append-nil w.typed.classes)) refl (sym (append-nil w.typed.globals)))))))
+    (same_walked next.names next.names _ _ _ _ _ _ _ _ refl (sym (append-nil w.typed.interfaces))
+    (sym (append-nil w.typed.classes)) refl (sym (append-nil w.typed.globals)))))))
     (items_complete env known is next ts cs fs vs rest (omega arith)
-        (subst (λ n. AreInterfaces env (interfaces_of is) (classes_before n is) ts) (sym places) are_ts)
-        (subst (λ n. AreClasses env n (classes_of is) cs) (sym places) are_cs) are_fs.1 are_vs
-        ∙ ap (λ (x : Walked). Ok x)
-        (walked_with-then w (f.name ∷ []) (item_names is) 0 k k [] ts [] cs (t ∷ []) fs [] vs (omega arith)))
+    (subst (λ n. AreInterfaces env (interfaces_of is) (classes_before n is) ts) (sym places) are_ts)
+    (subst (λ n. AreClasses env n (classes_of is) cs) (sym places) are_cs) are_fs.1 are_vs
+    ∙ ap (λ (x : Walked). Ok x)
+    (walked_with-then w (f.name ∷ []) (item_names is) 0 k k [] ts [] cs (t ∷ []) fs [] vs (omega arith)))
 items_complete env known (written.AGlobal v ∷ is) w ts cs fs [] can few are_ts are_cs are_fs are_vs = absurd are_vs
 items_complete env known (written.AGlobal v ∷ is) w ts cs fs (t ∷ vs) can few are_ts are_cs are_fs are_vs =
     let j = length v.decls in
@@ -356,10 +358,10 @@ items_complete env known (written.AGlobal v ∷ is) w ts cs fs (t ∷ vs) can fe
     bind_is (item_typed env w (written.AGlobal v)) _ next _
     (bind_is (vars_typed env w.names v) _ _ next (vars_complete env known w.names v t first are_vs.0)
     (ap (λ (x : Walked). Ok x)
-        (same_walked next.names next.names _ _ _ _ _ _ _ _ refl (sym (append-nil w.typed.interfaces))
-        (sym (append-nil w.typed.classes)) (sym (append-nil w.typed.functions)) refl)))
+    (same_walked next.names next.names _ _ _ _ _ _ _ _ refl (sym (append-nil w.typed.interfaces))
+    (sym (append-nil w.typed.classes)) (sym (append-nil w.typed.functions)) refl)))
     (items_complete env known is next ts cs fs vs rest (omega arith)
-        (subst (λ n. AreInterfaces env (interfaces_of is) (classes_before n is) ts) (sym places) are_ts)
-        (subst (λ n. AreClasses env n (classes_of is) cs) (sym places) are_cs) are_fs are_vs.1
-        ∙ ap (λ (x : Walked). Ok x)
-        (walked_with-then w (names_of v) (item_names is) j k _ [] ts [] cs [] fs (t ∷ []) vs count))
+    (subst (λ n. AreInterfaces env (interfaces_of is) (classes_before n is) ts) (sym places) are_ts)
+    (subst (λ n. AreClasses env n (classes_of is) cs) (sym places) are_cs) are_fs are_vs.1
+    ∙ ap (λ (x : Walked). Ok x)
+    (walked_with-then w (names_of v) (item_names is) j k _ [] ts [] cs [] fs (t ∷ []) vs count))

@@ -123,13 +123,13 @@ parameters_sound env (p ∷ ps) before after d h =
     (λ b e. absurd (no_err _ after e))
     (λ b e.
     let new : Distinct (map declared_name (before ++ v ∷ [])) =
-        subst Distinct (sym (one_more_name before v))
-        (distinct_push (map declared_name before) p.name d (sym (any_named p.name before) ∙ b)) in
+    subst Distinct (sym (one_more_name before v))
+    (distinct_push (map declared_name before) p.name d (sym (any_named p.name before) ∙ b)) in
     let go = parameters_sound env ps (before ++ v ∷ []) after new
-        (subst (λ (of : Ty). parameters_typed env (before ++ record { name = p.name; of = of } ∷ []) ps ≡ Ok after) s.1
-        e) in
+    (subst (λ (of : Ty). parameters_typed env (before ++ record { name = p.name; of = of } ∷ []) ps ≡ Ok after) s.1
+    e) in
     let there : Distinct ((map declared_name before ++ p.name ∷ []) ++ map parameter_name ps) =
-        subst (λ ns. Distinct (ns ++ map parameter_name ps)) (one_more_name before v) go.differ in
+    subst (λ ns. Distinct (ns ++ map parameter_name ps)) (one_more_name before v) go.differ in
     record {
       passed = (s.0, go.passed);
       differ = subst Distinct (append_assoc (map declared_name before) (p.name ∷ []) (map parameter_name ps)) there;
@@ -143,13 +143,13 @@ parameters_complete env [] before h d = ap (λ (vs : List Declared). Ok vs) (sym
 parameters_complete env (p ∷ ps) before h d =
     let v : Declared = parameter_of env p in
     let new : list_any (declares p.name) before ≡ false =
-        any_named p.name before ∙ distinct_new (map declared_name before) (map parameter_name ps) p.name d in
+    any_named p.name before ∙ distinct_new (map declared_name before) (map parameter_name ps) p.name d in
     let there : Distinct (map declared_name (before ++ v ∷ []) ++ map parameter_name ps) =
-        subst (λ ns. Distinct (ns ++ map parameter_name ps)) (sym (one_more_name before v))
-        (subst Distinct (sym (append_assoc (map declared_name before) (p.name ∷ []) (map parameter_name ps))) d) in
+    subst (λ ns. Distinct (ns ++ map parameter_name ps)) (sym (one_more_name before v))
+    (subst Distinct (sym (append_assoc (map declared_name before) (p.name ∷ []) (map parameter_name ps))) d) in
     bind_is (passed_ty p.of (ty_in env p.of)) _ (ty_in env p.of) _ (passed_complete p.of (ty_in env p.of) h.0)
     (rw new (parameters_complete env ps (before ++ v ∷ []) h.1 there
-        ∙ ap (λ (vs : List Declared). Ok vs) (append_assoc before (v ∷ []) (map (parameter_of env) ps))))
+    ∙ ap (λ (vs : List Declared). Ok vs) (append_assoc before (v ∷ []) (map (parameter_of env) ps))))
 
 pub types_of : (env : Environment) (ps : List written.Parameter)
     → map type_declared (map (parameter_of env) ps) ≡ map (type_of_parameter env) ps
@@ -222,8 +222,8 @@ routine_sound env known of known_of r typed h =
     let e = returning_sound r.place.at of r.body b.0 d.0 d.1 in
     let is = ok_is _ typed d.2 in
     let body : IsBody (with_locals env (map (parameter_of env) r.parameters)) of r.body b.0 =
-        body_sound _ of r.body b.0 (inside_known env r.parameters known s.passed) known_of
-        (subst (λ locals. body_typed (with_locals env locals) of r.body ≡ Ok b.0) s.is b.1) in
+    body_sound _ of r.body b.0 (inside_known env r.parameters known s.passed) known_of
+    (subst (λ locals. body_typed (with_locals env locals) of r.body ≡ Ok b.0) s.is b.1) in
     record {
       name = ap (λ (f : Function). f.name) (sym is);
       line = ap (λ (f : Function). f.line) (sym is);
@@ -248,11 +248,11 @@ routine_complete env of r typed is =
     let q = is.parameters in
     let locals = map (parameter_of env) r.parameters in
     bind_is (parameters_typed env [] r.parameters) _ locals _
-        (parameters_complete env r.parameters [] is.passed is.differ)
+    (parameters_complete env r.parameters [] is.passed is.differ)
     (bind_is (body_typed (with_locals env locals) of r.body) _ typed.body _
-        (body_complete (with_locals env locals) of r.body typed.body is.body)
+    (body_complete (with_locals env locals) of r.body typed.body is.body)
     (bind_is (returning r.place.at of r.body typed.body) _ typed.body _
-        (returning_complete r.place.at of r.body typed.body is.returns)
+    (returning_complete r.place.at of r.body typed.body is.returns)
     (ap (λ (f : Function). Ok f) (rw (sym n, sym l, sym t, types_of env r.parameters, sym q) refl))))
 
 pub result_sound : (env : Environment) (of : Option written.Named) (t : Ty) → result_typed env of ≡ Ok t

@@ -133,9 +133,9 @@ decls_sound env at of known known_of (x ∷ ds) row after d h =
     let s = placed_sound row.names x.place.at x.name p.0 d p.1 in
     let next : Row = row_with row (x.name ∷ []) 1 (v.0 ∷ []) in
     let there : decls_typed env at of next ds ≡ Ok after =
-        subst (λ (n : Names).
-        decls_typed env at of (record { names = n; variables = with_variable row.variables v.0 }) ds ≡ Ok after) s.1
-        v.2 in
+    subst (λ (n : Names).
+    decls_typed env at of (record { names = n; variables = with_variable row.variables v.0 }) ds ≡ Ok after) s.1
+    v.2 in
     let go = decls_sound env at of known known_of ds next after s.0.distinct there in
     record {
       can = takes_then row.names (x.name ∷ []) (map decl_name ds) 1 (length ds) (suc (length ds)) (omega arith) s.0
@@ -154,14 +154,14 @@ decls_complete env at of known known_of [] (v ∷ vs) row can each = absurd each
 decls_complete env at of known known_of (x ∷ ds) [] row can each = absurd each
 decls_complete env at of known known_of (x ∷ ds) (v ∷ vs) row can each =
     let first = takes_first row.names (x.name ∷ []) (map decl_name ds) 1 (length ds) (suc (length ds)) (omega arith)
-        can in
+    can in
     let rest = takes_rest row.names (x.name ∷ []) (map decl_name ds) 1 (length ds) (suc (length ds)) (omega arith)
-        can in
+    can in
     bind_is (placed row.names x.place.at x.name) _ (grown row.names (x.name ∷ []) 1) _
-        (placed_complete row.names x.place.at x.name first)
+    (placed_complete row.names x.place.at x.name first)
     (bind_is (decl_typed env at of x) _ v _ (declared_complete each.0 at)
     (decls_complete env at of known known_of ds vs (row_with row (x.name ∷ []) 1 (v ∷ [])) rest each.1
-        ∙ ap (λ (r : Row). Ok r) (row_with-then row x.name (map decl_name ds) (length ds) v vs)))
+    ∙ ap (λ (r : Row). Ok r) (row_with-then row x.name (map decl_name ds) (length ds) v vs)))
 
 -- the variables of one declaration
 
@@ -180,7 +180,7 @@ vars_sound env known names v after d h =
     let k = bind_ok (known_ty v.of (ty_in env v.of)) _ after h in
     let s = known_sound env v.of v.of k.0 k.1 in
     let there : decls_typed env (at_type v.of) (ty_in env v.of) (begun names v) v.decls ≡ Ok after =
-        subst (λ (of : Ty). decls_typed env (at_type v.of) of (begun names v) v.decls ≡ Ok after) s.1 k.2 in
+    subst (λ (of : Ty). decls_typed env (at_type v.of) of (begun names v) v.decls ≡ Ok after) s.1 k.2 in
     let go = decls_sound env (at_type v.of) (ty_in env v.of) known s.0 v.decls (begun names v) after d there in
     record {
       can = go.can;
@@ -201,4 +201,4 @@ vars_complete env known names v typed can are =
     let l = are.line in
     bind_is (known_ty v.of (ty_in env v.of)) _ (ty_in env v.of) _ (known_complete v.of (ty_in env v.of) are.variable)
     (decls_complete env (at_type v.of) (ty_in env v.of) known are.variable v.decls typed.values (begun names v) can
-        are.values ∙ ap (λ (r : Row). Ok r) (rw (sym l) refl))
+    are.values ∙ ap (λ (r : Row). Ok r) (rw (sym l) refl))

@@ -63,23 +63,23 @@ pub variable_type : (env : Environment) (text : List ℕ) → IfSome (variable_i
 unfolding variable_in
 variable_type env text =
     let local = if_map IsTyped
-        (λ (found : ℕ × Ty). (Read (Stored (variables.Local found.0 (var_type found.1))), found.1))
-        (last_named text 0 None env.locals) (if_all (last_named text 0 None env.locals) (λ found. refl)) in
+    (λ (found : ℕ × Ty). (Read (Stored (variables.Local found.0 (var_type found.1))), found.1))
+    (last_named text 0 None env.locals) (if_all (last_named text 0 None env.locals) (λ found. refl)) in
     let own = if_any IsTyped
-        (λ (c : ℕ × Class).
-        option_map (λ (found : Member × Ty). (Read (Held (This c.0) found.0), found.1)) (field_in c.0 c.1 text))
-        (this_class env)
-        (λ c. if_map IsTyped
-        (λ (found : Member × Ty). (Read (Held (This c.0) found.0), found.1)) (field_in c.0 c.1 text)
-        (if_weaker (field_in c.0 c.1 text)
-        (λ found h. ap (λ (of : VarType). value (as_value of)) h) (field_type c.0 c.1 text))) in
+    (λ (c : ℕ × Class).
+    option_map (λ (found : Member × Ty). (Read (Held (This c.0) found.0), found.1)) (field_in c.0 c.1 text))
+    (this_class env)
+    (λ c. if_map IsTyped
+    (λ (found : Member × Ty). (Read (Held (This c.0) found.0), found.1)) (field_in c.0 c.1 text)
+    (if_weaker (field_in c.0 c.1 text)
+    (λ found h. ap (λ (of : VarType). value (as_value of)) h) (field_type c.0 c.1 text))) in
     let global =
-        if_map IsTyped
-        (λ (found : ℕ × Declared). (Read (Stored (variables.Global found.0 (var_type found.1.of))), found.1.of))
-        (first_from (declares text) 0 env.heads.globals)
-        (if_all (first_from (declares text) 0 env.heads.globals) (λ found. refl)) in
+    if_map IsTyped
+    (λ (found : ℕ × Declared). (Read (Stored (variables.Global found.0 (var_type found.1.of))), found.1.of))
+    (first_from (declares text) 0 env.heads.globals)
+    (if_all (first_from (declares text) 0 env.heads.globals) (λ found. refl)) in
     if_or IsTyped (local_in env.locals text) (option_or (own_field_in env text) (global_in env.heads.globals text))
-        local (if_or IsTyped (own_field_in env text) (global_in env.heads.globals text) own global)
+    local (if_or IsTyped (own_field_in env text) (global_in env.heads.globals text) own global)
 
 service_type : (call : host.Call) → IfSome (service_function call) IsTypedCallee
 service_type (host.AFunction service id operation) = refl
@@ -101,49 +101,49 @@ pub callee_type : (env : Environment) (text : List ℕ) → IfSome (callee_in en
 unfolding callee_in
 callee_type env text =
     let own = if_any IsTypedCallee
-        (λ (c : ℕ × Class).
-        option_map (λ (found : ℕ × Function).
-        record {
-          target = callables.OwnMethod c.0 found.0 (result_type found.1.result);
-          result = found.1.result;
-          parameters = Some found.1.parameters;
-        }) (first_from (is_called text) 0 c.1.methods)) (this_class env)
-        (λ c. if_map IsTypedCallee
-        (λ (found : ℕ × Function).
-        record {
-          target = callables.OwnMethod c.0 found.0 (result_type found.1.result);
-          result = found.1.result;
-          parameters = Some found.1.parameters;
-        }) (first_from (is_called text) 0 c.1.methods)
-        (if_all (first_from (is_called text) 0 c.1.methods) (λ found. refl))) in
+    (λ (c : ℕ × Class).
+    option_map (λ (found : ℕ × Function).
+    record {
+      target = callables.OwnMethod c.0 found.0 (result_type found.1.result);
+      result = found.1.result;
+      parameters = Some found.1.parameters;
+    }) (first_from (is_called text) 0 c.1.methods)) (this_class env)
+    (λ c. if_map IsTypedCallee
+    (λ (found : ℕ × Function).
+    record {
+      target = callables.OwnMethod c.0 found.0 (result_type found.1.result);
+      result = found.1.result;
+      parameters = Some found.1.parameters;
+    }) (first_from (is_called text) 0 c.1.methods)
+    (if_all (first_from (is_called text) 0 c.1.methods) (λ found. refl))) in
     let function =
-        if_map IsTypedCallee
-        (λ (found : ℕ × Function).
-        record {
-          target = callables.Target (targets.Function found.0 (result_type found.1.result));
-          result = found.1.result;
-          parameters = Some found.1.parameters;
-        }) (first_from (is_called text) 0 env.heads.functions)
-        (if_all (first_from (is_called text) 0 env.heads.functions) (λ found. refl)) in
+    if_map IsTypedCallee
+    (λ (found : ℕ × Function).
+    record {
+      target = callables.Target (targets.Function found.0 (result_type found.1.result));
+      result = found.1.result;
+      parameters = Some found.1.parameters;
+    }) (first_from (is_called text) 0 env.heads.functions)
+    (if_all (first_from (is_called text) 0 env.heads.functions) (λ found. refl)) in
     let service = if_any IsTypedCallee service_function (named_in env.registered text) service_type in
     let class = if_map IsTypedCallee
-        (λ (found : ℕ × Class).
-        record {
-          target = callables.Target (targets.Class found.0);
-          result = ty.Handle (OfClass found.0);
-          parameters = Some found.1.parameters;
-        }) (first_from (is_class text) 0 env.heads.classes)
-        (if_all (first_from (is_class text) 0 env.heads.classes) (λ found. refl)) in
+    (λ (found : ℕ × Class).
+    record {
+      target = callables.Target (targets.Class found.0);
+      result = ty.Handle (OfClass found.0);
+      parameters = Some found.1.parameters;
+    }) (first_from (is_class text) 0 env.heads.classes)
+    (if_all (first_from (is_class text) 0 env.heads.classes) (λ found. refl)) in
     let kind = if_any IsTypedCallee (host_type env.registered) (named_in env.registered text)
-        (host_result env.registered) in
+    (host_result env.registered) in
     if_or IsTypedCallee (own_method_in env text)
-        (option_or (function_in env.heads.functions text) (callee_beside env text)) own
-        (if_or IsTypedCallee (function_in env.heads.functions text) (callee_beside env text) function
-        (if_or IsTypedCallee (option_and_then service_function (named_in env.registered text))
-        (option_or (class_in env.heads.classes text)
-        (option_and_then (host_type env.registered) (named_in env.registered text))) service
-        (if_or IsTypedCallee (class_in env.heads.classes text)
-        (option_and_then (host_type env.registered) (named_in env.registered text)) class kind)))
+    (option_or (function_in env.heads.functions text) (callee_beside env text)) own
+    (if_or IsTypedCallee (function_in env.heads.functions text) (callee_beside env text) function
+    (if_or IsTypedCallee (option_and_then service_function (named_in env.registered text))
+    (option_or (class_in env.heads.classes text)
+    (option_and_then (host_type env.registered) (named_in env.registered text))) service
+    (if_or IsTypedCallee (class_in env.heads.classes text)
+    (option_and_then (host_type env.registered) (named_in env.registered text)) class kind)))
 
 array_method_type : (of : Element) (m : ArrayMethod) → IsTypedMethod (array_method_of of m)
 array_method_type of arrays.Length = refl

@@ -225,8 +225,11 @@ method_is : (env : Environment) (at b : ℕ) (t : Term) (text : List ℕ) (es : 
     ≡ Ok (placed b (term m.result (Invoke t.tree m.method (map var_type m.parameters) trees)))
 unfolding invoked
 method_is env at b t text es o m us trees h i e a =
-    rw (object_method env at (placed b t) t.ty text o m h i, e,
-    arguments_is env.heads.classes at m.parameters us trees a) refl
+    rw (
+      object_method env at (placed b t) t.ty text o m h i,
+      e,
+      arguments_is env.heads.classes at m.parameters us trees a,
+    ) refl
 
 -- arrays and handles
 

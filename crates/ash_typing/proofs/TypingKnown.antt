@@ -202,22 +202,22 @@ unfolding variable_in
 variable_known env text known =
     let Q : Known → Type 0 = λ found. IsVariableType found.1 in
     let local = if_map Q
-        (λ (found : ℕ × Ty). (Read (Stored (variables.Local found.0 (var_type found.1))), found.1))
-        (last_named text 0 None env.locals) (if_last text 0 None env.locals known.locals tt) in
+    (λ (found : ℕ × Ty). (Read (Stored (variables.Local found.0 (var_type found.1))), found.1))
+    (last_named text 0 None env.locals) (if_last text 0 None env.locals known.locals tt) in
     let own = if_then (λ (c : ℕ × Class). IsKnownClass c.1) Q
-        (λ (c : ℕ × Class).
-        option_map (λ (found : Member × Ty). (Read (Held (This c.0) found.0), found.1)) (field_in c.0 c.1 text))
-        (this_class env)
-        (λ c h. if_map Q
-        (λ (found : Member × Ty). (Read (Held (This c.0) found.0), found.1)) (field_in c.0 c.1 text)
-        (field_known c.0 c.1 text h)) (class_known env known) in
+    (λ (c : ℕ × Class).
+    option_map (λ (found : Member × Ty). (Read (Held (This c.0) found.0), found.1)) (field_in c.0 c.1 text))
+    (this_class env)
+    (λ c h. if_map Q
+    (λ (found : Member × Ty). (Read (Held (This c.0) found.0), found.1)) (field_in c.0 c.1 text)
+    (field_known c.0 c.1 text h)) (class_known env known) in
     let global =
-        if_map Q (λ (found : ℕ × Declared).
-        (Read (Stored (variables.Global found.0 (var_type found.1.of))), found.1.of))
-        (first_from (declares text) 0 env.heads.globals)
-        (if_first IsKnownVariable (declares text) 0 env.heads.globals known.globals) in
+    if_map Q (λ (found : ℕ × Declared).
+    (Read (Stored (variables.Global found.0 (var_type found.1.of))), found.1.of))
+    (first_from (declares text) 0 env.heads.globals)
+    (if_first IsKnownVariable (declares text) 0 env.heads.globals known.globals) in
     if_or Q (local_in env.locals text) (option_or (own_field_in env text) (global_in env.heads.globals text)) local
-        (if_or Q (own_field_in env text) (global_in env.heads.globals text) own global)
+    (if_or Q (own_field_in env text) (global_in env.heads.globals text) own global)
 
 function_known : (text : List ℕ) (fs : List Function) → AllByRecursion IsKnownFunction fs
     → IfSome (first_from (is_called text) 0 fs) (λ found. IsResultType found.1.result)
@@ -248,46 +248,46 @@ unfolding callee_in
 callee_known env text known =
     let Q : Callee → Type 0 = λ callee. IsResultType callee.result in
     let own = if_then (λ (c : ℕ × Class). IsKnownClass c.1) Q
-        (λ (c : ℕ × Class).
-        option_map (λ (found : ℕ × Function).
-        record {
-          target = callables.OwnMethod c.0 found.0 (result_type found.1.result);
-          result = found.1.result;
-          parameters = Some found.1.parameters;
-        }) (first_from (is_called text) 0 c.1.methods)) (this_class env)
-        (λ c h. if_map Q
-        (λ (found : ℕ × Function).
-        record {
-          target = callables.OwnMethod c.0 found.0 (result_type found.1.result);
-          result = found.1.result;
-          parameters = Some found.1.parameters;
-        }) (first_from (is_called text) 0 c.1.methods) (function_known text c.1.methods h.methods))
-        (class_known env known) in
+    (λ (c : ℕ × Class).
+    option_map (λ (found : ℕ × Function).
+    record {
+      target = callables.OwnMethod c.0 found.0 (result_type found.1.result);
+      result = found.1.result;
+      parameters = Some found.1.parameters;
+    }) (first_from (is_called text) 0 c.1.methods)) (this_class env)
+    (λ c h. if_map Q
+    (λ (found : ℕ × Function).
+    record {
+      target = callables.OwnMethod c.0 found.0 (result_type found.1.result);
+      result = found.1.result;
+      parameters = Some found.1.parameters;
+    }) (first_from (is_called text) 0 c.1.methods) (function_known text c.1.methods h.methods))
+    (class_known env known) in
     let function =
-        if_map Q (λ (found : ℕ × Function).
-        record {
-          target = callables.Target (targets.Function found.0 (result_type found.1.result));
-          result = found.1.result;
-          parameters = Some found.1.parameters;
-        }) (first_from (is_called text) 0 env.heads.functions)
-        (function_known text env.heads.functions known.functions) in
+    if_map Q (λ (found : ℕ × Function).
+    record {
+      target = callables.Target (targets.Function found.0 (result_type found.1.result));
+      result = found.1.result;
+      parameters = Some found.1.parameters;
+    }) (first_from (is_called text) 0 env.heads.functions)
+    (function_known text env.heads.functions known.functions) in
     let service = if_any Q service_function (named_in env.registered text) service_known in
     let class = if_map Q
-        (λ (found : ℕ × Class).
-        record {
-          target = callables.Target (targets.Class found.0);
-          result = ty.Handle (OfClass found.0);
-          parameters = Some found.1.parameters;
-        }) (first_from (is_class text) 0 env.heads.classes)
-        (if_all (first_from (is_class text) 0 env.heads.classes) (λ found. refl)) in
+    (λ (found : ℕ × Class).
+    record {
+      target = callables.Target (targets.Class found.0);
+      result = ty.Handle (OfClass found.0);
+      parameters = Some found.1.parameters;
+    }) (first_from (is_class text) 0 env.heads.classes)
+    (if_all (first_from (is_class text) 0 env.heads.classes) (λ found. refl)) in
     let kind = if_any Q (host_type env.registered) (named_in env.registered text) (host_known env.registered) in
     if_or Q (own_method_in env text) (option_or (function_in env.heads.functions text) (callee_beside env text)) own
-        (if_or Q (function_in env.heads.functions text) (callee_beside env text) function
-        (if_or Q (option_and_then service_function (named_in env.registered text))
-        (option_or (class_in env.heads.classes text)
-        (option_and_then (host_type env.registered) (named_in env.registered text))) service
-        (if_or Q (class_in env.heads.classes text)
-        (option_and_then (host_type env.registered) (named_in env.registered text)) class kind)))
+    (if_or Q (function_in env.heads.functions text) (callee_beside env text) function
+    (if_or Q (option_and_then service_function (named_in env.registered text))
+    (option_or (class_in env.heads.classes text)
+    (option_and_then (host_type env.registered) (named_in env.registered text))) service
+    (if_or Q (class_in env.heads.classes text)
+    (option_and_then (host_type env.registered) (named_in env.registered text)) class kind)))
 
 array_result_known : (of : Element) (m : ArrayMethod) → IsResultType (array_method_of of m).result
 array_result_known of arrays.Length = refl

@@ -64,7 +64,7 @@ plain_sound env left p e v t u r d f h =
     let tree = bind_ok (fitted env.heads.classes t.ty u) (λ e. Ok (made t.at t.ty (Assign a.0 e))) r ((a.2).1) in
     let fit = fitted_ok env.heads.classes t.ty u tree.0 tree.1 in
     at_ok (λ r. HasType env left (written.Assign p e assigns.Assign v) (term_of r)) (made t.at t.ty (Assign a.0 tree.0))
-        r tree.2 (rw (← fit.1) (assign d a.1 ((a.2).0) f fit.0))
+    r tree.2 (rw (← fit.1) (assign d a.1 ((a.2).0) f fit.0))
 
 update_sound : (env : Environment) (left : Bool) (p : place.Place) (op : AssignOp) (c : Calculator) (e v : written.Expr)
     (t u r : Typed) → operator_of op ≡ Some c → HasType env false e (term_of t) → HasType env false v (term_of u)
@@ -74,36 +74,36 @@ unfolding assigned stored
 update_sound env left p op c e v t u r is d f known as_value h =
     let a = assigned_ok env.heads.classes t u op (assignable t.form t.tree) r h in
     let whole : updated t.at t.ty a.0 c u ≡ Ok r =
-        subst (λ q. stored env.heads.classes t.at t.ty a.0 q u ≡ Ok r) is ((a.2).1) in
+    subst (λ q. stored env.heads.classes t.at t.ty a.0 q u ≡ Ok r) is ((a.2).1) in
     let m = bind_ok (met (binary_of c) (made t.at t.ty Null) u)
-        (λ m. integer_of t.at t.ty
-        >>= λ k. Ok (made t.at (ty.Integer k)
-        (Update a.0 k (record { operator = c; of = integers_in m.operands }) m.right))) r whole in
+    (λ m. integer_of t.at t.ty
+    >>= λ k. Ok (made t.at (ty.Integer k)
+    (Update a.0 k (record { operator = c; of = integers_in m.operands }) m.right))) r whole in
     let k = bind_ok (integer_of t.at t.ty)
-        (λ k. Ok (made t.at (ty.Integer k)
-        (Update a.0 k (record { operator = c; of = integers_in (m.0).operands }) (m.0).right))) r m.2 in
+    (λ k. Ok (made t.at (ty.Integer k)
+    (Update a.0 k (record { operator = c; of = integers_in (m.0).operands }) (m.0).right))) r m.2 in
     let i = integer_ok t.at t.ty k.0 known k.1 in
     let n = met_ok (binary_of c) (made t.at t.ty Null) u m.0 known as_value m.1 in
     let integers : n.0 ≡ operands.Integers (integers_in n.0) = calculated_integers c _ _ n.0 n.1 in
     let rule = update is d a.1 ((a.2).0) i f
-        (subst (λ (o : Operands). Meet (binary_of c) (term t.ty Null) (term_of u) o) integers n.1) in
+    (subst (λ (o : Operands). Meet (binary_of c) (term t.ty Null) (term_of u) o) integers n.1) in
     let back = subst
-        (λ (o : Operands).
-        HasType env left (written.Assign p e op v)
-        (term t.ty (Update a.0 k.0 (record { operator = c; of = integers_in n.0 })
-        (right_of (binary_of c) o (term t.ty Null) (term_of u))))) (sym integers) rule in
+    (λ (o : Operands).
+    HasType env left (written.Assign p e op v)
+    (term t.ty (Update a.0 k.0 (record { operator = c; of = integers_in n.0 })
+    (right_of (binary_of c) o (term t.ty Null) (term_of u))))) (sym integers) rule in
     let kind = subst
-        (λ of. HasType env left (written.Assign p e op v)
-        (term of (Update a.0 k.0 (record { operator = c; of = integers_in n.0 })
-        (right_of (binary_of c) n.0 (term t.ty Null) (term_of u))))) i back in
+    (λ of. HasType env left (written.Assign p e op v)
+    (term of (Update a.0 k.0 (record { operator = c; of = integers_in n.0 })
+    (right_of (binary_of c) n.0 (term t.ty Null) (term_of u))))) i back in
     let all = subst
-        (λ (m : Met).
-        HasType env left (written.Assign p e op v)
-        (term (ty.Integer k.0) (Update a.0 k.0 (record { operator = c; of = integers_in m.operands }) m.right))) n.2
-        kind in
+    (λ (m : Met).
+    HasType env left (written.Assign p e op v)
+    (term (ty.Integer k.0) (Update a.0 k.0 (record { operator = c; of = integers_in m.operands }) m.right))) n.2
+    kind in
     at_ok (λ r. HasType env left (written.Assign p e op v) (term_of r))
-        (made t.at (ty.Integer k.0)
-        (Update a.0 k.0 (record { operator = c; of = integers_in (m.0).operands }) (m.0).right)) r k.2 all
+    (made t.at (ty.Integer k.0)
+    (Update a.0 k.0 (record { operator = c; of = integers_in (m.0).operands }) (m.0).right)) r k.2 all
 
 assign_sound : (env : Environment) (left : Bool) (p : place.Place) (op : AssignOp) (e v : written.Expr) (t u r : Typed)
     → HasType env (is_assign op) e (term_of t) → HasType env false v (term_of u) → is_known t.ty ≡ true
@@ -150,17 +150,17 @@ method_sound : (env : Environment) (t : Typed) (p : place.Place) (text : List �
 unfolding invoked
 method_sound env t p text es r known all h =
     let m = bind_ok (method_of env t t.ty p.at text)
-        (λ m. all_typed env es >>= λ ts. invoked env.heads.classes t p.at ts m) r h in
+    (λ m. all_typed env es >>= λ ts. invoked env.heads.classes t p.at ts m) r h in
     let i = method_ok env t t.ty p.at text m.0 known m.1 in
     let a = bind_ok (all_typed env es) (λ ts. invoked env.heads.classes t p.at ts m.0) r m.2 in
     let found = (i.2).0 in
     let called : invoked env.heads.classes t p.at a.0 (Some found) ≡ Ok r =
-        subst (λ m. invoked env.heads.classes t p.at a.0 m ≡ Ok r) (sym ((i.2).2)) a.2 in
+    subst (λ m. invoked env.heads.classes t p.at a.0 m ≡ Ok r) (sym ((i.2).2)) a.2 in
     let b = bind_ok (arguments_at env.heads.classes p.at found.parameters a.0)
-        (λ es. Ok (made t.at found.result (Invoke t.tree found.method (map var_type found.parameters) es))) r called in
+    (λ es. Ok (made t.at found.result (Invoke t.tree found.method (map var_type found.parameters) es))) r called in
     at_ok (λ r. SuffixHasType env (term_of t) (written.Method p text es) (term_of r))
-        (made t.at found.result (Invoke t.tree found.method (map var_type found.parameters) b.0)) r b.2
-        (method i.1 ((i.2).1) (all a.0 a.1) (arguments_ok env.heads.classes p.at found.parameters a.0 b.0 b.1))
+    (made t.at found.result (Invoke t.tree found.method (map var_type found.parameters) b.0)) r b.2
+    (method i.1 ((i.2).1) (all a.0 a.1) (arguments_ok env.heads.classes p.at found.parameters a.0 b.0 b.1))
 
 -- the walk
 
@@ -192,11 +192,11 @@ mutual
   sound env known left (written.NewArray p of es) r h = array_sound env left p of es r (all_sound env known es) h
   sound env known left (written.Cast p to e) r h =
       let o = bind_ok (cast_type to.place.at (object_named env.registered env.heads to.name))
-          (λ o. typed env false e >>= λ t. cast_at p.at o t) r h in
+      (λ o. typed env false e >>= λ t. cast_at p.at o t) r h in
       let c = cast_type_ok to.place.at (object_named env.registered env.heads to.name) o.0 o.1 in
       walked env false e
-          (λ t. cast_at p.at o.0 t) r (HasType env left (written.Cast p to e) (term_of r)) known
-          (sound env known false e) o.2 (λ u d k g. cast_sound env left p to e o.0 u r c.0 c.1 d k g)
+      (λ t. cast_at p.at o.0 t) r (HasType env left (written.Cast p to e) (term_of r)) known
+      (sound env known false e) o.2 (λ u d k g. cast_sound env left p to e o.0 u r c.0 c.1 d k g)
   sound env known left (written.Postfix p e ss) r h =
       walked env false e
       (λ t. suffixes_typed env t ss) r (HasType env left (written.Postfix p e ss) (term_of r)) known
@@ -212,20 +212,20 @@ mutual
   sound env known left (written.Conditional p c a b) r h =
       let Q : Type 0 = HasType env left (written.Conditional p c a b) (term_of r) in
       walked env false c
-          (λ t. typed env false a >>= λ x. typed env false b >>= λ y. choice t x y) r Q known (sound env known false c)
-          h (λ t d k g.
+      (λ t. typed env false a >>= λ x. typed env false b >>= λ y. choice t x y) r Q known (sound env known false c)
+      h (λ t d k g.
       walked env false a (λ x. typed env false b >>= λ y. choice t x y) r Q known (sound env known false a) g
-          (λ x f l i.
+      (λ x f l i.
       walked env false b (λ y. choice t x y) r Q known (sound env known false b) i (λ y j m n.
-          conditional_sound env left p c a b t x y r d f j k n)))
+      conditional_sound env left p c a b t x y r d f j k n)))
   sound env known left (written.Assign p e op v) r h =
       let Q : Type 0 = HasType env left (written.Assign p e op v) (term_of r) in
       walked env (is_assign op) e
-          (λ target. typed env false v >>= λ value. assigned env.heads.classes target op value) r Q known
-          (sound env known (is_assign op) e) h (λ t d k g.
+      (λ target. typed env false v >>= λ value. assigned env.heads.classes target op value) r Q known
+      (sound env known (is_assign op) e) h (λ t d k g.
       walked env false v
-          (λ value. assigned env.heads.classes t op value) r Q known (sound env known false v) g (λ u f l i.
-          assign_sound env left p op e v t u r d f k l i))
+      (λ value. assigned env.heads.classes t op value) r Q known (sound env known false v) g (λ u f l i.
+      assign_sound env left p op e v t u r d f k l i))
 
   pub all_sound : (env : Environment) → IsKnown env → (es : written.Exprs) → AllSound env es
   all_sound env known written.no_expr us h = at_ok (λ us. AllHaveType env written.no_expr (terms us)) [] us h none_left
@@ -233,7 +233,7 @@ mutual
       let t = bind_ok (typed env false e) (λ t. all_typed env es >>= λ ts. Ok (t ∷ ts)) us h in
       let ts = bind_ok (all_typed env es) (λ ts. Ok (t.0 ∷ ts)) us t.2 in
       at_ok (λ us. AllHaveType env (written.expr e es) (terms us)) (t.0 ∷ ts.0) us ts.2
-          (each (sound env known false e t.0 t.1) (all_sound env known es ts.0 ts.1))
+      (each (sound env known false e t.0 t.1) (all_sound env known es ts.0 ts.1))
 
   links_sound : (env : Environment) → IsKnown env → (ls : written.Links) (t r : Typed) → is_known t.ty ≡ true
       → links_typed env t ls ≡ Ok r → LinksHaveType env (term_of t) ls (term_of r)

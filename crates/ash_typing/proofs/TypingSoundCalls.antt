@@ -77,13 +77,13 @@ all_fitted_ok classes [] (t ∷ ts) trees n h = cc
 all_fitted_ok classes (of ∷ parameters) [] trees n h = cc
 all_fitted_ok classes (of ∷ parameters) (t ∷ ts) trees n h =
     let first = bind_ok (fitted classes of t)
-        (λ e. all_fitted classes parameters ts >>= λ es. Ok (expr e es)) trees h in
+    (λ e. all_fitted classes parameters ts >>= λ es. Ok (expr e es)) trees h in
     let rest = bind_ok (all_fitted classes parameters ts) (λ es. Ok (expr first.0 es)) trees first.2 in
     let fit = fitted_ok classes of t first.0 first.1 in
     at_ok (λ trees. AreArguments classes (of ∷ parameters) (term_of t ∷ terms ts) trees) (expr first.0 rest.0) trees
-        rest.2 (subst
-        (λ x. AreArguments classes (of ∷ parameters) (term_of t ∷ terms ts) (expr x rest.0)) fit.1
-        (argument fit.0 (all_fitted_ok classes parameters ts rest.0 (ap pred n) rest.1)))
+    rest.2 (subst
+    (λ x. AreArguments classes (of ∷ parameters) (term_of t ∷ terms ts) (expr x rest.0)) fit.1
+    (argument fit.0 (all_fitted_ok classes parameters ts rest.0 (ap pred n) rest.1)))
 
 pub arguments_ok : (classes : List Class) (at : ℕ) (parameters : List Ty) (ts : List Typed) (trees : Exprs)
     → arguments_at classes at parameters ts ≡ Ok trees → AreArguments classes parameters (terms ts) trees
@@ -125,9 +125,11 @@ pub called_with : (classes : List Class) (at : ℕ) (callee : Callee) (ts : List
 unfolding called
 called_with classes at callee ts ps r h =
     let a = bind_ok (arguments_at classes at ps ts)
-        (λ es. Ok (made at callee.result (call_of callee.target (map var_type ps) es))) r h in
-    (a.0, arguments_ok classes at ps ts a.0 a.1,
-        same_ok (made at callee.result (call_of callee.target (map var_type ps) a.0)) r a.2)
+    (λ es. Ok (made at callee.result (call_of callee.target (map var_type ps) es))) r h in (
+      a.0,
+      arguments_ok classes at ps ts a.0 a.1,
+      same_ok (made at callee.result (call_of callee.target (map var_type ps) a.0)) r a.2,
+    )
 
 pub called_ok : (classes : List Class) (at : ℕ) (callee : Callee) (ts : List Typed) (parameters : Option (List Ty))
     (r : Typed) → called classes at callee ts parameters ≡ Ok r
@@ -147,11 +149,11 @@ pub call_sound : (env : Environment) (left : Bool) (p : place.Place) (text : Lis
     → HasType env left (written.Call p text es) (term_of r)
 call_sound env left p text es r all h =
     let c = bind_ok (callee_at p.at (callee_in env text))
-        (λ callee. all_typed env es >>= λ ts. called env.heads.classes p.at callee ts callee.parameters) r h in
+    (λ callee. all_typed env es >>= λ ts. called env.heads.classes p.at callee ts callee.parameters) r h in
     let a = bind_ok (all_typed env es) (λ ts. called env.heads.classes p.at c.0 ts (c.0).parameters) r c.2 in
     let d = called_ok env.heads.classes p.at c.0 a.0 (c.0).parameters r a.2 in
     subst (λ r. HasType env left (written.Call p text es) (term_of r)) ((d.2).2)
-        (call (callee_ok p.at (callee_in env text) c.0 c.1) d.1 (all a.0 a.1) ((d.2).1))
+    (call (callee_ok p.at (callee_in env text) c.0 c.1) d.1 (all a.0 a.1) ((d.2).1))
 
 pub brackets_sound : (env : Environment) (left : Bool) (p : place.Place) (e : written.Expr) (r : Typed)
     → Sound env false e
@@ -159,7 +161,7 @@ pub brackets_sound : (env : Environment) (left : Bool) (p : place.Place) (e : wr
 brackets_sound env left p e r sound h =
     let a = bind_ok (typed env false e) (λ t. Ok (in_brackets p.at t)) r h in
     at_ok (λ r. HasType env left (written.Brackets p e) (term_of r)) (in_brackets p.at a.0) r a.2
-        (brackets (sound a.0 a.1))
+    (brackets (sound a.0 a.1))
 
 to_integer_sound : (env : Environment) (left : Bool) (p : place.Place) (to : Primitive) (k : Kind) (e : written.Expr)
     (u r : Typed) → HasType env false e (term_of u) → is_known u.ty ≡ true → ty_of to ≡ ty.Integer k
@@ -167,7 +169,7 @@ to_integer_sound : (env : Environment) (left : Bool) (p : place.Place) (to : Pri
 to_integer_sound env left p to k e u r d known is h =
     let j = bind_ok (integer_of u.at u.ty) (λ j. Ok (integer_at p.at k u)) r h in
     at_ok (λ r. HasType env left (written.Convert p to e) (term_of r)) (integer_at p.at k u) r j.2
-        (to_integer d is (integer_ok u.at u.ty j.0 known j.1))
+    (to_integer d is (integer_ok u.at u.ty j.0 known j.1))
 
 pub convert_sound : (env : Environment) (left : Bool) (p : place.Place) (to : Primitive) (e : written.Expr)
     (u r : Typed)
@@ -177,7 +179,7 @@ unfolding convert_at
 convert_sound env left p primitives.Bool e u r d known h =
     let b = bind_ok (bool_of u.at u.ty) (λ yes. Ok (made p.at ty.Bool u.tree)) r h in
     at_ok (λ r. HasType env left (written.Convert p primitives.Bool e) (term_of r)) (made p.at ty.Bool u.tree) r b.2
-        (to_bool d refl (bool_ok u.at u.ty b.0 known b.1))
+    (to_bool d refl (bool_ok u.at u.ty b.0 known b.1))
 convert_sound env left p _ e u r d known h = to_integer_sound env left p _ _ e u r d known refl h
 
 -- arrays
@@ -205,17 +207,17 @@ pub array_sound : (env : Environment) (left : Bool) (p : place.Place) (of : writ
     → HasType env left (written.NewArray p of es) (term_of r)
 array_sound env left p of es r all h =
     let e = bind_ok (known_element (at_element of) (element_named env.registered env.heads of))
-        (λ e. all_typed env es
-        >>= λ ts. called env.heads.classes p.at (array_built e (length ts)) ts (Some (array_parameters (length ts)))) r
-        h in
+    (λ e. all_typed env es
+    >>= λ ts. called env.heads.classes p.at (array_built e (length ts)) ts (Some (array_parameters (length ts)))) r
+    h in
     let a = bind_ok (all_typed env es)
-        (λ ts. called env.heads.classes p.at (array_built e.0 (length ts)) ts (Some (array_parameters (length ts)))) r
-        e.2 in
+    (λ ts. called env.heads.classes p.at (array_built e.0 (length ts)) ts (Some (array_parameters (length ts)))) r
+    e.2 in
     let d = called_with env.heads.classes p.at (array_built e.0 (length a.0)) a.0 (array_parameters (length a.0)) r
-        a.2 in
+    a.2 in
     subst (λ r. HasType env left (written.NewArray p of es) (term_of r)) d.2
-        (array_by env left p of es e.0 (terms a.0) (length a.0) d.0 (length-map a.0 term_of)
-        (element_ok (at_element of) (element_named env.registered env.heads of) e.0 e.1) (all a.0 a.1) d.1)
+    (array_by env left p of es e.0 (terms a.0) (length a.0) d.0 (length-map a.0 term_of)
+    (element_ok (at_element of) (element_named env.registered env.heads of) e.0 e.1) (all a.0 a.1) d.1)
 
 index_object_ok : (t i : Typed) (o : ObjectType) (r : Typed) → is_known i.ty ≡ true → indexed_object t i o ≡ Ok r
     → (e : Element) × (o ≡ objects.Array e)
@@ -224,9 +226,15 @@ index_object_ok : (t i : Typed) (o : ObjectType) (r : Typed) → is_known i.ty �
 index_object_ok t i (objects.Array e) r known h =
     let x = bind_ok (index_in i) (λ index. Ok (read_at t.at (ty_of_element e) (Read (Indexed t.tree index e)))) r h in
     let k = bind_ok (integer_of i.at i.ty) (λ k. Ok (brought (ty.Integer kinds.Uint) i)) x.0 x.1 in
-    let tree = same_ok (brought (ty.Integer kinds.Uint) i) x.0 k.2 in
-    (e, refl, (k.0, integer_ok i.at i.ty k.0 known k.1,
-        ap (λ (index : Expr). read_at t.at (ty_of_element e) (Read (Indexed t.tree index e))) tree ∙ same_ok _ r x.2))
+    let tree = same_ok (brought (ty.Integer kinds.Uint) i) x.0 k.2 in (
+      e,
+      refl,
+      (
+        k.0,
+        integer_ok i.at i.ty k.0 known k.1,
+        ap (λ (index : Expr). read_at t.at (ty_of_element e) (Read (Indexed t.tree index e))) tree ∙ same_ok _ r x.2,
+      ),
+    )
 index_object_ok t i _ r known h = absurd (no_fault _ r h)
 
 pub index_ok : (t i : Typed) (of : Ty) (r : Typed) → is_known of ≡ true → is_known i.ty ≡ true → indexed t of i ≡ Ok r
@@ -246,9 +254,10 @@ pub cast_type_ok : (at : ℕ) (found : Option ObjectType) (o : ObjectType) → c
 cast_type_ok at None o h = absurd (no_fault _ o h)
 cast_type_ok at (Some (objects.Class class)) o h =
     (ap Some (same_ok (objects.Class class) o h), at_ok IsCastType (objects.Class class) o h to_class)
-cast_type_ok at (Some (objects.Interface interface)) o h =
-    (ap Some (same_ok (objects.Interface interface) o h),
-    at_ok IsCastType (objects.Interface interface) o h to_interface)
+cast_type_ok at (Some (objects.Interface interface)) o h = (
+  ap Some (same_ok (objects.Interface interface) o h),
+  at_ok IsCastType (objects.Interface interface) o h to_interface,
+)
 cast_type_ok at (Some _) o h = absurd (no_fault _ o h)
 
 pub cast_sound : (env : Environment) (left : Bool) (p : place.Place) (to : written.TypeName) (e : written.Expr)
@@ -260,4 +269,4 @@ cast_sound env left p to e o u r n c d known h =
     let t = bind_ok (handle_of u.at u.ty) (λ h. Ok (made p.at (ty.Handle o) (Cast o u.tree))) r h in
     let from = object_ok u.at u.ty t.0 known t.1 in
     at_ok (λ r. HasType env left (written.Cast p to e) (term_of r)) (made p.at (ty.Handle o) (Cast o u.tree)) r t.2
-        (cast n c d from.1)
+    (cast n c d from.1)

@@ -36,9 +36,11 @@ pub counted_ok : (at : ℕ) (step : Step) (u : Typed) (found : Option Place) (r 
 unfolding counted
 counted_ok at step u None r known h = absurd (no_fault _ r h)
 counted_ok at step u (Some target) r known h =
-    let k = bind_ok (integer_of u.at u.ty) (λ k. Ok (made at (ty.Integer k) (Count target k step))) r h in
-    (target, refl,
-        (k.0, integer_ok u.at u.ty k.0 known k.1, same_ok (made at (ty.Integer k.0) (Count target k.0 step)) r k.2))
+    let k = bind_ok (integer_of u.at u.ty) (λ k. Ok (made at (ty.Integer k) (Count target k step))) r h in (
+      target,
+      refl,
+      (k.0, integer_ok u.at u.ty k.0 known k.1, same_ok (made at (ty.Integer k.0) (Count target k.0 step)) r k.2),
+    )
 
 handle_sound : (env : Environment) (left : Bool) (p : place.Place) (e : written.Expr) (u r : Typed)
     → HasType env false e (term_of u) → is_known u.ty ≡ true → handle_at left p.at u ≡ Ok r
@@ -50,7 +52,7 @@ handle_sound env false p e u r d known h =
     let t = bind_ok (handle_of u.at u.ty) (λ t. Ok (made p.at t u.tree)) r h in
     let o = object_ok u.at u.ty t.0 known t.1 in
     at_ok (λ r. HasType env false (written.Unary p unary.Handle e) (term_of r)) (made p.at t.0 u.tree) r t.2
-        (rw (← o.2) (handle d o.1))
+    (rw (← o.2) (handle d o.1))
 
 pub unary_sound : (env : Environment) (left : Bool) (p : place.Place) (op : UnaryOp) (e : written.Expr) (u r : Typed)
     → HasType env false e (term_of u) → is_known u.ty ≡ true → unary_at left p.at op u ≡ Ok r
@@ -60,20 +62,20 @@ unary_sound env left p unary.Plus e u r d known h =
     let k = bind_ok (integer_of u.at u.ty) (λ k. Ok (integer_at p.at k u)) r h in
     let is = integer_ok u.at u.ty k.0 known k.1 in
     at_ok (λ r. HasType env left (written.Unary p unary.Plus e) (term_of r)) (integer_at p.at k.0 u) r k.2
-        (rw (unconverted k.0 (term_of u) is) (plus d is))
+    (rw (unconverted k.0 (term_of u) is) (plus d is))
 unary_sound env left p unary.Minus e u r d known h =
     let k = bind_ok (integer_of u.at u.ty) (λ k. Ok (altered p.at (signed k) (changes.Negate (signed k)) u)) r h in
     at_ok (λ r. HasType env left (written.Unary p unary.Minus e) (term_of r))
-        (altered p.at (signed k.0) (changes.Negate (signed k.0)) u) r k.2 (minus d (integer_ok u.at u.ty k.0 known k.1))
+    (altered p.at (signed k.0) (changes.Negate (signed k.0)) u) r k.2 (minus d (integer_ok u.at u.ty k.0 known k.1))
 unary_sound env left p unary.BitNot e u r d known h =
     let k = bind_ok (integer_of u.at u.ty) (λ k. Ok (altered p.at k (changes.Complement k) u)) r h in
     let is = integer_ok u.at u.ty k.0 known k.1 in
     at_ok (λ r. HasType env left (written.Unary p unary.BitNot e) (term_of r))
-        (altered p.at k.0 (changes.Complement k.0) u) r k.2 (rw (unconverted k.0 (term_of u) is) (complement d is))
+    (altered p.at k.0 (changes.Complement k.0) u) r k.2 (rw (unconverted k.0 (term_of u) is) (complement d is))
 unary_sound env left p unary.Not e u r d known h =
     let b = bind_ok (bool_of u.at u.ty) (λ yes. Ok (made p.at ty.Bool (Alter changes.Not u.tree))) r h in
     at_ok (λ r. HasType env left (written.Unary p unary.Not e) (term_of r))
-        (made p.at ty.Bool (Alter changes.Not u.tree)) r b.2 (not d (bool_ok u.at u.ty b.0 known b.1))
+    (made p.at ty.Bool (Alter changes.Not u.tree)) r b.2 (not d (bool_ok u.at u.ty b.0 known b.1))
 unary_sound env left p unary.Increment e u r d known h =
     let c = counted_ok p.at steps.Increment u (assignable u.form u.tree) r known h in
     subst (λ r. HasType env left (written.Unary p unary.Increment e) (term_of r)) ((c.2).2) (increment d c.1 ((c.2).1))
@@ -95,12 +97,15 @@ met_by_ok : (s : Sort) (t u : Term) (a b : ℕ) (m : Met) → is_known t.ty ≡ 
     × (record { left = placed a t; operands = o; right = right_by s o u } ≡ m)
 met_by_ok s t u a b m known as_value h =
     let as_known : meets s (assumed s u.ty t.ty) (assumed s t.ty u.ty) ≡ meets s t.ty u.ty =
-        rw (known_alone s u.ty t.ty known, known_alone s t.ty u.ty as_value) refl in
+    rw (known_alone s u.ty t.ty known, known_alone s t.ty u.ty as_value) refl in
     let f = met_as_ok s (placed a t) (placed b u) (meets s t.ty u.ty) m
-        (subst (λ found. met_as s (placed a t) (placed b u) found ≡ Ok m) as_known h) in
-    (f.0, f.1, subst
-        (λ (x : Expr). ◌≡◌ {A = Met} (record { left = placed a t; operands = f.0; right = x }) m) (right_is s f.0 b u)
-        f.2)
+    (subst (λ found. met_as s (placed a t) (placed b u) found ≡ Ok m) as_known h) in (
+      f.0,
+      f.1,
+      subst
+          (λ (x : Expr). ◌≡◌ {A = Met} (record { left = placed a t; operands = f.0; right = x }) m) (right_is s f.0 b u)
+          f.2,
+    )
 
 pub met_ok : (op : BinaryOp) (t u : Typed) (m : Met) → is_known t.ty ≡ true → is_known u.ty ≡ true → met op t u ≡ Ok m
     → (o : Operands) × Meet op (term_of t) (term_of u) o
@@ -162,4 +167,4 @@ conditional_sound env left p c a b t x y r d f g known h =
     let yes = bind_ok (bool_of t.at t.ty) (λ yes. chosen t x y (common x.ty y.ty)) r h in
     let k = chosen_ok t x y (common x.ty y.ty) r yes.2 in
     subst (λ r. HasType env left (written.Conditional p c a b) (term_of r)) k.2
-        (conditional d (bool_ok t.at t.ty yes.0 known yes.1) f g k.1)
+    (conditional d (bool_ok t.at t.ty yes.0 known yes.1) f g k.1)

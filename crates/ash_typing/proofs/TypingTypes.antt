@@ -226,22 +226,22 @@ variable_read : (env : Environment) (text : List ℕ) → IfSome (variable_in en
 unfolding variable_in
 variable_read env text =
     let local = if_map IsReadName
-        (λ (found : ℕ × Ty). (Read (Stored (variables.Local found.0 (var_type found.1))), found.1))
-        (last_named text 0 None env.locals) (if_all (last_named text 0 None env.locals) (λ found. (_, refl))) in
+    (λ (found : ℕ × Ty). (Read (Stored (variables.Local found.0 (var_type found.1))), found.1))
+    (last_named text 0 None env.locals) (if_all (last_named text 0 None env.locals) (λ found. (_, refl))) in
     let own = if_any IsReadName
-        (λ (c : ℕ × Class).
-        option_map (λ (found : Member × Ty). (Read (Held (This c.0) found.0), found.1)) (field_in c.0 c.1 text))
-        (this_class env)
-        (λ c. if_map IsReadName
-        (λ (found : Member × Ty). (Read (Held (This c.0) found.0), found.1)) (field_in c.0 c.1 text)
-        (if_all (field_in c.0 c.1 text) (λ found. (_, refl)))) in
+    (λ (c : ℕ × Class).
+    option_map (λ (found : Member × Ty). (Read (Held (This c.0) found.0), found.1)) (field_in c.0 c.1 text))
+    (this_class env)
+    (λ c. if_map IsReadName
+    (λ (found : Member × Ty). (Read (Held (This c.0) found.0), found.1)) (field_in c.0 c.1 text)
+    (if_all (field_in c.0 c.1 text) (λ found. (_, refl)))) in
     let global =
-        if_map IsReadName
-        (λ (found : ℕ × Declared). (Read (Stored (variables.Global found.0 (var_type found.1.of))), found.1.of))
-        (first_from (declares text) 0 env.heads.globals)
-        (if_all (first_from (declares text) 0 env.heads.globals) (λ found. (_, refl))) in
+    if_map IsReadName
+    (λ (found : ℕ × Declared). (Read (Stored (variables.Global found.0 (var_type found.1.of))), found.1.of))
+    (first_from (declares text) 0 env.heads.globals)
+    (if_all (first_from (declares text) 0 env.heads.globals) (λ found. (_, refl))) in
     if_or IsReadName (local_in env.locals text) (option_or (own_field_in env text) (global_in env.heads.globals text))
-        local (if_or IsReadName (own_field_in env text) (global_in env.heads.globals text) own global)
+    local (if_or IsReadName (own_field_in env text) (global_in env.heads.globals text) own global)
 
 bracketed_read : (f : Form) (tree : Expr) → IsReadWherePlace f tree → IsReadWherePlace (bracketed f) tree
 bracketed_read form.Place tree h = h

@@ -92,10 +92,11 @@ unfolding constructed
 constructed_ok env at o us count None begins n e h = absurd (no_fault _ begins h)
 constructed_ok env at o us count (Some callee) begins n e h =
     let t = bind_ok (called env.heads.classes at callee us callee.parameters) (λ t. Ok (built t)) begins h in
-    let c = called_ok env.heads.classes at callee us callee.parameters t.0 t.1 in
-    (call_of callee.target (map var_type c.0) ((c.2).0),
-        construct (subst (λ count. construction env o count ≡ Some callee) n e) c.1 ((c.2).1),
-        ap (λ (t : Typed). built t) ((c.2).2) ∙ same_ok (built t.0) begins t.2)
+    let c = called_ok env.heads.classes at callee us callee.parameters t.0 t.1 in (
+      call_of callee.target (map var_type c.0) ((c.2).0),
+      construct (subst (λ count. construction env o count ≡ Some callee) n e) c.1 ((c.2).1),
+      ap (λ (t : Typed). built t) ((c.2).2) ∙ same_ok (built t.0) begins t.2,
+    )
 
 begun_sound : (env : Environment) (at : ℕ) (of : Ty) (begins : Option Expr) → begun env at of ≡ Ok begins
     → BeginsWith env of written.Default begins
@@ -152,7 +153,7 @@ begun_by_sound : (env : Environment) (of_at at : ℕ) (of : Ty) (es : List writt
 unfolding begun_by
 begun_by_sound env of_at at (ty.Object o) es us begins all h =
     let c = constructed_ok env of_at o us (length us) (construction env o (length us)) begins
-        (sym (length-map us term_of)) refl h in
+    (sym (length-map us term_of)) refl h in
     subst (λ begins. BeginsWith env (ty.Object o) (written.Arguments es) begins) c.2 (built_by all c.1)
 begun_by_sound env of_at at (ty.Handle o) es us begins all h = absurd (no_fault _ begins h)
 begun_by_sound env of_at at of es us begins all h = one_sound env at of es us begins refl all h
@@ -174,6 +175,6 @@ pub declared_sound : (env : Environment) → IsKnown env → (at : ℕ) (of : Ty
 unfolding decl_typed
 declared_sound env known at of d i h =
     let begins =
-        bind_ok (initialized env at d.place.at of d.initializer) (λ value. Ok (initialization d.name of value)) i h in
+    bind_ok (initialized env at d.place.at of d.initializer) (λ value. Ok (initialization d.name of value)) i h in
     at_ok (λ i. IsDeclared env of d i) (initialization d.name of begins.0) i begins.2
-        (declared (begins_sound env known at d.place.at of d.initializer begins.0 begins.1))
+    (declared (begins_sound env known at d.place.at of d.initializer begins.0 begins.1))

@@ -119,6 +119,9 @@ pub met_is : (op : BinaryOp) (t u : Term) (o : Operands) (a b : ℕ) → Meet op
     ≡ Ok (record { left = placed a (adapted_to (sort_of op) u t); operands = o; right = right_of op o t u })
 unfolding met
 met_is op t u o a b h =
-    rw (adapted_is (sort_of op) u t a, adapted_is (sort_of op) t u b,
-    meets_assumed (sort_of op) (adapted_to (sort_of op) u t).ty (adapted_to (sort_of op) t u).ty o h,
-    right_is (sort_of op) o b (adapted_to (sort_of op) t u)) refl
+    rw (
+      adapted_is (sort_of op) u t a,
+      adapted_is (sort_of op) t u b,
+      meets_assumed (sort_of op) (adapted_to (sort_of op) u t).ty (adapted_to (sort_of op) t u).ty o h,
+      right_is (sort_of op) o b (adapted_to (sort_of op) t u),
+    ) refl

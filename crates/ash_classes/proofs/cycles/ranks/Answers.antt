@@ -17,8 +17,8 @@ returns-clause-ranks c =
     let same : length table ≡ length (rows_of table) = sym (length-map table (λ (v : Vec ℕ Global). v.items)) in
     let end : c.loop-first.first ≡ length table = omega (arith, c.loop-first-test.false, c.loop-first.auto.first-end) in
     all_ranked (rows_of table) (length table) c.loop-first.ranks.items same c.requires
-        (subst (λ (n : ℕ). AreRanked (Goes (rows_of table)) (length table) n c.loop-first.ranks.items) end
-        c.loop-first.invariant)
+    (subst (λ (n : ℕ). AreRanked (Goes (rows_of table)) (length table) n c.loop-first.ranks.items) end
+    c.loop-first.invariant)
 
 pub returns-clause-acyclic : goal.returns-clause-acyclic
 returns-clause-acyclic c =
@@ -26,5 +26,5 @@ returns-clause-acyclic c =
     let same : length table ≡ length (rows_of table) = sym (length-map table (λ (v : Vec ℕ Global). v.items)) in
     let end : c.loop-first.first ≡ length table = omega (arith, c.loop-first-test.false, c.loop-first.auto.first-end) in
     all_acyclic (rows_of table) (length table) c.loop-first.ranks.items same c.requires
-        (subst (λ (n : ℕ). AreRanked (Goes (rows_of table)) (length table) n c.loop-first.ranks.items) end
-        c.loop-first.invariant)
+    (subst (λ (n : ℕ). AreRanked (Goes (rows_of table)) (length table) n c.loop-first.ranks.items) end
+    c.loop-first.invariant)

@@ -10,12 +10,12 @@ returns-clause-created g c =
     (λ committed honest shut.
     let on = c.in_ok-clear.ensures.cleared honest shut in
     committed [] (drop 1 (g.D.Disk.seen c.args.first.now))
-        (record {
-          honest_disk = subst IsTrue (sym c.clear.ensures.honesty) honest;
-          long = refl;
-          bytes = on.bytes;
-          durable = on.durable;
-        }))
+    (record {
+      honest_disk = subst IsTrue (sym c.clear.ensures.honesty) honest;
+      long = refl;
+      bytes = on.bytes;
+      durable = on.durable;
+    }))
     c.commit.ensures.committed
 
 pub returns-clause-first_moments : goal.returns-clause-first_moments
@@ -23,7 +23,7 @@ returns-clause-first_moments g c honest shut idle =
     let file = g.D.Disk.seen c.args.first.now in
     let on = c.in_ok-clear.ensures.cleared honest shut in
     goes_on_either _ _ _ _ _ _ IsIdle (WhileCommitted [] c.args.bytes.now (drop 1 file))
-        (c.clear.ensures.moments honest shut idle)
+    (c.clear.ensures.moments honest shut idle)
     (c.commit.ensures.moments [] (drop 1 file) (record {
       honest_disk = subst IsTrue (sym c.clear.ensures.honesty) honest;
       long = refl;

@@ -10,19 +10,19 @@ use Rattle.ash_journal.proofs.gate.commit.Goals as goal
 pub returns-in_err-write_durably-clause-moments : goal.returns-in_err-write_durably-clause-moments
 returns-in_err-write_durably-clause-moments g c prefix suffix split =
     while_written _ _ _ _ _ _ (c.args.gate + 1) (length c.args.bytes.now)
-        (WhileCommitted prefix c.args.bytes.now suffix) split.durable split.bytes
-        (bytes_torn prefix c.args.bytes.now suffix c.args.gate (c.args.gate + 1) split.long refl)
-        (c.write_durably.ensures.moments split.honest_disk
-        (within_next prefix suffix c.args.gate _ split.long split.bytes))
+    (WhileCommitted prefix c.args.bytes.now suffix) split.durable split.bytes
+    (bytes_torn prefix c.args.bytes.now suffix c.args.gate (c.args.gate + 1) split.long refl)
+    (c.write_durably.ensures.moments split.honest_disk
+    (within_next prefix suffix c.args.gate _ split.long split.bytes))
 
 pub returns-clause-committed : goal.returns-clause-committed
 returns-clause-committed g c =
     on_ok_both c.write_durably-2.result
     (λ written durable prefix suffix split.
     let first = c.in_ok-write_durably.ensures.written split.honest_disk
-        (within_next prefix suffix c.args.gate _ split.long split.bytes)
-        ∙ ap (λ l. after_write l (c.args.gate + 1) c.args.bytes.now) split.bytes
-        ∙ bytes_written prefix c.args.bytes.now suffix c.args.gate (c.args.gate + 1) split.long refl in
+    (within_next prefix suffix c.args.gate _ split.long split.bytes)
+    ∙ ap (λ l. after_write l (c.args.gate + 1) c.args.bytes.now) split.bytes
+    ∙ bytes_written prefix c.args.bytes.now suffix c.args.gate (c.args.gate + 1) split.long refl in
     let honest = subst IsTrue (sym c.write_durably.ensures.honesty) split.honest_disk in
     let rest = c.args.bytes.now ++ drop (length c.args.bytes.now) suffix in
     let fits = within prefix (0 ∷ rest) c.args.gate _ split.long first in
@@ -38,15 +38,15 @@ returns-clause-moments g c prefix suffix split =
     let P = WhileCommitted prefix c.args.bytes.now suffix in
     let next = within_next prefix suffix c.args.gate _ split.long split.bytes in
     let first = c.in_ok-write_durably.ensures.written split.honest_disk next
-        ∙ ap (λ l. after_write l (c.args.gate + 1) c.args.bytes.now) split.bytes
-        ∙ bytes_written prefix c.args.bytes.now suffix c.args.gate (c.args.gate + 1) split.long refl in
+    ∙ ap (λ l. after_write l (c.args.gate + 1) c.args.bytes.now) split.bytes
+    ∙ bytes_written prefix c.args.bytes.now suffix c.args.gate (c.args.gate + 1) split.long refl in
     let honest = subst IsTrue (sym c.write_durably.ensures.honesty) split.honest_disk in
     let rest = c.args.bytes.now ++ drop (length c.args.bytes.now) suffix in
     let fits = within prefix (0 ∷ rest) c.args.gate _ split.long first in
     let one = while_written _ _ _ _ _ _ (c.args.gate + 1) (length c.args.bytes.now) P split.durable split.bytes
-        (bytes_torn prefix c.args.bytes.now suffix c.args.gate (c.args.gate + 1) split.long refl)
-        (c.write_durably.ensures.moments split.honest_disk next) in
+    (bytes_torn prefix c.args.bytes.now suffix c.args.gate (c.args.gate + 1) split.long refl)
+    (c.write_durably.ensures.moments split.honest_disk next) in
     let two = while_written _ _ _ _ _ _ c.args.gate 1 P (c.in_ok-write_durably.ensures.durable split.honest_disk next)
-        first (gate_torn prefix c.args.bytes.now suffix c.args.gate split.long)
-        (c.write_durably-2.ensures.moments honest fits) in
+    first (gate_torn prefix c.args.bytes.now suffix c.args.gate split.long)
+    (c.write_durably-2.ensures.moments honest fits) in
     goes_on _ _ _ _ _ _ P one two

@@ -12,11 +12,11 @@ returns-in_err-repair-clause-moments g c honest only shut =
     let d = g.D.Disk in
     let file = d.seen c.args.disk.now in
     let call = c.repair.ensures.moments [] file
-        (record { honest_disk = honest; long = refl; bytes = refl; durable = only }) in
+    (record { honest_disk = honest; long = refl; bytes = refl; durable = only }) in
     weaker _ _ _ _ (WhileRepaired (is_older c.args.state) [] file)
-        (WhileReplaced (is_older c.args.state) c.args.bytes.now file) (λ image p. inl p)
+    (WhileReplaced (is_older c.args.state) c.args.bytes.now file) (λ image p. inl p)
     (subst (λ stray. Throughout d c.args.disk.now c.repair.new.disk (WhileRepaired stray [] file))
-        c.is_older.ensures call)
+    c.is_older.ensures call)
 
 pub returns-clause-replaced : goal.returns-clause-replaced
 returns-clause-replaced g c =
@@ -24,7 +24,7 @@ returns-clause-replaced g c =
     (λ committed honest only shut.
     let file = g.D.Disk.seen c.args.disk.now in
     let on = c.in_ok-repair.ensures.repaired [] file
-        (record { honest_disk = honest; long = refl; bytes = refl; durable = only }) in
+    (record { honest_disk = honest; long = refl; bytes = refl; durable = only }) in
     committed [] (drop 1 file) (record {
       honest_disk = subst IsTrue (sym c.repair.ensures.honesty) honest;
       long = refl;
@@ -38,13 +38,13 @@ returns-clause-moments g c honest only shut =
     let d = g.D.Disk in
     let file = d.seen c.args.disk.now in
     let on = c.in_ok-repair.ensures.repaired [] file
-        (record { honest_disk = honest; long = refl; bytes = refl; durable = only }) in
+    (record { honest_disk = honest; long = refl; bytes = refl; durable = only }) in
     let call = c.repair.ensures.moments [] file
-        (record { honest_disk = honest; long = refl; bytes = refl; durable = only }) in
+    (record { honest_disk = honest; long = refl; bytes = refl; durable = only }) in
     goes_on_either _ _ _ _ _ _ (WhileRepaired (is_older c.args.state) [] file)
-        (WhileCommitted [] c.args.bytes.now (drop 1 file))
+    (WhileCommitted [] c.args.bytes.now (drop 1 file))
     (subst (λ stray. Throughout d c.args.disk.now c.repair.new.disk (WhileRepaired stray [] file))
-        c.is_older.ensures call)
+    c.is_older.ensures call)
     (c.commit.ensures.moments [] (drop 1 file) (record {
       honest_disk = subst IsTrue (sym c.repair.ensures.honesty) honest;
       long = refl;

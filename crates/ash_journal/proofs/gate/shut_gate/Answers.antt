@@ -19,12 +19,12 @@ returns-clause-shut g c =
 pub returns-clause-moments : goal.returns-clause-moments
 returns-clause-moments g c prefix suffix split =
     while_written _ _ _ _ _ _ c.args.gate 1 (WhileShut prefix suffix) split.durable split.bytes
-        (shut_torn prefix suffix c.args.gate split.long)
-        (c.write_durably.ensures.moments split.honest_disk (within prefix suffix c.args.gate _ split.long split.bytes))
+    (shut_torn prefix suffix c.args.gate split.long)
+    (c.write_durably.ensures.moments split.honest_disk (within prefix suffix c.args.gate _ split.long split.bytes))
 
 pub returns-clause-only_gate : goal.returns-clause-only_gate
 returns-clause-only_gate g c prefix suffix split =
     let fits = within prefix suffix c.args.gate _ split.long split.bytes in
     one_written g.D.Disk c.args.gate c.args.disk.now c.write_durably.new.disk split.durable
-        (c.write_durably.ensures.in_part split.honest_disk fits)
-        (c.write_durably.ensures.moments split.honest_disk fits)
+    (c.write_durably.ensures.in_part split.honest_disk fits)
+    (c.write_durably.ensures.moments split.honest_disk fits)

@@ -21,12 +21,12 @@ returns-in-Ok-clause-answer g c generation honest len_is marked =
     let same = c.in-Ok-Some.ensures.only_read.seen honest in
     let honest' = subst IsTrue (sym c.in-Ok-Some.ensures.only_read.honesty) honest in
     let at_is : 21 + c.len.result ≡ length (solid generation image []) =
-        omega (arith, c.len.ensures, c.in-Ok-Some.block.body.ok.0, length-alone generation image) in
+    omega (arith, c.len.ensures, c.in-Ok-Some.block.body.ok.0, length-alone generation image) in
     let answer =
-        c.in-Ok.ensures.answer generation image read.1 honest' (len_is ∙ ap length (sym same)) read.0 (same ∙ read.2)
-        at_is in
+    c.in-Ok.ensures.answer generation image read.1 honest' (len_is ∙ ap length (sym same)) read.0 (same ∙ read.2)
+    at_is in
     subst (λ (l : List ℕ). IsRead generation image c.in-Ok.tail.records.items c.in-Ok.tail.end c.in-Ok.tail.gate l) same
-        answer
+    answer
 
 pub returns-in-Err-read_records-clause-answer : goal.returns-in-Err-read_records-clause-answer
 returns-in-Err-read_records-clause-answer g c generation honest len_is marked =
@@ -39,8 +39,8 @@ returns-in-Err-read_records-clause-answer g c generation honest len_is marked =
     let same = c.in-Ok-Some.ensures.only_read.seen honest in
     let honest' = subst IsTrue (sym c.in-Ok-Some.ensures.only_read.honesty) honest in
     let at_is : 21 + c.len.result ≡ length (solid generation image []) =
-        omega (arith, c.len.ensures, c.in-Ok-Some.block.body.ok.0, length-alone generation image) in
+    omega (arith, c.len.ensures, c.in-Ok-Some.block.body.ok.0, length-alone generation image) in
     let answer =
-        c.in-Err-read_records.ensures.answer generation image read.1 honest' (len_is ∙ ap length (sym same)) read.0
-        (same ∙ read.2) at_is in
+    c.in-Err-read_records.ensures.answer generation image read.1 honest' (len_is ∙ ap length (sym same)) read.0
+    (same ∙ read.2) at_is in
     subst (λ (l : List ℕ). IsCutFault c.in-Err-read_records.fault l) same answer

@@ -26,7 +26,7 @@ returns-in-Ok-None-clause-answer g c generation image rest honest len_is fits is
     let found = c.in-Ok-None.ensures.answer honest' (len_is ∙ ap length (sym same)) in
     let cut = rw c.in-Ok-None.field-0-is at found in
     read_cut generation image (d.seen c.args.disk.now) c.loop-gate.records.items c.loop-gate.end c.loop-gate.gate
-        c.loop-gate-test.true so_far
+    c.loop-gate-test.true so_far
     (subst (λ (l : List ℕ). IsCut (drop (c.loop-gate.end + 1) l)) same cut)
 
 pub loop-gate-preserved : goal.loop-gate-preserved
@@ -47,11 +47,11 @@ loop-gate-preserved g c = record {
       let block = rw c.in-Ok-Some.field-0-is at found in
       let r : Record = record { gate = c.loop-gate.end; body = c.in-Ok-Some.block.body } in
       let more = read_more generation image (d.seen c.args.disk.now) c.loop-gate.records.items r c.loop-gate.end
-          c.loop-gate.gate c.in-Ok-Some.block.gate (c.loop-gate.end + (5 + c.len.result)) c.loop-gate-test.true so_far
+      c.loop-gate.gate c.in-Ok-Some.block.gate (c.loop-gate.end + (5 + c.len.result)) c.loop-gate-test.true so_far
       (subst (λ (l : List ℕ).
-          IsBlock c.in-Ok-Some.block.body.items c.in-Ok-Some.block.gate (drop (c.loop-gate.end + 1) l)) same block) refl
-          (omega (arith, c.len.ensures, c.in-Ok-Some.block.body.ok.0)) in
+      IsBlock c.in-Ok-Some.block.body.items c.in-Ok-Some.block.gate (drop (c.loop-gate.end + 1) l)) same block) refl
+      (omega (arith, c.len.ensures, c.in-Ok-Some.block.body.ok.0)) in
       subst (λ (found : List Record).
-          IsReadTo generation image found (c.loop-gate.end + (5 + c.len.result)) c.in-Ok-Some.block.gate
-          (d.seen c.args.disk.now)) (sym c.in-Ok.ensures.items) more;
+      IsReadTo generation image found (c.loop-gate.end + (5 + c.len.result)) c.in-Ok-Some.block.gate
+      (d.seen c.args.disk.now)) (sym c.in-Ok.ensures.items) more;
 }

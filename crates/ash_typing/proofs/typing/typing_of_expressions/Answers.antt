@@ -16,8 +16,10 @@ returns-clause-sound c = sound
 
 pub returns-clause-no_fault : goal.returns-clause-no_fault
 returns-clause-no_fault c =
-    λ env known left e. (λ ok. answered (typed env left e) ok (λ t h. (term_of t, sound env known left e t h)),
-    λ t. no_fault_at (typed env left e) (placed (first_at e) t.0) (complete t.1))
+    λ env known left e. (
+      λ ok. answered (typed env left e) ok (λ t h. (term_of t, sound env known left e t h)),
+      λ t. no_fault_at (typed env left e) (placed (first_at e) t.0) (complete t.1),
+    )
 
 pub returns-clause-one_term : goal.returns-clause-one_term
 returns-clause-one_term c =

@@ -18,8 +18,8 @@ returns-in-Ok-clause-created g c honest_first honest_second =
     let rest = drop (length (mark 1 ++ (block image ++ 0 ∷ []))) (drop 1 (d.seen c.args.first)) in
     let files = create_files d one two image rest (21 + length image) refl c.requires
     (subst IsTrue (sym c.in-Ok.ensures.honesty_first) honest_first)
-        (subst IsTrue (sym c.in-Ok.ensures.honesty_second) honest_second) on
-        (subst IsShut (sym second_cleared.bytes) refl) second_cleared.durable in
+    (subst IsTrue (sym c.in-Ok.ensures.honesty_second) honest_second) on
+    (subst IsShut (sym second_cleared.bytes) refl) second_cleared.durable in
     record {
       files = files;
       repaired = tt;
@@ -32,14 +32,14 @@ returns-in-Ok-clause-moments g c a b honest_first honest_second rested_first res
     let d = g.D.Disk in
     let image = c.args.image.now in
     let one = c.create_both.ensures.first_moments honest_first honest_second
-        (rested_first.idle (d.clock c.args.first) rested_first.began (omega arith)) in
+    (rested_first.idle (d.clock c.args.first) rested_first.began (omega arith)) in
     let two = c.create_both.ensures.second_moments honest_first honest_second
-        (rested_second.idle (d.clock c.args.second) rested_second.began (omega arith)) in
+    (rested_second.idle (d.clock c.args.second) rested_second.began (omega arith)) in
     create_settles image x y c.requires
     (since_rested d a c.args.first c.create_both.new.first (WhileCreated image) rested_first
-        (λ left is. inl is) one s x from_a to_a left_x)
+    (λ left is. inl is) one s x from_a to_a left_x)
     (since_rested d b c.args.second c.create_both.new.second IsIdle rested_second
-        (λ left is. is) two t y from_b to_b left_y)
+    (λ left is. is) two t y from_b to_b left_y)
 
 pub returns-in-Err-clause-moments : goal.returns-in-Err-clause-moments
 returns-in-Err-clause-moments g c a b honest_first honest_second rested_first rested_second s t x y from_a to_a from_b
@@ -47,11 +47,11 @@ returns-in-Err-clause-moments g c a b honest_first honest_second rested_first re
     let d = g.D.Disk in
     let image = c.args.image.now in
     let one = c.create_both.ensures.first_moments honest_first honest_second
-        (rested_first.idle (d.clock c.args.first) rested_first.began (omega arith)) in
+    (rested_first.idle (d.clock c.args.first) rested_first.began (omega arith)) in
     let two = c.create_both.ensures.second_moments honest_first honest_second
-        (rested_second.idle (d.clock c.args.second) rested_second.began (omega arith)) in
+    (rested_second.idle (d.clock c.args.second) rested_second.began (omega arith)) in
     create_settles image x y c.requires
     (since_rested d a c.args.first c.create_both.new.first (WhileCreated image) rested_first
-        (λ left is. inl is) one s x from_a to_a left_x)
+    (λ left is. inl is) one s x from_a to_a left_x)
     (since_rested d b c.args.second c.create_both.new.second IsIdle rested_second
-        (λ left is. is) two t y from_b to_b left_y)
+    (λ left is. is) two t y from_b to_b left_y)

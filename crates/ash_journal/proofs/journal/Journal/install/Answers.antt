@@ -19,16 +19,16 @@ returns-in-Err-replace-clause-run g c was bodies holds =
     let f = holds.files in
     let image = c.args.image.now in
     let bytes_are : c.deref.result.now ≡ mark (j.generation + 1) ++ (block image ++ 0 ∷ []) =
-        c.deref.ensures.value ∙ c.in-Ok.ensures in
+    c.deref.ensures.value ∙ c.in-Ok.ensures in
     let higher : j.generation + 1 < 2 ^ 64 = omega (arith, c.if-self.false, f.fits.numbered) in
     let shut = shut_other j.stray j.other_state j.generation (d.seen j.other) holds.repaired f.other_is in
     let call = c.replace.ensures.moments f.other_honest f.other_durable shut in
     let call' =
-        subst (λ (l : List ℕ).
-        Throughout d j.other c.replace.new.disk (WhileReplaced (is_older j.other_state) l (d.seen j.other))) bytes_are
-        call in
+    subst (λ (l : List ℕ).
+    Throughout d j.other c.replace.new.disk (WhileReplaced (is_older j.other_state) l (d.seen j.other))) bytes_are
+    call in
     let run = install_run d j.generation j.end j.record_bytes j.stray j.other_state j.current j.other c.replace.new.disk
-        was bodies image f holds.repaired higher c.requires.short j.swapped call' in
+    was bodies image f holds.repaired higher c.requires.short j.swapped call' in
     run
 
 pub returns-clause-installed : goal.returns-clause-installed
@@ -38,22 +38,22 @@ returns-clause-installed g c was bodies holds =
     let f = holds.files in
     let image = c.args.image.now in
     let bytes_are : c.deref.result.now ≡ mark (j.generation + 1) ++ (block image ++ 0 ∷ []) =
-        c.deref.ensures.value ∙ c.in-Ok.ensures in
+    c.deref.ensures.value ∙ c.in-Ok.ensures in
     let higher : j.generation + 1 < 2 ^ 64 = omega (arith, c.if-self.false, f.fits.numbered) in
     let shut = shut_other j.stray j.other_state j.generation (d.seen j.other) holds.repaired f.other_is in
     let on = c.in-Ok-replace.ensures.replaced f.other_honest f.other_durable shut in
     let on' = subst
-        (λ (l : List ℕ). IsOn d c.replace.new.disk (1 ∷ (l ++ drop (length l) (drop 1 (d.seen j.other))))) bytes_are
-        on in
+    (λ (l : List ℕ). IsOn d c.replace.new.disk (1 ∷ (l ++ drop (length l) (drop 1 (d.seen j.other))))) bytes_are
+    on in
     let files = install_files d j.generation j.end j.record_bytes j.stray j.other_state j.current j.other
-        c.replace.new.disk was bodies image f holds.repaired higher c.requires.short (21 + length image) refl
-        c.replace.ensures.honesty on' in
+    c.replace.new.disk was bodies image f holds.repaired higher c.requires.short (21 + length image) refl
+    c.replace.ensures.honesty on' in
     let files' =
-        subst (λ x. FilesAre d (j.generation + 1) (21 + length image) 0 false Older x j.current image [])
-        (sym c.swap.ensures.x_after) files in
+    subst (λ x. FilesAre d (j.generation + 1) (21 + length image) 0 false Older x j.current image [])
+    (sym c.swap.ensures.x_after) files in
     let files'' =
-        subst (λ y. FilesAre d (j.generation + 1) (21 + length image) 0 false Older c.swap.new.x y image [])
-        (sym c.swap.ensures.y_after) files' in
+    subst (λ y. FilesAre d (j.generation + 1) (21 + length image) 0 false Older c.swap.new.x y image [])
+    (sym c.swap.ensures.y_after) files' in
     record {
       files = files'';
       repaired = tt;
@@ -68,23 +68,23 @@ returns-clause-run g c was bodies holds =
     let f = holds.files in
     let image = c.args.image.now in
     let bytes_are : c.deref.result.now ≡ mark (j.generation + 1) ++ (block image ++ 0 ∷ []) =
-        c.deref.ensures.value ∙ c.in-Ok.ensures in
+    c.deref.ensures.value ∙ c.in-Ok.ensures in
     let higher : j.generation + 1 < 2 ^ 64 = omega (arith, c.if-self.false, f.fits.numbered) in
     let shut = shut_other j.stray j.other_state j.generation (d.seen j.other) holds.repaired f.other_is in
     let call = c.replace.ensures.moments f.other_honest f.other_durable shut in
     let call' =
-        subst (λ (l : List ℕ).
-        Throughout d j.other c.replace.new.disk (WhileReplaced (is_older j.other_state) l (d.seen j.other))) bytes_are
-        call in
+    subst (λ (l : List ℕ).
+    Throughout d j.other c.replace.new.disk (WhileReplaced (is_older j.other_state) l (d.seen j.other))) bytes_are
+    call in
     let run = install_run d j.generation j.end j.record_bytes j.stray j.other_state j.current j.other c.replace.new.disk
-        was bodies image f holds.repaired higher c.requires.short j.swapped call' in
+    was bodies image f holds.repaired higher c.requires.short j.swapped call' in
     let swapped =
-        run_swapped d j.swapped _ _ j.current c.replace.new.disk (Either (Is (image, [])) (Is (was, bodies))) run in
+    run_swapped d j.swapped _ _ j.current c.replace.new.disk (Either (Is (image, [])) (Is (was, bodies))) run in
     let swapped' =
-        subst (λ x. Run d (d.clock (first_of j.swapped j.current j.other))
-        (d.clock (second_of j.swapped j.current j.other)) (first_of (not j.swapped) x j.current)
-        (second_of (not j.swapped) x j.current) (Either (Is (image, [])) (Is (was, bodies))))
-        (sym c.swap.ensures.x_after) swapped in
+    subst (λ x. Run d (d.clock (first_of j.swapped j.current j.other))
+    (d.clock (second_of j.swapped j.current j.other)) (first_of (not j.swapped) x j.current)
+    (second_of (not j.swapped) x j.current) (Either (Is (image, [])) (Is (was, bodies))))
+    (sym c.swap.ensures.x_after) swapped in
     subst (λ y. Run d (d.clock (first_of j.swapped j.current j.other)) (d.clock (second_of j.swapped j.current j.other))
-        (first_of (not j.swapped) c.swap.new.x y) (second_of (not j.swapped) c.swap.new.x y)
-        (Either (Is (image, [])) (Is (was, bodies)))) (sym c.swap.ensures.y_after) swapped'
+    (first_of (not j.swapped) c.swap.new.x y) (second_of (not j.swapped) c.swap.new.x y)
+    (Either (Is (image, [])) (Is (was, bodies)))) (sym c.swap.ensures.y_after) swapped'
