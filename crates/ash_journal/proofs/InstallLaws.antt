@@ -97,7 +97,8 @@ install_settles g n image image' bodies x rest y is fits fits_new less coming =
                 inr (
                   n,
                   record {
-                    file = new_file b whole.1 (whole.2 ∙ ap (λ (c : ℕ). c ∷ (mark n ++ (block image' ++ 0 ∷ whole.1))) one);
+                    file = new_file b whole.1
+                        (whole.2 ∙ ap (λ (c : ℕ). c ∷ (mark n ++ (block image' ++ 0 ∷ whole.1))) one);
                     older = older_by_mark g n x marked less;
                   },
                 ),

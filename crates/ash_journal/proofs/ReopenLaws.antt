@@ -154,8 +154,11 @@ end_settles P Q g image bodies x c rest y file shut more good settle =
     represents a b (inl holds) =
         subst (λ (l : List ℕ). RepresentOne Q l b) (sym holds.0)
         (elim (current_or_ahead g image bodies P x b file (stand_now P x b holds.1)) [
-          | inl is_current ↦
-              ((image, bodies), more (image, bodies) is_current.1, inl (g, record { file = is_file; older = is_current.0 }))
+          | inl is_current ↦ (
+            (image, bodies),
+            more (image, bodies) is_current.1,
+            inl (g, record { file = is_file; older = is_current.0 }),
+          )
           | inr ahead ↦ (
             (ahead.1, ahead.2),
             more (ahead.1, ahead.2) ahead.5,

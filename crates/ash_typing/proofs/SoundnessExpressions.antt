@@ -250,8 +250,8 @@ member_place env t o text found known h i =
       _,
       refl,
       sound.member h
-          (at_some (λ found. operations.IsMember (seen_in env).signatures o found.0 (var_type found.1)) (member_in env o text)
-          found (member_sound env o text) i),
+          (at_some (λ found. operations.IsMember (seen_in env).signatures o found.0 (var_type found.1))
+          (member_in env o text) found (member_sound env o text) i),
     )
 
 invoked_sound : (env : Environment) (t : Term) (o : ObjectType) (text : List ℕ) (m : Invoked) (trees : Exprs)

@@ -69,7 +69,8 @@ host_method_found env kind text (host.AMethod other id operation) e among =
     let is = among id (host_signature operation) at in (
       subst₂ (λ parameters result.
           operations.IsMethod (seen_in env).signatures (OfHost kind) (methods.Host id result) parameters result)
-          (sym (primitive_types operation.parameters)) (sym (primitive_result operation.result)) (operations.of_host is),
+          (sym (primitive_types operation.parameters)) (sym (primitive_result operation.result))
+          (operations.of_host is),
       primitives_known operation.parameters,
     )
 host_method_found env kind text _ e among = tt
@@ -164,7 +165,8 @@ service_found env (host.AFunction service id operation) among =
     let is = among (service, id) (host_signature operation) at in (
       subst₂ (λ parameters result.
           operations.IsTarget (seen_in env).signatures (targets.Service service id result) parameters result)
-          (sym (primitive_types operation.parameters)) (sym (primitive_result operation.result)) (operations.service is),
+          (sym (primitive_types operation.parameters)) (sym (primitive_result operation.result))
+          (operations.service is),
       primitives_known operation.parameters,
     )
 service_found env _ among = tt

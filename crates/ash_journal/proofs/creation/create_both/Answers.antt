@@ -18,8 +18,10 @@ returns-in-Ok-start-clause-created g c honest_first honest_second =
     c.deref.ensures.value ∙ c.in-Ok-generation_bytes.ensures in
     let first_read = c.in-Ok.ensures.first_read in
     let second_read = c.in-Ok.ensures.second_read in
-    let first_shut = subst (λ (l : List ℕ). ShutIs c.in-Some.one.shut l) (sym (first_read.seen honest_first)) shut.0.1 in
-    let second_shut = subst (λ (l : List ℕ). ShutIs c.in-Some.two.shut l) (sym (second_read.seen honest_second)) shut.1.1 in
+    let first_shut =
+    subst (λ (l : List ℕ). ShutIs c.in-Some.one.shut l) (sym (first_read.seen honest_first)) shut.0.1 in
+    let second_shut =
+    subst (λ (l : List ℕ). ShutIs c.in-Some.two.shut l) (sym (second_read.seen honest_second)) shut.1.1 in
     let honest_first' = subst IsTrue (sym first_read.honesty) honest_first in
     let honest_second' = subst IsTrue (sym second_read.honesty) honest_second in
     let on = c.in-Ok-start.ensures.created honest_first' first_shut in
@@ -43,8 +45,10 @@ returns-in-Ok-start-clause-second_cleared g c honest_first honest_second =
     c.deref.ensures.value ∙ c.in-Ok-generation_bytes.ensures in
     let first_read = c.in-Ok.ensures.first_read in
     let second_read = c.in-Ok.ensures.second_read in
-    let first_shut = subst (λ (l : List ℕ). ShutIs c.in-Some.one.shut l) (sym (first_read.seen honest_first)) shut.0.1 in
-    let second_shut = subst (λ (l : List ℕ). ShutIs c.in-Some.two.shut l) (sym (second_read.seen honest_second)) shut.1.1 in
+    let first_shut =
+    subst (λ (l : List ℕ). ShutIs c.in-Some.one.shut l) (sym (first_read.seen honest_first)) shut.0.1 in
+    let second_shut =
+    subst (λ (l : List ℕ). ShutIs c.in-Some.two.shut l) (sym (second_read.seen honest_second)) shut.1.1 in
     let honest_first' = subst IsTrue (sym first_read.honesty) honest_first in
     let honest_second' = subst IsTrue (sym second_read.honesty) honest_second in
     let on = c.in-Ok-start.ensures.second_cleared honest_second' second_shut in
@@ -61,8 +65,10 @@ returns-in-Ok-start-clause-first_moments g c honest_first honest_second idle =
     c.deref.ensures.value ∙ c.in-Ok-generation_bytes.ensures in
     let first_read = c.in-Ok.ensures.first_read in
     let second_read = c.in-Ok.ensures.second_read in
-    let first_shut = subst (λ (l : List ℕ). ShutIs c.in-Some.one.shut l) (sym (first_read.seen honest_first)) shut.0.1 in
-    let second_shut = subst (λ (l : List ℕ). ShutIs c.in-Some.two.shut l) (sym (second_read.seen honest_second)) shut.1.1 in
+    let first_shut =
+    subst (λ (l : List ℕ). ShutIs c.in-Some.one.shut l) (sym (first_read.seen honest_first)) shut.0.1 in
+    let second_shut =
+    subst (λ (l : List ℕ). ShutIs c.in-Some.two.shut l) (sym (second_read.seen honest_second)) shut.1.1 in
     let honest_first' = subst IsTrue (sym first_read.honesty) honest_first in
     let honest_second' = subst IsTrue (sym second_read.honesty) honest_second in
     let call = c.start.ensures.first_moments honest_first' first_shut
@@ -87,8 +93,10 @@ returns-clause-first_moments g c honest_first honest_second idle =
     c.deref.ensures.value ∙ c.in-Ok-generation_bytes.ensures in
     let first_read = c.in-Ok.ensures.first_read in
     let second_read = c.in-Ok.ensures.second_read in
-    let first_shut = subst (λ (l : List ℕ). ShutIs c.in-Some.one.shut l) (sym (first_read.seen honest_first)) shut.0.1 in
-    let second_shut = subst (λ (l : List ℕ). ShutIs c.in-Some.two.shut l) (sym (second_read.seen honest_second)) shut.1.1 in
+    let first_shut =
+    subst (λ (l : List ℕ). ShutIs c.in-Some.one.shut l) (sym (first_read.seen honest_first)) shut.0.1 in
+    let second_shut =
+    subst (λ (l : List ℕ). ShutIs c.in-Some.two.shut l) (sym (second_read.seen honest_second)) shut.1.1 in
     let honest_first' = subst IsTrue (sym first_read.honesty) honest_first in
     let honest_second' = subst IsTrue (sym second_read.honesty) honest_second in
     let call = c.start.ensures.first_moments honest_first' first_shut
@@ -113,8 +121,10 @@ returns-in-Ok-start-clause-second_moments g c honest_first honest_second idle =
     c.deref.ensures.value ∙ c.in-Ok-generation_bytes.ensures in
     let first_read = c.in-Ok.ensures.first_read in
     let second_read = c.in-Ok.ensures.second_read in
-    let first_shut = subst (λ (l : List ℕ). ShutIs c.in-Some.one.shut l) (sym (first_read.seen honest_first)) shut.0.1 in
-    let second_shut = subst (λ (l : List ℕ). ShutIs c.in-Some.two.shut l) (sym (second_read.seen honest_second)) shut.1.1 in
+    let first_shut =
+    subst (λ (l : List ℕ). ShutIs c.in-Some.one.shut l) (sym (first_read.seen honest_first)) shut.0.1 in
+    let second_shut =
+    subst (λ (l : List ℕ). ShutIs c.in-Some.two.shut l) (sym (second_read.seen honest_second)) shut.1.1 in
     let honest_first' = subst IsTrue (sym first_read.honesty) honest_first in
     let honest_second' = subst IsTrue (sym second_read.honesty) honest_second in
     let call = c.start.ensures.second_moments honest_second' second_shut
@@ -133,8 +143,10 @@ returns-clause-second_moments g c honest_first honest_second idle =
     c.deref.ensures.value ∙ c.in-Ok-generation_bytes.ensures in
     let first_read = c.in-Ok.ensures.first_read in
     let second_read = c.in-Ok.ensures.second_read in
-    let first_shut = subst (λ (l : List ℕ). ShutIs c.in-Some.one.shut l) (sym (first_read.seen honest_first)) shut.0.1 in
-    let second_shut = subst (λ (l : List ℕ). ShutIs c.in-Some.two.shut l) (sym (second_read.seen honest_second)) shut.1.1 in
+    let first_shut =
+    subst (λ (l : List ℕ). ShutIs c.in-Some.one.shut l) (sym (first_read.seen honest_first)) shut.0.1 in
+    let second_shut =
+    subst (λ (l : List ℕ). ShutIs c.in-Some.two.shut l) (sym (second_read.seen honest_second)) shut.1.1 in
     let honest_first' = subst IsTrue (sym first_read.honesty) honest_first in
     let honest_second' = subst IsTrue (sym second_read.honesty) honest_second in
     let call = c.start.ensures.second_moments honest_second' second_shut
