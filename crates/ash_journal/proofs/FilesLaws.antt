@@ -6,7 +6,7 @@ use Rattle.ash_disk.specs.Device.{Device, IsDurable, Throughout}
 use Rattle.ash_disk.proofs.MomentLaws.{at_start}
 use Rattle.ash_journal.specs.declared.other_state.OtherState.{OtherState}
 use Rattle.ash_journal.specs.declared.other_state.OtherState.TheVariants.{Shut, Older, Stray}
-use Rattle.ash_journal.specs.Layout.{mark, block, records, solid, FieldsFit, IsFile, IsShut, HasMark}
+use Rattle.ash_journal.specs.Layout.{mark, block, records, solid, FieldsFit, IsShut, HasMark}
 use Rattle.ash_journal.specs.Current.{Is, Either, IsBehind, Represent, reopened, SettleOn, MaySettleOn, SettleFurther}
 use Rattle.ash_journal.specs.Runs.{Run, Extends, Nothing}
 use Rattle.ash_journal.specs.Writes.{IsOn, WhileCommitted, WhileRepaired, WhileReplaced, repaired}

@@ -1,7 +1,7 @@
 -- What two files that were opened hold.
-use Rattle.std.proofs.Common.{◌≡◌, inl, inr, ℕ, ◌-◌, ◌≤◌, Bool, true, false, not, nat_eq, IsTrue, List, length, Result}
+use Rattle.std.proofs.Common.{◌≡◌, inl, inr, ℕ, ◌-◌, Bool, true, false, not, nat_eq, IsTrue, List, length, Result}
 use Rattle.std.proofs.Common.{MatchResult, sym, ◌∙◌, subst, arith}
-use Rattle.std.proofs.lemmas.Bool.{cases_eq, cases_lt, eq-eqb, ne_eqb}
+use Rattle.std.proofs.lemmas.Bool.{cases_eq, eq-eqb, ne_eqb}
 use Rattle.std.proofs.lemmas.Result.{MatchResult-weaker}
 use Rattle.ash_disk.specs.Device.{Device, IsDurable}
 use Rattle.ash_journal.specs.declared.other_state.OtherState.{OtherState}

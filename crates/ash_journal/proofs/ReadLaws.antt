@@ -8,8 +8,7 @@ use Rattle.std.proofs.lemmas.Slice.Eq.{bytes_eq-Decides}
 use Rattle.std.specs.Str.{bytes_eq}
 use Rattle.byteorder.specs.Endian.{little_number}
 use Rattle.ash_journal.specs.Layout.{magic, eight_bytes, four_bytes, mark, block, records, solid, FieldsFit, IsOpen}
-use Rattle.ash_journal.specs.Layout.{IsShut}
-use Rattle.ash_journal.specs.Layout.{IsCut, IsCutAt, HasMark, LacksMark}
+use Rattle.ash_journal.specs.Layout.{IsShut, IsCut, IsCutAt, HasMark, LacksMark}
 use Rattle.ash_disk.specs.Image.{bytes_at}
 use Rattle.ash_disk.specs.Device.{Device, IsOnlyRead, Throughout}
 use Rattle.ash_journal.specs.Writes.{IsIdle, AreIdle, HasRested, WhileStarted, WhileCreated}

@@ -18,17 +18,16 @@ use Rattle.ash_typing.specs.declared.types.Ty.{Ty}
 use Rattle.ash_typing.specs.declared.types.Ty.TheVariants as ty
 use Rattle.ash_typed.specs.declared.tree.operations.Member.{Member}
 use Rattle.ash_typed.specs.declared.tree.operations.Step.TheVariants as steps
-use Rattle.ash_typed.specs.Tree.{Null, Place}
 use Rattle.ash_typing.specs.Types.{object_of, ty_of_element}
 use Rattle.ash_typing.specs.Heads.{host_object, object_named, element_named, element_by}
 use Rattle.ash_typing.specs.Environment as head
 use Rattle.ash_typing.specs.Environment.{Environment, first_from, is_class, is_interface_named, Class, Invoked}
 use Rattle.ash_typing.specs.Environment.{variable_in, member_in, method_in, array_built}
 use Rattle.ash_typing.specs.Terms.{assignable, operator_of, array_parameters}
-use Rattle.ash_typing.specs.Expressions.{Typed, chosen, updated, assigned, is_assign, member_at, field_of, invoked_at}
-use Rattle.ash_typing.specs.Expressions.{method_of, invoked, invocation_typed, index_in, indexed_at, indexed_object}
-use Rattle.ash_typing.specs.Expressions.{indexed, at_element, known_element, array_typed, cast_type, cast_at, typed}
-use Rattle.ash_typing.specs.Expressions.{all_typed, links_typed, suffixes_typed, suffix_typed}
+use Rattle.ash_typing.specs.Expressions.{Typed, is_assign, member_at, field_of, invoked_at, method_of, invoked}
+use Rattle.ash_typing.specs.Expressions.{invocation_typed, index_in, indexed_at, indexed_object, indexed, at_element}
+use Rattle.ash_typing.specs.Expressions.{known_element, array_typed, cast_type, cast_at, typed, all_typed, links_typed}
+use Rattle.ash_typing.specs.Expressions.{suffixes_typed, suffix_typed}
 use Rattle.ash_typing.proofs.FaultTokens.{HasToken, HasStart, ElementIn, ExprIn, ExprsIn, LinksIn, SuffixesIn, SuffixIn}
 use Rattle.ash_typing.specs.Phrases as phrases
 use Rattle.ash_typing.specs.Mismatches as mismatches
@@ -36,7 +35,7 @@ use Rattle.ash_typing.specs.Mismatches.{may_be_integer, may_be_object, is_array_
 use Rattle.ash_typing.specs.FaultMeaning as meaning
 use Rattle.ash_typing.specs.FaultMeaning.{argument_count}
 use Rattle.ash_typing.proofs.FaultAnswers.{Script, OccursIn, Wrong, Mismatch, same_named, Answers, fine, faulty, Fine}
-use Rattle.ash_typing.proofs.FaultAnswers.{At, mismatch, no_place, bind, bind_by, type_named, unnamed}
+use Rattle.ash_typing.proofs.FaultAnswers.{At, mismatch, bind, bind_by, type_named, unnamed}
 use Rattle.ash_typing.proofs.FaultPhrases.{sees}
 use Rattle.ash_typing.proofs.FaultOperations.{AllAt, ListAt, Unassigned, arguments_in, assigned_in, call_in}
 use Rattle.ash_typing.proofs.FaultOperations.{called_with_in, choice_in, convert_in, counted_in, handle_in, integer_in}

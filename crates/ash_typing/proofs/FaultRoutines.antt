@@ -1,6 +1,6 @@
 -- The fault of a name, a parameter or a function is at a token where its rule is broken.
-use Rattle.std.proofs.Common.{◌≡◌, ℕ, ◌-◌, ◌∙◌, ◌+◌, Bool, List, [], ◌∷◌, ◌++◌, Option, Some, None, Ok, nat_eq, inl}
-use Rattle.std.proofs.Common.{inr, refl, ap}
+use Rattle.std.proofs.Common.{◌≡◌, ℕ, ◌-◌, ◌∙◌, Bool, List, [], ◌∷◌, ◌++◌, Option, Some, None, Ok, nat_eq, inl, inr}
+use Rattle.std.proofs.Common.{refl, ap}
 use Rattle.std.specs.Prelude.{◌||◌, option_map}
 use Rattle.std.specs.List.{AllByRecursion, list_any}
 use Rattle.ash_lex.specs.Tokens.{Meaning, name, reserved}

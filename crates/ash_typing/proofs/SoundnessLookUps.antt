@@ -27,10 +27,10 @@ use Rattle.ash_typed.specs.SoundOperations as operations
 use Rattle.ash_typed.specs.SoundExpressions as sound
 use Rattle.ash_typing.specs.declared.types.Ty.{Ty}
 use Rattle.ash_typing.specs.Types.{var_type, result_type, ty_of, ty_of_element}
-use Rattle.ash_typing.specs.Environment.{Environment, Declared, Interface, Class, Known, Invoked, first_from}
-use Rattle.ash_typing.specs.Environment.{last_named, declares, this_class, result_of, property, field_in, local_in}
-use Rattle.ash_typing.specs.Environment.{own_field_in, global_in, variable_in, member_in, array_method_of}
-use Rattle.ash_typing.specs.Environment.{host_member_in, name_of_kind, type_declared}
+use Rattle.ash_typing.specs.Environment.{Environment, Declared, Class, Known, Invoked, first_from, last_named, declares}
+use Rattle.ash_typing.specs.Environment.{this_class, result_of, property, field_in, local_in, own_field_in, global_in}
+use Rattle.ash_typing.specs.Environment.{variable_in, member_in, array_method_of, host_member_in, name_of_kind}
+use Rattle.ash_typing.specs.Environment.{type_declared}
 use Rattle.ash_typing.specs.Typing.{IsVariableType}
 use Rattle.ash_typing.specs.Offered.{property_at}
 use Rattle.ash_typing.specs.Soundness.{signature_of_class, seen_in}

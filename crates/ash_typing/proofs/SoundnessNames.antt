@@ -11,7 +11,6 @@ use Rattle.ash_registrations.specs.Calls as host
 use Rattle.ash_typed.specs.declared.types.ObjectType.{ObjectType}
 use Rattle.ash_typed.specs.declared.types.ObjectType.TheVariants.{Class as OfClass, Interface as OfInterface}
 use Rattle.ash_typed.specs.declared.types.ObjectType.TheVariants.{Host as OfHost, Array as OfArray}
-use Rattle.ash_typed.specs.declared.types.Element.{Element}
 use Rattle.ash_typed.specs.declared.types.VarType.{VarType}
 use Rattle.ash_typed.specs.declared.tree.operations.ArrayMethod.TheVariants as arrays
 use Rattle.ash_typed.specs.declared.tree.operations.Method.TheVariants as methods

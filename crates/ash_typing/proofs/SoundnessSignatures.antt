@@ -9,7 +9,7 @@ use Rattle.ash_typed.specs.Modules as modules
 use Rattle.ash_typed.specs.Signatures as signatures
 use Rattle.ash_typing.specs.declared.types.Ty.{Ty}
 use Rattle.ash_typing.specs.Types.{var_type, result_type}
-use Rattle.ash_typing.specs.Environment.{Environment, Declared, Heads, inside, type_declared}
+use Rattle.ash_typing.specs.Environment.{Environment, Heads, inside, type_declared}
 use Rattle.ash_typing.specs.Heads.{object_named, ty_named, result_named, declared, variables, parameter_ty}
 use Rattle.ash_typing.specs.Heads.{function_head, signature_head, interface_head, class_head, interface_place}
 use Rattle.ash_typing.specs.Heads.{with_place, listed_in, names_in, heads, ty_in, result_in, all_variables}

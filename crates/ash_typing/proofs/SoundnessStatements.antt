@@ -27,11 +27,11 @@ use Rattle.ash_typing.specs.Labels.{holds_minus, holds_label, is_same_constant, 
 use Rattle.ash_typing.specs.Typing.{IsKnown, AllHaveType, none_left, each}
 use Rattle.ash_typing.specs.Terms.{Term, converted_to}
 use Rattle.ash_typing.specs.TypedStatements.{IsKnownScope, IsCondition, condition, MayBeCondition, endless, until}
-use Rattle.ash_typing.specs.TypedStatements.{IsHead, head_is_empty, head_declares, head_evaluates, IsLabel}
-use Rattle.ash_typing.specs.TypedStatements.{constant, otherwise, tree_of_term, IsStmt, empty, declare, evaluate, block}
-use Rattle.ash_typing.specs.TypedStatements.{if_only, if_else, while_loop, do_loop, for_loop, switch, break_out}
-use Rattle.ash_typing.specs.TypedStatements.{continue_on, return_nothing, return_value, AreStmts, no_more_stmts}
-use Rattle.ash_typing.specs.TypedStatements.{more_stmts, AreCases, no_more_cases, more_cases}
+use Rattle.ash_typing.specs.TypedStatements.{IsHead, head_is_empty, head_declares, head_evaluates, IsLabel, constant}
+use Rattle.ash_typing.specs.TypedStatements.{otherwise, tree_of_term, IsStmt, empty, declare, evaluate, block, if_only}
+use Rattle.ash_typing.specs.TypedStatements.{if_else, while_loop, do_loop, for_loop, switch, break_out, continue_on}
+use Rattle.ash_typing.specs.TypedStatements.{return_nothing, return_value, AreStmts, no_more_stmts, more_stmts}
+use Rattle.ash_typing.specs.TypedStatements.{AreCases, no_more_cases, more_cases}
 use Rattle.ash_typing.specs.Nesting.{IsNoDeclaration, DeclaresInBlocks, AllDeclareInBlocks, CasesDeclareInBlocks}
 use Rattle.ash_typing.specs.Nesting.{LabelledDeclareInBlocks}
 use Rattle.ash_typing.specs.Soundness.{seen_in, seen_at}

@@ -28,10 +28,10 @@ use Rattle.ash_typing.specs.Statements.{head_typed, for_typed, break_typed, cont
 use Rattle.ash_typing.specs.Statements.{stmt_typed, stmts_typed, cases_typed}
 use Rattle.ash_typing.specs.TypedStatements.{AreDeclared, none_declared, and_declared, IsCondition, condition}
 use Rattle.ash_typing.specs.TypedStatements.{MayBeCondition, endless, until, IsHead, head_is_empty, head_declares}
-use Rattle.ash_typing.specs.TypedStatements.{head_evaluates, IsLabel, constant, otherwise, tree_of_term, IsStmt}
-use Rattle.ash_typing.specs.TypedStatements.{empty, declare, evaluate, block, if_only, if_else, while_loop, do_loop}
-use Rattle.ash_typing.specs.TypedStatements.{for_loop, switch, break_out, continue_on, return_nothing, return_value}
-use Rattle.ash_typing.specs.TypedStatements.{AreStmts, no_more_stmts, more_stmts, AreCases, no_more_cases, more_cases}
+use Rattle.ash_typing.specs.TypedStatements.{head_evaluates, IsLabel, constant, otherwise, tree_of_term, IsStmt, empty}
+use Rattle.ash_typing.specs.TypedStatements.{declare, evaluate, block, if_only, if_else, while_loop, do_loop, for_loop}
+use Rattle.ash_typing.specs.TypedStatements.{switch, break_out, continue_on, return_nothing, return_value, AreStmts}
+use Rattle.ash_typing.specs.TypedStatements.{no_more_stmts, more_stmts, AreCases, no_more_cases, more_cases}
 use Rattle.ash_typing.proofs.Bindings.{bind_is}
 use Rattle.ash_typing.proofs.TypedVariables.{known_complete}
 use Rattle.ash_typing.proofs.TypingComplete.{complete, all_complete, all_terms, terms, fitted_is}

@@ -28,10 +28,10 @@ use Rattle.ash_typing.specs.Statements.{head_typed, for_typed, break_typed, cont
 use Rattle.ash_typing.specs.Statements.{return_typed, stmt_typed, stmts_typed, cases_typed}
 use Rattle.ash_typing.specs.TypedStatements.{IsKnownScope, AreDeclared, none_declared, and_declared, IsCondition}
 use Rattle.ash_typing.specs.TypedStatements.{condition, MayBeCondition, endless, until, IsHead, head_is_empty}
-use Rattle.ash_typing.specs.TypedStatements.{head_declares, head_evaluates, IsLabel, constant, otherwise, IsStmt}
-use Rattle.ash_typing.specs.TypedStatements.{empty, declare, evaluate, block, if_only, if_else, while_loop, do_loop}
-use Rattle.ash_typing.specs.TypedStatements.{for_loop, switch, break_out, continue_on, return_nothing, return_value}
-use Rattle.ash_typing.specs.TypedStatements.{AreStmts, no_more_stmts, more_stmts, AreCases, no_more_cases, more_cases}
+use Rattle.ash_typing.specs.TypedStatements.{head_declares, head_evaluates, IsLabel, constant, otherwise, IsStmt, empty}
+use Rattle.ash_typing.specs.TypedStatements.{declare, evaluate, block, if_only, if_else, while_loop, do_loop, for_loop}
+use Rattle.ash_typing.specs.TypedStatements.{switch, break_out, continue_on, return_nothing, return_value, AreStmts}
+use Rattle.ash_typing.specs.TypedStatements.{no_more_stmts, more_stmts, AreCases, no_more_cases, more_cases}
 use Rattle.ash_typing.proofs.Bindings.{no_err, ok_is, bind_ok, if_ok}
 use Rattle.ash_typing.proofs.TakenNames.{all_append}
 use Rattle.ash_typing.proofs.TypedVariables.{known_sound}

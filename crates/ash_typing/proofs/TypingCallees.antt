@@ -1,6 +1,6 @@
 -- What a name before brackets is has the types that a typed tree says.
 use Rattle.std.specs.Option.{option_and_then, option_map, option_or}
-use Rattle.std.proofs.Common.{◌≡◌, ℕ, List, [], ◌∷◌, Bool, Option, Some, None, IfSome, find, slice_get, refl, ap}
+use Rattle.std.proofs.Common.{◌≡◌, ℕ, List, [], ◌∷◌, Option, Some, None, IfSome, find, slice_get, refl, ap}
 use Rattle.ash_registrations.specs.Calls as host
 use Rattle.ash_typed.specs.declared.types.ObjectType.{ObjectType}
 use Rattle.ash_typed.specs.declared.types.ObjectType.TheVariants.{Class as OfClass, Interface as OfInterface}
@@ -18,21 +18,21 @@ use Rattle.ash_typed.specs.declared.tree.operations.Method.TheVariants as method
 use Rattle.ash_typed.specs.declared.tree.operations.Target.TheVariants as targets
 use Rattle.ash_typing.specs.declared.forms.Callable.{Callable}
 use Rattle.ash_typing.specs.declared.forms.Callable.TheVariants as callables
-use Rattle.ash_typed.specs.Tree.{Exprs, Null, This, Read, Call, Stored, Held}
+use Rattle.ash_typed.specs.Tree.{Exprs, This, Read, Stored, Held}
 use Rattle.ash_typed.specs.TypeOf.{type_of, type_of_member, type_of_element, result_of_method, result_of_target, value}
 use Rattle.ash_typed.specs.TypeOf.{value_of_result, as_value}
 use Rattle.ash_typed.specs.declared.types.VarType.{VarType}
 use Rattle.ash_typed.specs.declared.types.VarType.TheVariants as vars
 use Rattle.ash_typing.specs.Types.{var_type, result_type, ty_of_var, value_type, ty_of_element}
-use Rattle.ash_typing.specs.Environment.{Environment, Declared, Function, Interface, Class, Known, Callee, Invoked}
-use Rattle.ash_typing.specs.Environment.{first_from, last_named, declares, is_called, is_class, this_class, variable_in}
-use Rattle.ash_typing.specs.Environment.{callee_in, member_in, method_in, method_of_class, method_of_interface}
-use Rattle.ash_typing.specs.Environment.{method_of_array, method_of_kind, array_method_of, is_array_method}
-use Rattle.ash_typing.specs.Environment.{host_member_in, service_function, host_type, host_method, property, named_in}
-use Rattle.ash_typing.specs.Environment.{own_method_in, class_in, function_in, field_in, local_in, own_field_in}
-use Rattle.ash_typing.specs.Environment.{global_in, callee_beside, class_method, interface_method}
+use Rattle.ash_typing.specs.Environment.{Environment, Declared, Function, Class, Known, Callee, Invoked, first_from}
+use Rattle.ash_typing.specs.Environment.{last_named, declares, is_called, is_class, this_class, variable_in, callee_in}
+use Rattle.ash_typing.specs.Environment.{member_in, method_in, method_of_class, method_of_interface, method_of_array}
+use Rattle.ash_typing.specs.Environment.{method_of_kind, array_method_of, is_array_method, host_member_in}
+use Rattle.ash_typing.specs.Environment.{service_function, host_type, host_method, property, named_in, own_method_in}
+use Rattle.ash_typing.specs.Environment.{class_in, function_in, field_in, local_in, own_field_in, global_in}
+use Rattle.ash_typing.specs.Environment.{callee_beside, class_method, interface_method}
 use Rattle.ash_typing.specs.Terms.{call_of}
-use Rattle.ash_typing.specs.Typing.{IsVariableType, IsResultType, call, method}
+use Rattle.ash_typing.specs.Typing.{IsVariableType, IsResultType}
 use Rattle.ash_typing.proofs.TypingKnown.{if_map, if_or, if_weaker, if_any, if_all}
 
 -- what names are

@@ -34,13 +34,13 @@ use Rattle.ash_typing.specs.declared.forms.Callable.TheVariants as callables
 use Rattle.ash_typed.specs.declared.types.Kind.{Kind}
 use Rattle.std.specs.Str.{bytes_eq}
 use Rattle.ash_typed.specs.Tree.{Number, Read, Stored, Held, This}
-use Rattle.ash_typing.specs.Environment.{Environment, Declared, Function, Interface, Class, Known, Callee, Invoked}
-use Rattle.ash_typing.specs.Environment.{first_from, last_named, declares, is_called, is_class, this_class, variable_in}
-use Rattle.ash_typing.specs.Environment.{callee_in, member_in, method_in, method_of_class, method_of_interface}
-use Rattle.ash_typing.specs.Environment.{method_of_array, method_of_kind, array_method_of, is_array_method}
-use Rattle.ash_typing.specs.Environment.{host_member_in, result_of, service_function, host_type, host_method, property}
-use Rattle.ash_typing.specs.Environment.{named_in, own_method_in, class_in, function_in, field_in, local_in}
-use Rattle.ash_typing.specs.Environment.{own_field_in, global_in, callee_beside, class_method, interface_method}
+use Rattle.ash_typing.specs.Environment.{Environment, Declared, Function, Class, Known, Callee, Invoked, first_from}
+use Rattle.ash_typing.specs.Environment.{last_named, declares, is_called, is_class, this_class, variable_in, callee_in}
+use Rattle.ash_typing.specs.Environment.{member_in, method_in, method_of_class, method_of_interface, method_of_array}
+use Rattle.ash_typing.specs.Environment.{method_of_kind, array_method_of, is_array_method, host_member_in, result_of}
+use Rattle.ash_typing.specs.Environment.{service_function, host_type, host_method, property, named_in, own_method_in}
+use Rattle.ash_typing.specs.Environment.{class_in, function_in, field_in, local_in, own_field_in, global_in}
+use Rattle.ash_typing.specs.Environment.{callee_beside, class_method, interface_method}
 use Rattle.ash_typing.specs.Typing.{IsKnown, IsKnownType, IsVariableType, IsResultType, IsKnownVariable}
 use Rattle.ash_typing.specs.Typing.{IsKnownFunction, IsKnownInterface, IsKnownClass, is_known, HasType, LinksHaveType}
 use Rattle.ash_typing.specs.Typing.{SuffixesHaveType, SuffixHasType, number, truth, null, this, name, call, brackets}

@@ -16,19 +16,18 @@ use Rattle.ash_typed.specs.declared.tree.operations.Operands.TheVariants as oper
 use Rattle.ash_typed.specs.declared.tree.operations.Step.TheVariants as steps
 use Rattle.ash_typing.specs.Checking.{Checking, ◌>>=◌, broken}
 use Rattle.ash_typing.specs.Types.{var_type, object_of, binary_of, integers_in}
-use Rattle.ash_typed.specs.Tree.{Expr, Exprs, Truth, Null, This, Read, Invoke, Cast, Conditional, Assign, Update, Call}
-use Rattle.ash_typed.specs.Tree.{Place, Held, no_expr, expr}
+use Rattle.ash_typed.specs.Tree.{Truth, Null, Read, Invoke, Assign, Update, Place, Held}
 use Rattle.ash_typing.specs.Heads.{object_named}
 use Rattle.ash_typing.specs.Environment.{Environment, Class, Invoked, variable_in, member_in, method_in}
 use Rattle.ash_typing.specs.Expressions.{Typed, Met, typed, all_typed, links_typed, suffixes_typed, suffix_typed}
-use Rattle.ash_typing.specs.Expressions.{invocation_typed, called, arguments_at, fitted, met, unary_at, integer_of}
-use Rattle.ash_typing.specs.Expressions.{convert_at, choice, assigned, assigned_to, stored, updated, is_assign}
-use Rattle.ash_typing.specs.Expressions.{field_of, member_at, method_of, invoked, invoked_at, made, read_at, indexed}
-use Rattle.ash_typing.specs.Expressions.{cast_type, cast_at, placed, term_of}
+use Rattle.ash_typing.specs.Expressions.{invocation_typed, arguments_at, fitted, met, unary_at, integer_of, convert_at}
+use Rattle.ash_typing.specs.Expressions.{choice, assigned, assigned_to, stored, updated, is_assign, field_of, member_at}
+use Rattle.ash_typing.specs.Expressions.{method_of, invoked, invoked_at, made, read_at, indexed, cast_type, cast_at}
+use Rattle.ash_typing.specs.Expressions.{placed, term_of}
 use Rattle.ash_typing.specs.Typing.{IsKnown, is_known, HasType, AllHaveType, LinksHaveType, SuffixesHaveType}
-use Rattle.ash_typing.specs.Typing.{SuffixHasType, number, truth, null, this, name, postfix, binary, assign, update}
-use Rattle.ash_typing.specs.Typing.{none_left, each, no_more, no_suffixes, suffixed, field, method, index}
-use Rattle.ash_typing.specs.Typing.{increment_after, decrement_after, Meet, right_of}
+use Rattle.ash_typing.specs.Typing.{SuffixHasType, number, truth, null, postfix, binary, assign, update, none_left}
+use Rattle.ash_typing.specs.Typing.{each, no_more, no_suffixes, suffixed, field, method, index, increment_after}
+use Rattle.ash_typing.specs.Typing.{decrement_after, Meet, right_of}
 use Rattle.ash_typing.proofs.TypingWords.{no_fault, same_ok, bind_ok, calculated_integers}
 use Rattle.ash_typing.proofs.TypingKnown.{known_type, suffix_known}
 use Rattle.ash_typing.proofs.TypingComplete.{terms}

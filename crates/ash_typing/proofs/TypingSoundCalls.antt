@@ -18,7 +18,7 @@ use Rattle.ash_typing.specs.declared.types.Ty.{Ty}
 use Rattle.ash_typing.specs.declared.types.Ty.TheVariants as ty
 use Rattle.ash_typing.specs.Checking.{Checking, ◌>>=◌, broken}
 use Rattle.ash_typing.specs.Types.{var_type, object_of, ty_of, ty_of_element}
-use Rattle.ash_typed.specs.Tree.{Expr, Exprs, This, Read, Cast, Call, Place, Indexed, no_expr, expr}
+use Rattle.ash_typed.specs.Tree.{Expr, Exprs, This, Read, Cast, Call, Indexed, no_expr, expr}
 use Rattle.ash_typing.specs.Fitting.{fits}
 use Rattle.ash_typing.specs.Heads.{object_named, element_named}
 use Rattle.ash_typing.specs.Environment.{Environment, Class, Known, Callee, variable_in, callee_in, array_built}
@@ -29,7 +29,7 @@ use Rattle.ash_typing.specs.Expressions.{indexed_object, indexed, at_element, kn
 use Rattle.ash_typing.specs.Expressions.{cast_at, term_of}
 use Rattle.ash_typing.specs.Typing.{is_known, HasType, AllHaveType, AreArguments, no_arguments, argument, IsCastType}
 use Rattle.ash_typing.specs.Typing.{to_class, to_interface, this, name, call, brackets, to_integer, to_bool, new_array}
-use Rattle.ash_typing.specs.Typing.{cast, index}
+use Rattle.ash_typing.specs.Typing.{cast}
 use Rattle.ash_typing.proofs.TypingWords.{no_fault, same_ok, bind_ok}
 use Rattle.ash_typing.proofs.TypingComplete.{terms}
 use Rattle.ash_typing.specs.Terms.{call_of, array_parameters, Term, term, converted_to}

@@ -16,7 +16,7 @@ use Rattle.ash_typed.specs.declared.tree.operations.Operands.{Operands}
 use Rattle.ash_typed.specs.declared.tree.operations.Operands.TheVariants as operands
 use Rattle.ash_typing.specs.declared.forms.Sort.{Sort}
 use Rattle.ash_typing.specs.declared.forms.Sort.TheVariants as sort
-use Rattle.ash_typed.specs.Tree.{Expr, Null, This, Read, Place, Stored, Held, place_in, converted}
+use Rattle.ash_typed.specs.Tree.{Expr, This, Read, Place, Stored, Held, place_in, converted}
 use Rattle.ash_typed.specs.TypeOf.{type_of, type_of_place, value, value_of_result, as_value, chosen_type}
 use Rattle.ash_typed.specs.declared.types.VarType.{VarType}
 use Rattle.ash_typed.specs.declared.types.VarType.TheVariants as vars

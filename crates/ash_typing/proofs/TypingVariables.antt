@@ -8,7 +8,7 @@ use Rattle.ash_typing.specs.declared.types.Ty.{Ty}
 use Rattle.ash_typing.specs.declared.types.Ty.TheVariants as ty
 use Rattle.ash_typing.specs.Types.{var_type, object_of}
 use Rattle.ash_typing.specs.Fitting.{fits}
-use Rattle.ash_typed.specs.Tree.{Expr, Exprs, Call}
+use Rattle.ash_typed.specs.Tree.{Expr, Exprs}
 use Rattle.ash_typing.specs.Environment.{Environment, Class, Callee, construction}
 use Rattle.ash_typing.specs.Expressions.{Typed, typed, all_typed, fitted, called, placed, all_placed, term_of, first_at}
 use Rattle.ash_typing.specs.Declarations.{Initialization, constructed, begun, begun_with, begun_by, begun_by_one}

@@ -1,6 +1,6 @@
 -- The words of the typing rules, and those of the walk.
 use Rattle.std.proofs.lemmas.Option.{none-some, same_Some}
-use Rattle.std.proofs.Common.{◌≡◌, ℕ, IsOk, Bool, true, false, cond, Some, Ok, Err, refl, sym, subst}
+use Rattle.std.proofs.Common.{◌≡◌, ℕ, IsOk, true, Some, Ok, Err, refl, sym, subst}
 use Rattle.ash_tree.specs.declared.tree.operators.BinaryOp.{BinaryOp}
 use Rattle.ash_typing.specs.declared.fault.Fault.{Fault}
 use Rattle.ash_typed.specs.declared.types.Kind.{Kind}
@@ -9,18 +9,15 @@ use Rattle.ash_typing.specs.declared.types.Ty.{Ty}
 use Rattle.ash_typing.specs.declared.types.Ty.TheVariants as ty
 use Rattle.ash_typing.specs.declared.forms.Sort.{Sort}
 use Rattle.ash_typing.specs.declared.forms.Sort.TheVariants as sort
-use Rattle.ash_typing.specs.declared.forms.Form.{Form}
-use Rattle.ash_typing.specs.declared.forms.Form.TheVariants as form
 use Rattle.ash_typed.specs.declared.tree.operations.Calculator.{Calculator}
 use Rattle.ash_typed.specs.declared.tree.operations.Calculator.TheVariants as calculators
 use Rattle.ash_typed.specs.declared.tree.operations.Operands.{Operands}
 use Rattle.ash_typed.specs.declared.tree.operations.Operands.TheVariants as operands
 use Rattle.ash_typing.specs.Checking.{Checking, ◌>>=◌}
-use Rattle.ash_typing.specs.Types.{is_same_kind, meeting, holds, sort_of, binary_of, integers_in, meets, assumed}
-use Rattle.ash_typed.specs.Tree.{Number}
+use Rattle.ash_typing.specs.Types.{is_same_kind, meeting, sort_of, binary_of, integers_in, meets, assumed}
 use Rattle.ash_typing.specs.Expressions.{adapted, met, placed, term_of}
 use Rattle.ash_typing.specs.Typing.{is_known, Meet, right_of}
-use Rattle.ash_typing.specs.Terms.{Term, taking, adapted_to, converted_to, right_by}
+use Rattle.ash_typing.specs.Terms.{Term, adapted_to, converted_to, right_by}
 
 -- answers
 

@@ -1,4 +1,4 @@
-use Rattle.std.proofs.Common.{◌≡◌, ◌∙◌, [], IsTrue, false, drop, refl, sym, subst, inl}
+use Rattle.std.proofs.Common.{◌∙◌, [], IsTrue, drop, refl, sym, subst, inl}
 use Rattle.std.proofs.lemmas.Result.{on_ok_weaker}
 use Rattle.ash_disk.specs.Device.{Throughout}
 use Rattle.ash_disk.proofs.MomentLaws.{goes_on_either, weaker}

@@ -2,7 +2,7 @@ use Rattle.std.proofs.Common.{◌≡◌, ◌∙◌, ◌+◌, ◌^◌, ◌<◌, �
 use Rattle.std.proofs.Common.{sym, subst, arith}
 use Rattle.ash_disk.specs.Device.{Throughout}
 use Rattle.ash_journal.specs.declared.other_state.OtherState.TheVariants.{Older}
-use Rattle.ash_journal.specs.Layout.{mark, block, IsShut}
+use Rattle.ash_journal.specs.Layout.{mark, block}
 use Rattle.ash_journal.specs.Writes.{IsOn, WhileReplaced}
 use Rattle.ash_journal.specs.OtherState.{is_older, first_of, second_of}
 use Rattle.ash_journal.specs.Current.{Is, Either}
