@@ -4,6 +4,6 @@ pub mod WaysBack
 pub mod Ranked
 pub mod Searches
 pub mod ReferenceLaws
-pub mod ToldLaws
+pub mod CycleLaws
 pub mod Shortcuts
 pub mod ToldSearches

@@ -1,5 +1,6 @@
 -- Ranks from the distances to each place.
-use Rattle.std.proofs.Common.{◌≡◌, ℕ, zero, suc, ◌+◌, ◌<◌, ◌≤◌, List, [], ◌∷◌, ◌++◌, length, get_or, Option, Some, None, is_none, inl, inr, refl, sym, ap, ◌∙◌, subst, arith, cond}
+use Rattle.std.proofs.Common.{◌≡◌, ℕ, zero, suc, ◌+◌, ◌<◌, ◌≤◌, List, [], ◌∷◌, ◌++◌, length, get_or, Option, Some, None}
+use Rattle.std.proofs.Common.{is_none, inl, inr, refl, sym, ap, ◌∙◌, subst, arith, cond}
 use Rattle.std.proofs.lemmas.Bool.{cases_lt}
 use Rattle.std.proofs.lemmas.Option.{none-some}
 use Rattle.std.proofs.lemmas.List.{get_or_past, get_or_push, length-append, get_or_append_left}
@@ -9,7 +10,8 @@ use Rattle.ash_classes.specs.Ways.{IsWay, Reaches, AreRanks}
 use Rattle.ash_classes.specs.Marking.{Goes, AreWithin, IsAt, AreDistances, unmarked}
 
 -- whoever goes on along a way gets one step farther
-way_further : (R : ℕ → ℕ → Type 0) (from mid to : ℕ) (between : List ℕ) → IsWay R from between mid → R mid to → IsWay R from (between ++ mid ∷ []) to
+way_further : (R : ℕ → ℕ → Type 0) (from mid to : ℕ) (between : List ℕ) → IsWay R from between mid → R mid to
+    → IsWay R from (between ++ mid ∷ []) to
 way_further R from mid to [] way step = (way, step)
 way_further R from mid to (next ∷ between) way step = (way.0, way_further R next mid to between way.1 step)
 
@@ -17,11 +19,13 @@ unmarked-cons : (o : Option ℕ) (os : List (Option ℕ)) → unmarked (o ∷ os
 unmarked-cons o os = sum_by-cons (λ (x : Option ℕ). cond (is_none x) 1 0) o os
 
 -- a place without a mark counts
-pub some_unmarked : (marks : List (Option ℕ)) (place : ℕ) → place < length marks → get_or marks place None ≡ None → 0 < unmarked marks
+pub some_unmarked : (marks : List (Option ℕ)) (place : ℕ) → place < length marks → get_or marks place None ≡ None
+    → 0 < unmarked marks
 some_unmarked [] place within none = absurd (omega arith)
 some_unmarked (None ∷ marks) place within none = omega (arith, unmarked-cons None marks)
 some_unmarked (Some x ∷ marks) zero within none = absurd (none-some x (sym none))
-some_unmarked (Some x ∷ marks) (suc place) within none = omega (arith, unmarked-cons (Some x) marks, some_unmarked marks place (omega arith) none)
+some_unmarked (Some x ∷ marks) (suc place) within none =
+    omega (arith, unmarked-cons (Some x) marks, some_unmarked marks place (omega arith) none)
 
 -- whatever is marked in the one list is in the other
 abbrev pub IsCovered : List (Option ℕ) → List (Option ℕ) → Type 0
@@ -31,22 +35,66 @@ not_more : (xs ys : List (Option ℕ)) → length xs ≡ length ys → IsCovered
 not_more [] [] e h = omega arith
 not_more [] (y ∷ ys) e h = absurd (omega (arith, e))
 not_more (x ∷ xs) [] e h = absurd (omega (arith, e))
-not_more (None ∷ xs) (None ∷ ys) e h = omega (arith, unmarked-cons None xs, unmarked-cons None ys, not_more xs ys (omega (arith, e)) (λ place at k. h (suc place) at k))
-not_more (None ∷ xs) (Some y ∷ ys) e h = omega (arith, unmarked-cons None xs, unmarked-cons (Some y) ys, not_more xs ys (omega (arith, e)) (λ place at k. h (suc place) at k))
+not_more (None ∷ xs) (None ∷ ys) e h =
+    omega (
+      arith,
+      unmarked-cons None xs,
+      unmarked-cons None ys,
+      not_more xs ys (omega (arith, e)) (λ place at k. h (suc place) at k),
+    )
+not_more (None ∷ xs) (Some y ∷ ys) e h =
+    omega (
+      arith,
+      unmarked-cons None xs,
+      unmarked-cons (Some y) ys,
+      not_more xs ys (omega (arith, e)) (λ place at k. h (suc place) at k),
+    )
 not_more (Some x ∷ xs) (None ∷ ys) e h = let k = h zero x refl in absurd (none-some k.0 k.1)
-not_more (Some x ∷ xs) (Some y ∷ ys) e h = omega (arith, unmarked-cons (Some x) xs, unmarked-cons (Some y) ys, not_more xs ys (omega (arith, e)) (λ place at k. h (suc place) at k))
+not_more (Some x ∷ xs) (Some y ∷ ys) e h =
+    omega (
+      arith,
+      unmarked-cons (Some x) xs,
+      unmarked-cons (Some y) ys,
+      not_more xs ys (omega (arith, e)) (λ place at k. h (suc place) at k),
+    )
 
 -- and one more is marked in the other
-pub fewer : (xs ys : List (Option ℕ)) (place at : ℕ) → length xs ≡ length ys → IsCovered xs ys → place < length xs → get_or xs place None ≡ None → IsAt ys place at → unmarked ys < unmarked xs
+pub fewer : (xs ys : List (Option ℕ)) (place at : ℕ) → length xs ≡ length ys → IsCovered xs ys → place < length xs
+    → get_or xs place None ≡ None → IsAt ys place at → unmarked ys < unmarked xs
 fewer [] ys place at e h within none some = absurd (omega arith)
 fewer (x ∷ xs) [] place at e h within none some = absurd (omega (arith, e))
 fewer (None ∷ xs) (None ∷ ys) zero at e h within none some = absurd (none-some at some)
-fewer (None ∷ xs) (Some y ∷ ys) zero at e h within none some = omega (arith, unmarked-cons None xs, unmarked-cons (Some y) ys, not_more xs ys (omega (arith, e)) (λ place at k. h (suc place) at k))
+fewer (None ∷ xs) (Some y ∷ ys) zero at e h within none some =
+    omega (
+      arith,
+      unmarked-cons None xs,
+      unmarked-cons (Some y) ys,
+      not_more xs ys (omega (arith, e)) (λ place at k. h (suc place) at k),
+    )
 fewer (Some x ∷ xs) ys zero at e h within none some = absurd (none-some x (sym none))
-fewer (None ∷ xs) (None ∷ ys) (suc place) at e h within none some = omega (arith, unmarked-cons None xs, unmarked-cons None ys, fewer xs ys place at (omega (arith, e)) (λ place at k. h (suc place) at k) (omega (arith, within)) none some)
-fewer (None ∷ xs) (Some y ∷ ys) (suc place) at e h within none some = omega (arith, unmarked-cons None xs, unmarked-cons (Some y) ys, fewer xs ys place at (omega (arith, e)) (λ place at k. h (suc place) at k) (omega (arith, within)) none some)
-fewer (Some x ∷ xs) (None ∷ ys) (suc place) at e h within none some = let k = h zero x refl in absurd (none-some k.0 k.1)
-fewer (Some x ∷ xs) (Some y ∷ ys) (suc place) at e h within none some = omega (arith, unmarked-cons (Some x) xs, unmarked-cons (Some y) ys, fewer xs ys place at (omega (arith, e)) (λ place at k. h (suc place) at k) (omega (arith, within)) none some)
+fewer (None ∷ xs) (None ∷ ys) (suc place) at e h within none some =
+    omega (
+      arith,
+      unmarked-cons None xs,
+      unmarked-cons None ys,
+      fewer xs ys place at (omega (arith, e)) (λ place at k. h (suc place) at k) (omega (arith, within)) none some,
+    )
+fewer (None ∷ xs) (Some y ∷ ys) (suc place) at e h within none some =
+    omega (
+      arith,
+      unmarked-cons None xs,
+      unmarked-cons (Some y) ys,
+      fewer xs ys place at (omega (arith, e)) (λ place at k. h (suc place) at k) (omega (arith, within)) none some,
+    )
+fewer (Some x ∷ xs) (None ∷ ys) (suc place) at e h within none some = let k = h zero x refl in
+    absurd (none-some k.0 k.1)
+fewer (Some x ∷ xs) (Some y ∷ ys) (suc place) at e h within none some =
+    omega (
+      arith,
+      unmarked-cons (Some x) xs,
+      unmarked-cons (Some y) ys,
+      fewer xs ys place at (omega (arith, e)) (λ place at k. h (suc place) at k) (omega (arith, within)) none some,
+    )
 
 -- a rank, one less than the number of places that don't lead to the place, which is one of them
 pub record IsRank (R : ℕ → ℕ → Type 0) (places place rank : ℕ) : Type 0 where
@@ -69,30 +117,42 @@ not_round R places place rank r round =
     let near = r.distances.least place round.0 round.1 in
     none-some near.0 (sym r.alone ∙ near.1)
 
-pub one_ranked : (R : ℕ → ℕ → Type 0) (places before rank : ℕ) (ranks : List ℕ) → AreRanked R places before ranks → IsRank R places before rank → AreRanked R places (before + 1) (ranks ++ rank ∷ [])
+pub one_ranked : (R : ℕ → ℕ → Type 0) (places before rank : ℕ) (ranks : List ℕ) → AreRanked R places before ranks
+    → IsRank R places before rank → AreRanked R places (before + 1) (ranks ++ rank ∷ [])
 one_ranked R places before rank ranks h r = record {
   count = omega (arith, length-append ranks (rank ∷ []), h.count);
   each = λ place less. elim (cases_lt place before) [
-    | inl lower ↦ subst (λ (k : ℕ). IsRank R places place k) (sym (get_or_append_left ranks (rank ∷ []) 0 place (omega (arith, lower, h.count)))) (h.each place lower)
+    | inl lower ↦
+        subst (λ (k : ℕ). IsRank R places place k)
+        (sym (get_or_append_left ranks (rank ∷ []) 0 place (omega (arith, lower, h.count)))) (h.each place lower)
     | inr higher ↦
         let e : place ≡ before = omega (arith, less, higher) in
-        subst (λ (k : ℕ). IsRank R places k (get_or (ranks ++ rank ∷ []) k 0)) (sym e) (subst (λ (k : ℕ). IsRank R places before k) (sym (get_or_push ranks rank 0 before h.count)) r)
+        subst (λ (k : ℕ). IsRank R places k (get_or (ranks ++ rank ∷ []) k 0)) (sym e)
+        (subst (λ (k : ℕ). IsRank R places before k) (sym (get_or_push ranks rank 0 before h.count)) r)
   ];
 }
 
 -- no place was passed by that reaches itself
-pub earliest_of : (R : ℕ → ℕ → Type 0) (places first : ℕ) (ranks : List ℕ) → AreRanked R places first ranks → (other : ℕ) → Reaches R other other → first ≤ other
-earliest_of R places first ranks h other round = elim (cases_lt other first) [ inl lower ↦ absurd (not_round R places other (get_or ranks other 0) (h.each other lower) round) | inr higher ↦ higher ]
+pub earliest_of : (R : ℕ → ℕ → Type 0) (places first : ℕ) (ranks : List ℕ) → AreRanked R places first ranks
+    → (other : ℕ) → Reaches R other other → first ≤ other
+earliest_of R places first ranks h other round = elim (cases_lt other first) [
+  | inl lower ↦ absurd (not_round R places other (get_or ranks other 0) (h.each other lower) round)
+  | inr higher ↦ higher
+]
 
 -- whoever goes from a place to another has the greater rank
-greater_of : (R : ℕ → ℕ → Type 0) (places from to high low : ℕ) → from < places → R from to → IsRank R places from high → IsRank R places to low → low < high
+greater_of : (R : ℕ → ℕ → Type 0) (places from to high low : ℕ) → from < places → R from to → IsRank R places from high
+    → IsRank R places to low → low < high
 greater_of R places from to high low within step f t =
     let covered : IsCovered f.marks t.marks = λ place at h.
-    let led = f.distances.led place at h in
-    let near = t.distances.least place (led.0 ++ from ∷ []) (way_further R place from to led.0 led.2 step) in
+    let reached = f.distances.reached place at h in
+    let near = t.distances.least place (reached.0 ++ from ∷ [])
+    (way_further R place from to reached.0 reached.2 step) in
     (near.0, near.1) in
     let near = t.distances.least from [] step in
-    let less : unmarked t.marks < unmarked f.marks = fewer f.marks t.marks from near.0 (f.distances.long ∙ sym t.distances.long) covered (omega (arith, within, f.distances.long)) f.alone near.1 in
+    let less : unmarked t.marks < unmarked f.marks =
+    fewer f.marks t.marks from near.0 (f.distances.long ∙ sym t.distances.long) covered
+    (omega (arith, within, f.distances.long)) f.alone near.1 in
     omega (arith, less, f.counted, t.counted)
 
 pub row_of_place : (rows : List (List ℕ)) (from to : ℕ) → Goes rows from to → to < length rows
@@ -105,7 +165,8 @@ row_of_place rows from to h = elim (cases_lt to (length rows)) [
 ]
 
 -- each place has its rank
-pub all_ranked : (rows : List (List ℕ)) (places : ℕ) (ranks : List ℕ) → places ≡ length rows → AreWithin rows → AreRanked (Goes rows) places places ranks → AreRanks (Goes rows) places ranks
+pub all_ranked : (rows : List (List ℕ)) (places : ℕ) (ranks : List ℕ) → places ≡ length rows → AreWithin rows
+    → AreRanked (Goes rows) places places ranks → AreRanks (Goes rows) places ranks
 all_ranked rows places ranks e within h = record {
   count = h.count;
   within = All-from_get_or (λ rank. rank < places) ranks 0 (λ i lt.
@@ -114,12 +175,16 @@ all_ranked rows places ranks e within h = record {
   greater = λ from to step.
       let low : from < places = omega (arith, within from to step, e) in
       let high : to < places = omega (arith, row_of_place rows from to step, e) in
-      greater_of (Goes rows) places from to (get_or ranks from 0) (get_or ranks to 0) low step (h.each from low) (h.each to high);
+      greater_of (Goes rows) places from to (get_or ranks from 0) (get_or ranks to 0) low step (h.each from low)
+      (h.each to high);
 }
 
 -- no place reaches itself
-pub all_acyclic : (rows : List (List ℕ)) (places : ℕ) (ranks : List ℕ) → places ≡ length rows → AreWithin rows → AreRanked (Goes rows) places places ranks → (place : ℕ) → Reaches (Goes rows) place place → ⊥
-all_acyclic rows places ranks e within h place round = let low : place < places = omega (arith, starts_within round.0 round.1, e) in not_round (Goes rows) places place (get_or ranks place 0) (h.each place low) round
+pub all_acyclic : (rows : List (List ℕ)) (places : ℕ) (ranks : List ℕ) → places ≡ length rows → AreWithin rows
+    → AreRanked (Goes rows) places places ranks → (place : ℕ) → Reaches (Goes rows) place place → ⊥
+all_acyclic rows places ranks e within h place round = let low : place < places =
+    omega (arith, starts_within round.0 round.1, e) in
+    not_round (Goes rows) places place (get_or ranks place 0) (h.each place low) round
   where
     starts_within : (between : List ℕ) → IsWay (Goes rows) place between place → place < length rows
     starts_within [] way = within place place way

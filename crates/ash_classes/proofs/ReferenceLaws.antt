@@ -1,5 +1,7 @@
 -- References of classes, gathered one after another.
-use Rattle.std.proofs.Common.{◌≡◌, ℕ, zero, suc, ◌+◌, ◌<◌, ◌≤◌, ◌⊎◌, ◌↔◌, List, [], ◌∷◌, ◌++◌, length, map, get_or, slice_get, option_map, Some, Contains, Vec, Global, Bor, inl, inr, refl, sym, ap, ◌∙◌, subst, arith, length-append}
+use Rattle.std.proofs.Common.{◌≡◌, ℕ, zero, suc, ◌+◌, ◌<◌, ◌≤◌, ◌⊎◌, ◌↔◌, List, [], ◌∷◌, ◌++◌, length, map, get_or}
+use Rattle.std.proofs.Common.{slice_get, option_map, Some, Contains, Vec, Global, Bor, inl, inr, refl, sym, ap, ◌∙◌}
+use Rattle.std.proofs.Common.{subst, arith, length-append}
 use Rattle.std.proofs.lemmas.Bool.{cases_lt}
 use Rattle.std.proofs.lemmas.Option.{same_Some, slice_get_within, slice_get-map, slice_get_read}
 use Rattle.std.proofs.lemmas.List.{map-append, length-map, get_or_past, get_or_push, get_or_append_left}
@@ -13,7 +15,8 @@ use Rattle.ash_classes.specs.References.{RefersTo, RefersAt, Refers, seen}
 use Rattle.ash_classes.proofs.Searches.{IsAnyOf}
 
 -- a list has one that passes
-pub any_of : {X Y : Type 0} (Passes : Y → Type 0) (view : X → Y) → IsAnyOf (λ (xs : List X). Any Passes (map view xs)) (λ x. Passes (view x))
+pub any_of : {X Y : Type 0} (Passes : Y → Type 0) (view : X → Y)
+    → IsAnyOf (λ (xs : List X). Any Passes (map view xs)) (λ x. Passes (view x))
 any_of {X} {Y} Passes view = record {
   first = λ x xs h. (0, view x, omega (arith, length-map xs view), refl, h);
   later = λ x xs h. (suc h.0, h.1, omega (arith, h.2), h.3, h.4);
@@ -21,7 +24,8 @@ any_of {X} {Y} Passes view = record {
   split = λ x xs h. cases x xs h.0 h.1 h.2 h.3 h.4;
 }
   where
-    cases : (x : X) (xs : List X) (k : ℕ) (y : Y) → k < length (map view (x ∷ xs)) → get_or (map view (x ∷ xs)) k y ≡ y → Passes y → Passes (view x) ⊎ Any Passes (map view xs)
+    cases : (x : X) (xs : List X) (k : ℕ) (y : Y) → k < length (map view (x ∷ xs)) → get_or (map view (x ∷ xs)) k y ≡ y
+        → Passes y → Passes (view x) ⊎ Any Passes (map view xs)
     cases x xs zero y within is p = inl (subst Passes (sym is) p)
     cases x xs (suc k) y within is p = inr (k, y, omega (arith, within), is, p)
 
@@ -37,7 +41,8 @@ none_in p h = let w : h.0 < 0 = h.1 in omega (arith, w)
 pub row_start : (classes : List Class) (other : Class) → IsRowBefore classes other 0 []
 row_start classes other = λ from. (λ h. absurd (none_in from h), λ h. absurd (omega (arith, h.0)))
 
-pub row_more : (classes : List Class) (one other : Class) (i : ℕ) (row : List ℕ) → slice_get classes i ≡ Some one → RefersTo one other → IsRowBefore classes other i row → IsRowBefore classes other (i + 1) (row ++ i ∷ [])
+pub row_more : (classes : List Class) (one other : Class) (i : ℕ) (row : List ℕ) → slice_get classes i ≡ Some one
+    → RefersTo one other → IsRowBefore classes other i row → IsRowBefore classes other (i + 1) (row ++ i ∷ [])
 row_more classes one other i row at refers h = λ from. (
   λ c. elim (Contains-push_cases row i from c) [
     | inl was ↦ (let w = (h from).0 was in (omega (arith, w.0), w.1))
@@ -45,11 +50,14 @@ row_more classes one other i row at refers h = λ from. (
   ],
   λ w. elim (cases_lt from i) [
     | inl lower ↦ Contains-append_left row (i ∷ []) from ((h from).1 (lower, w.1))
-    | inr higher ↦ (let e : i ≡ from = omega (arith, w.0, higher) in subst (λ (k : ℕ). Contains (row ++ i ∷ []) k) e (Contains-push row i))
+    | inr higher ↦
+        (let e : i ≡ from = omega (arith, w.0, higher) in
+        subst (λ (k : ℕ). Contains (row ++ i ∷ []) k) e (Contains-push row i))
   ],
 )
 
-pub row_same : (classes : List Class) (one other : Class) (i : ℕ) (row : List ℕ) → slice_get classes i ≡ Some one → (RefersTo one other → ⊥) → IsRowBefore classes other i row → IsRowBefore classes other (i + 1) row
+pub row_same : (classes : List Class) (one other : Class) (i : ℕ) (row : List ℕ) → slice_get classes i ≡ Some one
+    → (RefersTo one other → ⊥) → IsRowBefore classes other i row → IsRowBefore classes other (i + 1) row
 row_same classes one other i row at refers h = λ from. (
   λ c. let w = (h from).0 c in (omega (arith, w.0), w.1),
   λ w. elim (cases_lt from i) [
@@ -61,8 +69,14 @@ row_same classes one other i row at refers h = λ from. (
   ],
 )
 
-pub row_end : (classes : List Class) (other : Class) (i : ℕ) (row : List ℕ) → length classes ≤ i → IsRowBefore classes other i row → (from : ℕ) → Contains row from ↔ RefersAt classes from other
-row_end classes other i row past h = λ from. (λ c. ((h from).0 c).1, λ w. (h from).1 (let l : from < length classes = slice_get_within classes from w.0 w.1 in omega (arith, l, past), w))
+pub row_end : (classes : List Class) (other : Class) (i : ℕ) (row : List ℕ) → length classes ≤ i
+    → IsRowBefore classes other i row → (from : ℕ) → Contains row from ↔ RefersAt classes from other
+row_end classes other i row past h =
+    λ from. (
+      λ c. ((h from).0 c).1,
+      λ w. (h from).1
+          (let l : from < length classes = slice_get_within classes from w.0 w.1 in omega (arith, l, past), w),
+    )
 
 -- rows
 
@@ -71,41 +85,71 @@ pub record AreRowsBefore (classes : List Class) (before : ℕ) (rows : List (Lis
   pub each : (from to : ℕ) → Goes rows from to ↔ ((to < before) × Refers classes from to)
 
 pub rows_start : (classes : List Class) → AreRowsBefore classes 0 []
-rows_start classes = record { count = refl; each = λ from to. (λ h. absurd (none_in from h), λ h. absurd (omega (arith, h.0))) }
+rows_start classes =
+    record { count = refl; each = λ from to. (λ h. absurd (none_in from h), λ h. absurd (omega (arith, h.0))) }
 
-pub rows_more : (classes : List Class) (other : Class) (i : ℕ) (rows : List (List ℕ)) (row : List ℕ) → slice_get classes i ≡ Some other → ((from : ℕ) → Contains row from ↔ RefersAt classes from other) → AreRowsBefore classes i rows → AreRowsBefore classes (i + 1) (rows ++ row ∷ [])
+pub rows_more : (classes : List Class) (other : Class) (i : ℕ) (rows : List (List ℕ)) (row : List ℕ)
+    → slice_get classes i ≡ Some other → ((from : ℕ) → Contains row from ↔ RefersAt classes from other)
+    → AreRowsBefore classes i rows → AreRowsBefore classes (i + 1) (rows ++ row ∷ [])
 rows_more classes other i rows row at is h = record {
   count = omega (arith, length-append rows (row ∷ []), h.count);
   each = λ from to. elim (cases_lt to i) [
     | inl lower ↦
-        let e : get_or (rows ++ row ∷ []) to [] ≡ get_or rows to [] = get_or_append_left rows (row ∷ []) [] to (omega (arith, lower, h.count)) in (
+        let e : get_or (rows ++ row ∷ []) to [] ≡ get_or rows to [] =
+        get_or_append_left rows (row ∷ []) [] to (omega (arith, lower, h.count)) in (
           λ c. (let w = (h.each from to).0 (subst (λ (r : List ℕ). Contains r from) e c) in (omega (arith, w.0), w.1)),
           λ w. subst (λ (r : List ℕ). Contains r from) (sym e) ((h.each from to).1 (lower, w.1)),
         )
     | inr higher ↦ elim (cases_lt i to) [
       | inl past ↦
-          let e : get_or (rows ++ row ∷ []) to [] ≡ [] = get_or_past (rows ++ row ∷ []) to [] (omega (arith, length-append rows (row ∷ []), h.count, past)) in
-          (λ c. absurd (none_in from (subst (λ (r : List ℕ). Contains r from) e c)), λ w. absurd (omega (arith, w.0, past)))
+          let e : get_or (rows ++ row ∷ []) to [] ≡ [] =
+          get_or_past (rows ++ row ∷ []) to [] (omega (arith, length-append rows (row ∷ []), h.count, past)) in (
+            λ c. absurd (none_in from (subst (λ (r : List ℕ). Contains r from) e c)),
+            λ w. absurd (omega (arith, w.0, past)),
+          )
       | inr here ↦
           let same : i ≡ to = omega (arith, higher, here) in
-          let e : get_or (rows ++ row ∷ []) to [] ≡ row = subst (λ (k : ℕ). get_or (rows ++ row ∷ []) k [] ≡ row) same (get_or_push rows row [] i h.count) in (
-            λ c. (omega (arith, same), (other, subst (λ (k : ℕ). slice_get classes k ≡ Some other) same at, (is from).0 (subst (λ (r : List ℕ). Contains r from) e c))),
-            λ w. subst (λ (r : List ℕ). Contains r from) (sym e) ((is from).1 (subst (λ (c : Class). RefersAt classes from c) (same_Some w.1.0 other (sym w.1.1 ∙ subst (λ (k : ℕ). slice_get classes k ≡ Some other) same at)) w.1.2)),
+          let e : get_or (rows ++ row ∷ []) to [] ≡ row =
+          subst (λ (k : ℕ). get_or (rows ++ row ∷ []) k [] ≡ row) same (get_or_push rows row [] i h.count) in (
+            λ c. (
+              omega (arith, same),
+              (
+                other,
+                subst (λ (k : ℕ). slice_get classes k ≡ Some other) same at,
+                (is from).0 (subst (λ (r : List ℕ). Contains r from) e c),
+              ),
+            ),
+            λ w. subst (λ (r : List ℕ). Contains r from) (sym e)
+                ((is from).1
+                (subst (λ (c : Class). RefersAt classes from c)
+                (same_Some w.1.0 other (sym w.1.1 ∙ subst (λ (k : ℕ). slice_get classes k ≡ Some other) same at))
+                w.1.2)),
           )
     ]
   ];
 }
 
-pub rows_end : (classes : List Class) (i : ℕ) (rows : List (List ℕ)) → length classes ≤ i → AreRowsBefore classes i rows → (from to : ℕ) → Goes rows from to ↔ Refers classes from to
-rows_end classes i rows past h = λ from to. (λ c. ((h.each from to).0 c).1, λ w. (h.each from to).1 (let l : to < length classes = slice_get_within classes to w.0 w.1 in omega (arith, l, past), w))
+pub rows_end : (classes : List Class) (i : ℕ) (rows : List (List ℕ)) → length classes ≤ i → AreRowsBefore classes i rows
+    → (from to : ℕ) → Goes rows from to ↔ Refers classes from to
+rows_end classes i rows past h =
+    λ from to. (
+      λ c. ((h.each from to).0 c).1,
+      λ w. (h.each from to).1
+          (let l : to < length classes = slice_get_within classes to w.0 w.1 in omega (arith, l, past), w),
+    )
 
 -- the class that was read at a place
-pub seen_at : (classes : List (Bor code_class.Class)) (i : ℕ) (x : Bor code_class.Class) → i < length classes → x ≡ get_or classes i x → slice_get (seen classes) i ≡ Some (class_of x.now)
-seen_at classes i x within is = slice_get-map (λ (c : Bor code_class.Class). class_of c.now) classes i ∙ ap (option_map (λ (c : Bor code_class.Class). class_of c.now)) (slice_get_read classes (length classes) i x refl within is)
+pub seen_at : (classes : List (Bor code_class.Class)) (i : ℕ) (x : Bor code_class.Class) → i < length classes
+    → x ≡ get_or classes i x → slice_get (seen classes) i ≡ Some (class_of x.now)
+seen_at classes i x within is =
+    slice_get-map (λ (c : Bor code_class.Class). class_of c.now) classes i
+    ∙ ap (option_map (λ (c : Bor code_class.Class). class_of c.now))
+    (slice_get_read classes (length classes) i x refl within is)
 
 pub length-seen : (classes : List (Bor code_class.Class)) → length (seen classes) ≡ length classes
 length-seen classes = length-map classes (λ (c : Bor code_class.Class). class_of c.now)
 
--- the rows with one more behind them
-pub rows_of-push : (table : List (Vec ℕ Global)) (row : Vec ℕ Global) → rows_of (table ++ row ∷ []) ≡ rows_of table ++ row.items ∷ []
+-- the rows with one more after them
+pub rows_of-push : (table : List (Vec ℕ Global)) (row : Vec ℕ Global)
+    → rows_of (table ++ row ∷ []) ≡ rows_of table ++ row.items ∷ []
 rows_of-push table row = map-append (λ (v : Vec ℕ Global). v.items) table (row ∷ [])

@@ -1,5 +1,6 @@
 -- The foremost way, step by step along the distances.
-use Rattle.std.proofs.Common.{◌≡◌, ℕ, suc, ◌+◌, ◌<◌, ◌≤◌, List, [], ◌∷◌, ◌++◌, length, Option, Some, None, inl, inr, sym, ap, ◌∙◌, subst, arith, append_assoc, append-nil, eqb, true, false, get_or, Contains}
+use Rattle.std.proofs.Common.{◌≡◌, ℕ, suc, ◌+◌, ◌<◌, ◌≤◌, List, [], ◌∷◌, ◌++◌, length, Option, Some, None, inl, inr}
+use Rattle.std.proofs.Common.{sym, ap, ◌∙◌, subst, arith, append_assoc, append-nil, eqb, true, false, get_or, Contains}
 use Rattle.std.proofs.lemmas.Bool.{cases_lt, eqb-true, eqb-false}
 use Rattle.std.proofs.lemmas.Option.{same_Some, none-some}
 use Rattle.std.specs.Option.{option_eq}
@@ -10,44 +11,55 @@ one_mark : (marks : List (Option ℕ)) (place a b : ℕ) → IsAt marks place a 
 one_mark marks place a b g h = same_Some a b (sym g ∙ h)
 
 -- no way is shorter than the distance
-no_shorter : (R : ℕ → ℕ → Type 0) (places to : ℕ) (marks : List (Option ℕ)) → AreDistances R places to marks → (from k : ℕ) → IsAt marks from k → (between : List ℕ) → IsWay R from between to → k ≤ length between
+no_shorter : (R : ℕ → ℕ → Type 0) (places to : ℕ) (marks : List (Option ℕ)) → AreDistances R places to marks
+    → (from k : ℕ) → IsAt marks from k → (between : List ℕ) → IsWay R from between to → k ≤ length between
 no_shorter R places to marks d from k at between way =
     let near = d.least from between way in
     let e : near.0 ≡ k = one_mark marks from near.0 k near.1 at in
     omega (arith, near.2, e)
 
 -- the place that a shortest way goes to first is one nearer
-one_nearer : (R : ℕ → ℕ → Type 0) (places to : ℕ) (marks : List (Option ℕ)) → AreDistances R places to marks → (from k next : ℕ) (between : List ℕ) → IsAt marks from (k + 1) → R from next → IsWay R next between to → length between ≤ k → IsAt marks next k
+one_nearer : (R : ℕ → ℕ → Type 0) (places to : ℕ) (marks : List (Option ℕ)) → AreDistances R places to marks
+    → (from k next : ℕ) (between : List ℕ) → IsAt marks from (k + 1) → R from next → IsWay R next between to
+    → length between ≤ k → IsAt marks next k
 one_nearer R places to marks d from k next between at step way short =
     let near = d.least next between way in
-    let led = d.led next near.0 near.1 in
-    let long : k + 1 ≤ suc (length led.0) = no_shorter R places to marks d from (k + 1) at (next ∷ led.0) (step, led.2) in
-    let e : near.0 ≡ k = omega (arith, near.2, led.1, long, short) in
+    let reached = d.reached next near.0 near.1 in
+    let long : k + 1 ≤ suc (length reached.0) =
+    no_shorter R places to marks d from (k + 1) at (next ∷ reached.0) (step, reached.2) in
+    let e : near.0 ≡ k = omega (arith, near.2, reached.1, long, short) in
     subst (λ (j : ℕ). IsAt marks next j) e near.1
 
 -- from a place that is not at distance 0 one goes to a nearer one
-pub next_exists : (R : ℕ → ℕ → Type 0) (places to : ℕ) (marks : List (Option ℕ)) → AreDistances R places to marks → (from k : ℕ) → IsAt marks from (k + 1) → (next : ℕ) × R from next × IsAt marks next k
-next_exists R places to marks d from k at = let led = d.led from (k + 1) at in go led.0 led.1 led.2
+pub next_exists : (R : ℕ → ℕ → Type 0) (places to : ℕ) (marks : List (Option ℕ)) → AreDistances R places to marks
+    → (from k : ℕ) → IsAt marks from (k + 1) → (next : ℕ) × R from next × IsAt marks next k
+next_exists R places to marks d from k at = let reached = d.reached from (k + 1) at in go reached.0 reached.1 reached.2
   where
-    go : (between : List ℕ) → length between ≡ k + 1 → IsWay R from between to → (next : ℕ) × R from next × IsAt marks next k
+    go : (between : List ℕ) → length between ≡ k + 1 → IsWay R from between to
+        → (next : ℕ) × R from next × IsAt marks next k
     go [] long way = absurd (omega (arith, long))
-    go (next ∷ between) long way = (next, way.0, one_nearer R places to marks d from k next between at way.0 way.1 (omega (arith, long)))
+    go (next ∷ between) long way =
+        (next, way.0, one_nearer R places to marks d from k next between at way.0 way.1 (omega (arith, long)))
 
 -- the nearest place, and the foremost way from there
-pub step_foremost : (R : ℕ → ℕ → Type 0) (places to : ℕ) (marks : List (Option ℕ)) → AreDistances R places to marks → (from k next : ℕ) → IsAt marks from (k + 1) → IsNearest R marks from k (Some next) → (rest : List ℕ) → IsForemost R next rest to → IsForemost R from (next ∷ rest) to
+pub step_foremost : (R : ℕ → ℕ → Type 0) (places to : ℕ) (marks : List (Option ℕ)) → AreDistances R places to marks
+    → (from k next : ℕ) → IsAt marks from (k + 1) → IsNearest R marks from k (Some next) → (rest : List ℕ)
+    → IsForemost R next rest to → IsForemost R from (next ∷ rest) to
 step_foremost R places to marks d from k next at nearest rest f =
-    let led = d.led next k nearest.1 in
-    let short : length rest ≤ k = omega (arith, f.shortest led.0 led.2, led.1) in
+    let reached = d.reached next k nearest.1 in
+    let short : length rest ≤ k = omega (arith, f.shortest reached.0 reached.2, reached.1) in
     record {
       way = (nearest.0, f.way);
       shortest = λ other way. omega (arith, no_shorter R places to marks d from (k + 1) at other way, short);
       foremost = other_later short;
     }
   where
-    other_later : length rest ≤ k → (other : List ℕ) → IsWay R from other to → length other ≡ length (next ∷ rest) → IsNoLater (next ∷ rest) other
+    other_later : length rest ≤ k → (other : List ℕ) → IsWay R from other to → length other ≡ length (next ∷ rest)
+        → IsNoLater (next ∷ rest) other
     other_later short [] way long = absurd (omega (arith, long))
     other_later short (q ∷ qs) way long =
-        let q_at : IsAt marks q k = one_nearer R places to marks d from k q qs at way.0 way.1 (omega (arith, long, short)) in
+        let q_at : IsAt marks q k =
+        one_nearer R places to marks d from k q qs at way.0 way.1 (omega (arith, long, short)) in
         let least : next ≤ q = nearest.2 q way.0 q_at in
         elim (cases_lt next q) [
           | inl lower ↦ inl lower
@@ -57,42 +69,60 @@ step_foremost R places to marks d from k next at nearest rest f =
         ]
 
 -- where one goes straight to the end, no place is between
-pub end_foremost : (R : ℕ → ℕ → Type 0) (places to : ℕ) (marks : List (Option ℕ)) → AreDistances R places to marks → (from : ℕ) → IsAt marks from 0 → IsForemost R from [] to
-end_foremost R places to marks d from at = let led = d.led from 0 at in record { way = straight led.0 led.1 led.2; shortest = λ other way. omega arith; foremost = λ other way long. tt }
+pub end_foremost : (R : ℕ → ℕ → Type 0) (places to : ℕ) (marks : List (Option ℕ)) → AreDistances R places to marks
+    → (from : ℕ) → IsAt marks from 0 → IsForemost R from [] to
+end_foremost R places to marks d from at = let reached = d.reached from 0 at in
+    record {
+      way = straight reached.0 reached.1 reached.2;
+      shortest = λ other way. omega arith;
+      foremost = λ other way long. tt;
+    }
   where
     straight : (between : List ℕ) → length between ≡ 0 → IsWay R from between to → R from to
     straight [] long way = way
     straight (next ∷ between) long way = absurd (omega (arith, long))
 
 -- a foremost way from the place that was reached goes on the way so far
-pub record IsOnWay (R : ℕ → ℕ → Type 0) (first to at left : ℕ) (marks : List (Option ℕ)) (way : List ℕ) : Type 0 where
-  pub here : IsAt marks at left
+pub record IsOnWay (R : ℕ → ℕ → Type 0) (first to at remaining : ℕ) (marks : List (Option ℕ))
+    (way : List ℕ) : Type 0 where
+  pub here : IsAt marks at remaining
   pub rest : (rest : List ℕ) → IsForemost R at rest to → IsForemost R first (way ++ rest) to
 
-pub start_way : (R : ℕ → ℕ → Type 0) (first to left : ℕ) (marks : List (Option ℕ)) → IsAt marks first left → IsOnWay R first to first left marks []
-start_way R first to left marks at = record { here = at; rest = λ rest f. f }
+pub start_way : (R : ℕ → ℕ → Type 0) (first to remaining : ℕ) (marks : List (Option ℕ)) → IsAt marks first remaining
+    → IsOnWay R first to first remaining marks []
+start_way R first to remaining marks at = record { here = at; rest = λ rest f. f }
 
-pub step_way : (R : ℕ → ℕ → Type 0) (places first to at k next : ℕ) (marks : List (Option ℕ)) (way : List ℕ) → AreDistances R places to marks → IsOnWay R first to at (k + 1) marks way → IsNearest R marks at k (Some next) → IsOnWay R first to next k marks (way ++ next ∷ [])
+pub step_way : (R : ℕ → ℕ → Type 0) (places first to at k next : ℕ) (marks : List (Option ℕ)) (way : List ℕ)
+    → AreDistances R places to marks → IsOnWay R first to at (k + 1) marks way → IsNearest R marks at k (Some next)
+    → IsOnWay R first to next k marks (way ++ next ∷ [])
 step_way R places first to at k next marks way d on nearest = record {
   here = nearest.1;
-  rest = λ rest f. subst (λ (xs : List ℕ). IsForemost R first xs to) (sym (append_assoc way (next ∷ []) rest)) (on.rest (next ∷ rest) (step_foremost R places to marks d at k next on.here nearest rest f));
+  rest = λ rest f.
+      subst (λ (xs : List ℕ). IsForemost R first xs to) (sym (append_assoc way (next ∷ []) rest))
+      (on.rest (next ∷ rest) (step_foremost R places to marks d at k next on.here nearest rest f));
 }
 
-pub end_way : (R : ℕ → ℕ → Type 0) (places first to at : ℕ) (marks : List (Option ℕ)) (way : List ℕ) → AreDistances R places to marks → IsOnWay R first to at 0 marks way → IsForemost R first way to
-end_way R places first to at marks way d on = subst (λ (xs : List ℕ). IsForemost R first xs to) (append-nil way) (on.rest [] (end_foremost R places to marks d at on.here))
+pub end_way : (R : ℕ → ℕ → Type 0) (places first to at : ℕ) (marks : List (Option ℕ)) (way : List ℕ)
+    → AreDistances R places to marks → IsOnWay R first to at 0 marks way → IsForemost R first way to
+end_way R places first to at marks way d on =
+    subst (λ (xs : List ℕ). IsForemost R first xs to) (append-nil way)
+    (on.rest [] (end_foremost R places to marks d at on.here))
 
 -- a mark that was compared with a distance
 pub same_mark : (mark : Option ℕ) (distance : ℕ) → option_eq eqb mark (Some distance) ≡ true → mark ≡ Some distance
 same_mark None distance h = cc
 same_mark (Some k) distance h = ap (λ (n : ℕ). Some n) (eqb-true k distance h)
 
-pub other_mark : (mark : Option ℕ) (distance : ℕ) → option_eq eqb mark (Some distance) ≡ false → mark ≡ Some distance → ⊥
+pub other_mark : (mark : Option ℕ) (distance : ℕ) → option_eq eqb mark (Some distance) ≡ false → mark ≡ Some distance
+    → ⊥
 other_mark None distance h e = none-some distance e
 other_mark (Some k) distance h e = eqb-false k distance h (same_Some k distance e)
 
 -- the number was found in a row
-pub found_in : (row : List ℕ) (x : ℕ) → (k : ℕ) × (k < length row) × ((d : ℕ) → eqb (get_or row k d) x ≡ true) → Contains row x
+pub found_in : (row : List ℕ) (x : ℕ) → (k : ℕ) × (k < length row) × ((d : ℕ) → eqb (get_or row k d) x ≡ true)
+    → Contains row x
 found_in row x h = (h.0, h.1, eqb-true (get_or row h.0 x) x (h.2 x))
 
-pub missed_in : (row : List ℕ) (x : ℕ) → ((k d : ℕ) → 0 ≤ k → k < length row → eqb (get_or row k d) x ≡ false) → Contains row x → ⊥
+pub missed_in : (row : List ℕ) (x : ℕ) → ((k d : ℕ) → 0 ≤ k → k < length row → eqb (get_or row k d) x ≡ false)
+    → Contains row x → ⊥
 missed_in row x h c = eqb-false (get_or row c.0 x) x (h c.0 x (omega arith) c.1) c.2

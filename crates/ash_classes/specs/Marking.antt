@@ -1,4 +1,4 @@
--- How far each place is from one that ways lead to: the number of places between them.
+-- These definitions say how far each place is from one that ways lead to: how many places are between them.
 use Rattle.std.specs.Prelude.{◌≡◌, ℕ, ◌+◌, ◌<◌, ◌≤◌, ◌⊎◌, List, [], length, map, Option, Some, None}
 use Rattle.std.specs.List.{Contains, slice_index_or, count_by}
 use Rattle.std.specs.Option.{is_none}
@@ -6,51 +6,55 @@ use Rattle.std.specs.declared.vec.Vec.{Vec}
 use Rattle.std.specs.declared.alloc.Global.{Global}
 use Rattle.ash_classes.specs.Ways.{IsWay}
 
--- for each place those that go to it
+-- `rows_of table` has for each place those that go to it.
 abbrev pub rows_of : List (Vec ℕ Global) → List (List ℕ)
 rows_of table = map (λ row. row.items) table
 
--- the row of the one place has the other
+-- The row of the second place has the first.
 abbrev pub Goes : List (List ℕ) → ℕ → ℕ → Type 0
 Goes rows from to = Contains (slice_index_or rows to []) from
 
--- each place in a row has a row
+-- Each place in a row has a row.
 abbrev pub AreWithin : List (List ℕ) → Type 0
 AreWithin rows = (from to : ℕ) → Goes rows from to → from < length rows
 
--- a place is marked with a distance
+-- The place is marked with this distance.
 abbrev pub IsAt : List (Option ℕ) → ℕ → ℕ → Type 0
 IsAt distances place distance = slice_index_or distances place None ≡ Some distance
 
--- a place is marked with that distance at most
+-- The place is marked with this distance at most.
 abbrev pub IsNear : List (Option ℕ) → ℕ → ℕ → Type 0
 IsNear distances place most = (distance : ℕ) × IsAt distances place distance × (distance ≤ most)
 
--- one goes from the place to one of these
+-- One goes from the place to one of these.
 abbrev pub GoesToOne : (ℕ → ℕ → Type 0) → List ℕ → ℕ → Type 0
 GoesToOne Goes these from = (to : ℕ) × Contains these to × Goes from to
 
--- the first place at a distance that one goes to; none where one goes to no place at that distance
+-- This is the first place at a distance that one goes to, or there is none.
 abbrev pub IsNearest : (ℕ → ℕ → Type 0) → List (Option ℕ) → ℕ → ℕ → Option ℕ → Type 0
 IsNearest Goes distances from distance None = (place : ℕ) → Goes from place → IsAt distances place distance → ⊥
-IsNearest Goes distances from distance (Some place) = Goes from place × IsAt distances place distance × ((other : ℕ) → Goes from other → IsAt distances other distance → place ≤ other)
+IsNearest Goes distances from distance (Some place) =
+    Goes from place × IsAt distances place distance
+    × ((other : ℕ) → Goes from other → IsAt distances other distance → place ≤ other)
 
--- how many places are not marked
+-- `unmarked distances` is how many places are not marked.
 abbrev pub unmarked : List (Option ℕ) → ℕ
 unmarked distances = count_by is_none distances
 
--- these places are marked with a distance where they had none, and found thereby
+-- These places are marked with a distance where they had none, and are found thereby.
 pub record Marks (These : ℕ → Type 0) (distance : ℕ) (old new : List (Option ℕ)) (before found : List ℕ) : Type 0 where
   pub long : length new ≡ length old
-  pub kept : (place at : ℕ) → IsAt old place at → IsAt new place at
+  pub unchanged : (place at : ℕ) → IsAt old place at → IsAt new place at
   pub marked : (place : ℕ) → These place → (at : ℕ) × IsAt new place at
-  pub added : (place at : ℕ) → IsAt new place at → IsAt old place at ⊎ ((at ≡ distance) × These place × Contains found place)
+  pub added : (place at : ℕ) → IsAt new place at
+      → IsAt old place at ⊎ ((at ≡ distance) × These place × Contains found place)
   pub known : (place : ℕ) → Contains before place → Contains found place
   pub listed : (place : ℕ) → Contains found place → Contains before place ⊎ IsAt new place distance
   pub counted : unmarked new + length found ≡ unmarked old + length before
 
--- the fewest places between each place and one that is led to; none where no way leads there
+-- These are the fewest places between each place and one that it leads to, and none where no way leads there.
 pub record AreDistances (Goes : ℕ → ℕ → Type 0) (places to : ℕ) (distances : List (Option ℕ)) : Type 0 where
   pub long : length distances ≡ places
-  pub led : (from distance : ℕ) → IsAt distances from distance → (between : List ℕ) × (length between ≡ distance) × IsWay Goes from between to
+  pub reached : (from distance : ℕ) → IsAt distances from distance
+      → (between : List ℕ) × (length between ≡ distance) × IsWay Goes from between to
   pub least : (from : ℕ) (between : List ℕ) → IsWay Goes from between to → IsNear distances from (length between)

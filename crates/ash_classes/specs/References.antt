@@ -1,22 +1,24 @@
--- What the classes of a module refer to.
+-- These definitions say what the classes of a module refer to.
 use Rattle.std.specs.Prelude.{◌≡◌, ◌⊎◌, ℕ, List, Some, slice_get, map}
 use Rattle.std.specs.Borrow.{Bor}
 use Rattle.std.specs.List.{Any}
 use Rattle.ash_tree.specs.declared.tree.items.Class as code
 use Rattle.ash_tree.specs.Views.{class_of}
-use Rattle.ash_tree.specs.Tree.{Element, HandleElement, Named, Object, Handle, Array, ArrayHandle, Member, AField, Class}
+use Rattle.ash_tree.specs.Tree.{Element, HandleElement, Named, Object, Handle, Array, ArrayHandle, Member, AField}
+use Rattle.ash_tree.specs.Tree.{Class}
 pub use Rattle.ash_tree.specs.Items.{classes_of}
 
--- a class is of the type of that name: the name is its own, or that of an interface that it lists
+-- The class is of the type of that name: the name is its own, or that of an interface that it lists.
 abbrev pub IsOf : Class → List ℕ → Type 0
 IsOf class name = (class.name ≡ name) ⊎ Any (λ interface. interface.name ≡ name) class.interfaces
 
--- elements that are handles of a type that the class is of
+-- The elements are handles of a type that the class is of.
 abbrev pub ElementNames : Element → Class → Type 0
 ElementNames (HandleElement place name) class = IsOf class name
 ElementNames _ class = ⊥
 
--- a type that the class is of, or a handle of one; an array of such handles, or a handle of such an array
+-- The class is of the type, or of that of which the type is a handle; or the type is an array of such handles, or a
+-- handle of such an array.
 abbrev pub Names : Named → Class → Type 0
 Names (Object place name) class = IsOf class name
 Names (Handle place name) class = IsOf class name
@@ -24,23 +26,23 @@ Names (Array place element) class = ElementNames element class
 Names (ArrayHandle place element) class = ElementNames element class
 Names _ class = ⊥
 
--- a field of such a type can hold objects of the class
+-- The member is a field of such a type, so that it can hold objects of the class.
 abbrev pub Holds : Member → Class → Type 0
 Holds (AField vars) class = Names vars.of class
 Holds _ class = ⊥
 
--- a member of the one class can hold objects of the other
+-- A member of the first class can hold objects of the second.
 abbrev pub RefersTo : Class → Class → Type 0
 RefersTo from to = Any (λ member. Holds member to) from.members
 
--- so does the class at a place
+-- The class at this place refers to the other class.
 abbrev pub RefersAt : List Class → ℕ → Class → Type 0
 RefersAt classes from other = (one : Class) × (slice_get classes from ≡ Some one) × RefersTo one other
 
--- the class at the one place refers to the class at the other
+-- The class at the first place refers to the class at the second.
 abbrev pub Refers : List Class → ℕ → ℕ → Type 0
 Refers classes from to = (other : Class) × (slice_get classes to ≡ Some other) × RefersAt classes from other
 
--- what classes that are borrowed stand for
+-- `seen classes` are the classes that the borrowed ones represent.
 abbrev pub seen : List (Bor code.Class) → List Class
 seen classes = map (λ class. class_of class.now) classes

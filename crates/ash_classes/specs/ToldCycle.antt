@@ -1,22 +1,26 @@
--- The cycle that is told of classes, as a reader would look for it: from the first class that leads back to itself, by the first of its shortest ways.
-use Rattle.std.specs.Prelude.{ℕ, zero, suc, Bool, false, ◌||◌, List, [], ◌∷◌, length, Option, Some, None, option_map, slice_get, if◌then◌else◌}
+-- These definitions find the cycle of classes that is reported, as a reader would look for it: from the first class
+-- that leads back to itself, by the first of its shortest ways.
+use Rattle.std.specs.Prelude.{ℕ, zero, suc, Bool, false, ◌||◌, List, [], ◌∷◌, length, Option, Some, None, option_map}
+use Rattle.std.specs.Prelude.{slice_get, if◌then◌else◌}
 use Rattle.std.specs.Option.{option_or}
 use Rattle.std.specs.List.{list_any}
 use Rattle.std.specs.Str.{bytes_eq}
-use Rattle.ash_tree.specs.Tree.{Element, HandleElement, Named, Object, Handle, Array, ArrayHandle, Member, AField, Class}
+use Rattle.ash_tree.specs.Tree.{Element, HandleElement, Named, Object, Handle, Array, ArrayHandle, Member, AField}
+use Rattle.ash_tree.specs.Tree.{Class}
 
 -- whether one class refers to another
 
--- the name is the class's own, or that of an interface that it lists
+-- The name is the class's own, or that of an interface that it lists.
 abbrev pub is_of : Class → List ℕ → Bool
 is_of class name = bytes_eq class.name name || list_any (λ interface. bytes_eq interface.name name) class.interfaces
 
--- elements that are handles of a type that the class is of
+-- The elements are handles of a type that the class is of.
 abbrev pub element_names : Class → Element → Bool
 element_names class (HandleElement place name) = is_of class name
 element_names class _ = false
 
--- a type that the class is of, or a handle of one; an array of such handles, or a handle of such an array
+-- The class is of the type, or of that of which the type is a handle; or the type is an array of such handles, or a
+-- handle of such an array.
 abbrev pub names : Class → Named → Bool
 names class (Object place name) = is_of class name
 names class (Handle place name) = is_of class name
@@ -24,43 +28,50 @@ names class (Array place element) = element_names class element
 names class (ArrayHandle place element) = element_names class element
 names class _ = false
 
--- a field of such a type can hold objects of the class
+-- The member is a field of such a type, so that it can hold objects of the class.
 abbrev pub holds : Class → Member → Bool
 holds class (AField vars) = names class vars.of
 holds class _ = false
 
--- a member of the one class can hold objects of the other
+-- A member of the first class can hold objects of the second.
 abbrev pub refers_to : Class → Class → Bool
 refers_to from to = list_any (holds to) from.members
 
+-- Both classes exist, and the first refers to the second.
 abbrev pub refers : Option Class → Option Class → Bool
 refers (Some from) (Some to) = refers_to from to
 refers _ _ = false
 
--- the class at the one place refers to the class at the other
+-- The class at the first place refers to the class at the second.
 abbrev pub refers_at : List Class → ℕ → ℕ → Bool
 refers_at classes from to = refers (slice_get classes from) (slice_get classes to)
 
 -- the search
 
--- what the first of the numbers below one gives that gives anything
+-- `first_below value_at n` is the value at the first number below n that has one.
 abbrev pub first_below : {A : Type 0} → (ℕ → Option A) → ℕ → Option A
-first_below given zero = None
-first_below given (suc n) = option_or (first_below given n) (given n)
+first_below value_at zero = None
+first_below value_at (suc n) = option_or (first_below value_at n) (value_at n)
 
--- the places in between on the first way with so many of them: from place to place, to the first from which a way goes on
+-- `foremost goes places count from to` are the places in between on the first way with so many of them: from place to
+-- place, to the first from which a way goes on.
 abbrev pub foremost : (ℕ → ℕ → Bool) → (places count from to : ℕ) → Option (List ℕ)
 foremost goes places zero from to = if goes from to then Some [] else None
-foremost goes places (suc count) from to = first_below (λ next. if goes from next then option_map (λ others. next ∷ others) (foremost goes places count next to) else None) places
+foremost goes places (suc count) from to =
+    first_below (λ next. if goes from next
+    then option_map (λ others. next ∷ others) (foremost goes places count next to) else None) places
 
--- the first of the shortest ways back to a place: there are fewer places in between than there are places
+-- `shortest_back goes places place` is the first of the shortest ways back to a place: there are fewer places in
+-- between than there are places.
 abbrev pub shortest_back : (ℕ → ℕ → Bool) → (places place : ℕ) → Option (List ℕ)
 shortest_back goes places place = first_below (λ count. foremost goes places count place place) places
 
--- the first place from which a way leads back, and those in between
+-- `first_round goes places` is the first place from which a way leads back, and those in between.
 abbrev pub first_round : (ℕ → ℕ → Bool) → ℕ → Option (ℕ × List ℕ)
-first_round goes places = first_below (λ first. option_map (λ others. (first, others)) (shortest_back goes places first)) places
+first_round goes places =
+    first_below (λ first. option_map (λ others. (first, others)) (shortest_back goes places first)) places
 
--- the cycle that is told of classes, by their places; none where no class leads back to itself
+-- `told_cycle classes` is the cycle of classes that is reported, by their places, or none where no class leads back to
+-- itself.
 abbrev pub told_cycle : List Class → Option (ℕ × List ℕ)
 told_cycle classes = first_round (refers_at classes) (length classes)

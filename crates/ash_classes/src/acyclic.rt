@@ -12,25 +12,37 @@ use crate::references::{classes, referrers};
 use ash_tree::Module;
 use std::alloc::{AllocError, Global};
 
-/// A rank for each class of a module, by its place among them; where a class reaches itself, the cycle that is told.
+/// A rank for each class of a module, by its place among them; where a class reaches itself, the cycle that is
+/// reported.
 ///
 /// Handles let objects hold one another, and nothing would take objects back that do so in a ring. So a class that
 /// reaches itself by what its fields hold is refused. (AngelScript collects such objects instead.)
 pub fn class_ranks(alloc: Global, script: &Module) -> Result<Result<Vec<usize>, Cycle>, AllocError>
-    ensures ranks { IfOk result (λ answer. IfOk answer (λ ranks. AreRanks (Refers (classes_of (module_of script.now))) (length (classes_of (module_of script.now))) ranks.items)) }
-    ensures acyclic { IfOk result (λ answer. OnOk answer ((class : ℕ) → Reaches (Refers (classes_of (module_of script.now))) class class → ⊥)) }
-    ensures cycle { IfOk result (λ answer. IfErr answer (λ cycle. IsTold (Refers (classes_of (module_of script.now))) cycle.first cycle.others.items)) }
-    ensures only { IfOk result (λ answer. IfErr answer (λ cycle. (first : ℕ) (others : List ℕ) → IsTold (Refers (classes_of (module_of script.now))) first others → (first ≡ cycle.first) × (others ≡ cycle.others.items))) }
-    ensures told { IfOk result (λ answer. IfErr answer (λ cycle. told_cycle (classes_of (module_of script.now)) ≡ Some (cycle.first, cycle.others.items))) }
-    ensures none { IfOk result (λ answer. OnOk answer (told_cycle (classes_of (module_of script.now)) ≡ None)) }
+    ensures ranks { IfOk result (λ answer. IfOk answer (λ ranks.
+        AreRanks (Refers (classes_of (module_of script.now)))
+        (length (classes_of (module_of script.now))) ranks.items)) }
+    ensures acyclic { IfOk result (λ answer.
+        OnOk answer ((class : ℕ) → Reaches (Refers (classes_of (module_of script.now))) class class
+        → ⊥)) }
+    ensures cycle { IfOk result (λ answer. IfErr answer (λ cycle.
+        IsTold (Refers (classes_of (module_of script.now))) cycle.first cycle.others.items)) }
+    ensures only { IfOk result (λ answer. IfErr answer (λ cycle. (first : ℕ) (others : List ℕ)
+        → IsTold (Refers (classes_of (module_of script.now))) first others
+        → (first ≡ cycle.first) × (others ≡ cycle.others.items))) }
+    ensures told { IfOk result (λ answer. IfErr answer (λ cycle.
+        told_cycle (classes_of (module_of script.now)) ≡ Some (cycle.first, cycle.others.items))) }
+    ensures none { IfOk result (λ answer.
+        OnOk answer (told_cycle (classes_of (module_of script.now)) ≡ None)) }
 {
     let classes = classes(alloc, &script.items)?;
     let referrers = referrers(alloc, &classes)?;
     ranks(alloc, &referrers)
 }
 
-/// The search for a cycle answers the one that is told, and none exactly where no class reaches itself.
+/// The search for a cycle finds the one that is reported, and none exactly where no class reaches itself.
 pub fn search_is_exact()
-    ensures told { (classes : List Class) (first : ℕ) (others : List ℕ) → (told_cycle classes ≡ Some (first, others)) ↔ IsTold (Refers classes) first others }
-    ensures none { (classes : List Class) → (told_cycle classes ≡ None) ↔ ((class : ℕ) → Reaches (Refers classes) class class → ⊥) }
+    ensures told { (classes : List Class) (first : ℕ) (others : List ℕ)
+        → (told_cycle classes ≡ Some (first, others)) ↔ IsTold (Refers classes) first others }
+    ensures none { (classes : List Class)
+        → (told_cycle classes ≡ None) ↔ ((class : ℕ) → Reaches (Refers classes) class class → ⊥) }
 {}

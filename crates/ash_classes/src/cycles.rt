@@ -40,16 +40,17 @@ fn way_back(
     first: usize,
     between: usize,
 ) -> Result<Vec<usize>, AllocError>
-    requires distances { AreDistances (Goes (rows_of referrers.now)) (length referrers.now) first distances.now }
+    requires distances { AreDistances (Goes (rows_of referrers.now)) (length referrers.now) first
+        distances.now }
     requires back { IsAt distances.now first between }
     ensures { IfOk result (λ way. IsForemost (Goes (rows_of referrers.now)) first way.items first) }
 {
     let mut way = Vec::new(alloc);
     let mut at = first;
-    let mut left = between;
-    'steps: while left > 0 {
-        left -= 1;
-        let Some(next) = nearest(referrers, distances, at, left) else {
+    let mut remaining = between;
+    'steps: while remaining > 0 {
+        remaining -= 1;
+        let Some(next) = nearest(referrers, distances, at, remaining) else {
             unreachable!();
         };
         way.push(next)?;
@@ -76,9 +77,12 @@ pub(crate) fn ranks(
     referrers: &[Vec<usize>],
 ) -> Result<Result<Vec<usize>, Cycle>, AllocError>
     requires { AreWithin (rows_of referrers.now) }
-    ensures ranks { IfOk result (λ answer. IfOk answer (λ ranks. AreRanks (Goes (rows_of referrers.now)) (length referrers.now) ranks.items)) }
-    ensures acyclic { IfOk result (λ answer. OnOk answer ((place : ℕ) → Reaches (Goes (rows_of referrers.now)) place place → ⊥)) }
-    ensures cycle { IfOk result (λ answer. IfErr answer (λ cycle. IsTold (Goes (rows_of referrers.now)) cycle.first cycle.others.items)) }
+    ensures ranks { IfOk result (λ answer. IfOk answer (λ ranks.
+        AreRanks (Goes (rows_of referrers.now)) (length referrers.now) ranks.items)) }
+    ensures acyclic { IfOk result (λ answer.
+        OnOk answer ((place : ℕ) → Reaches (Goes (rows_of referrers.now)) place place → ⊥)) }
+    ensures cycle { IfOk result (λ answer. IfErr answer (λ cycle.
+        IsTold (Goes (rows_of referrers.now)) cycle.first cycle.others.items)) }
 {
     let mut ranks = Vec::new(alloc);
     for first in 0..referrers.len() {

@@ -13,7 +13,9 @@ fn mark(
     found: &mut Vec<usize>,
 ) -> Result<(), AllocError>
     requires { place < length distances.old.items }
-    ensures { OnOk result (Marks (λ p. p ≡ place) distance distances.old.items distances.new.items found.old.items found.new.items) }
+    ensures { OnOk result
+        (Marks (λ p. p ≡ place) distance distances.old.items distances.new.items found.old.items
+        found.new.items) }
 {
     if distances[place].is_none() {
         found.push(place)?;
@@ -29,7 +31,9 @@ fn mark_row(
     found: &mut Vec<usize>,
 ) -> Result<(), AllocError>
     requires { All (λ place. place < length distances.old.items) row.now }
-    ensures { OnOk result (Marks (λ p. Contains row.now p) distance distances.old.items distances.new.items found.old.items found.new.items) }
+    ensures { OnOk result
+        (Marks (λ p. Contains row.now p) distance distances.old.items distances.new.items
+        found.old.items found.new.items) }
 {
     for place in row {
         mark(*place, distance, distances, found)?;
@@ -48,7 +52,9 @@ fn mark_level(
     requires within { AreWithin (rows_of referrers.now) }
     requires long { length distances.old.items ≡ length referrers.now }
     requires places { All (λ place. place < length referrers.now) level.now }
-    ensures { OnOk result (Marks (GoesToOne (Goes (rows_of referrers.now)) level.now) distance distances.old.items distances.new.items found.old.items found.new.items) }
+    ensures { OnOk result
+        (Marks (GoesToOne (Goes (rows_of referrers.now)) level.now) distance distances.old.items
+        distances.new.items found.old.items found.new.items) }
 {
     for to in level {
         mark_row(&referrers[*to], distance, distances, found)?;
@@ -71,7 +77,8 @@ pub(crate) fn distances_to(
 ) -> Result<Vec<Option<usize>>, AllocError>
     requires within { AreWithin (rows_of referrers.now) }
     requires place { to < length referrers.now }
-    ensures { IfOk result (λ distances. AreDistances (Goes (rows_of referrers.now)) (length referrers.now) to distances.items) }
+    ensures { IfOk result (λ distances.
+        AreDistances (Goes (rows_of referrers.now)) (length referrers.now) to distances.items) }
 {
     let mut distances = no_distances(alloc, referrers.len())?;
     let mut level = Vec::new(alloc);

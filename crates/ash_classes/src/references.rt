@@ -3,14 +3,16 @@
 ghost use Rattle.std.specs.Prelude.{◌≡◌, ◌↔◌, ℕ, length, map, string_bytes, IsTrue, IfOk, Contains};
 ghost use Rattle.std.specs.List.{Any};
 ghost use Rattle.ash_tree.specs.Views.{element_of, type_of, type_name_of, member_of, class_of, item_of, module_of};
-ghost use Rattle.ash_classes.specs.References.{IsOf, ElementNames, Names, Holds, RefersTo, RefersAt, Refers, classes_of, seen};
+ghost use Rattle.ash_classes.specs.References.{IsOf, ElementNames, Names, Holds, RefersTo, RefersAt, Refers};
+ghost use Rattle.ash_classes.specs.References.{classes_of, seen};
 ghost use Rattle.ash_classes.specs.Marking.{rows_of, Goes};
 
 use ash_tree::{Class, Element, ElementKind, Item, Member, Module, Type, TypeKind, TypeName};
 use std::alloc::{AllocError, Global};
 
 fn any_named(interfaces: &[TypeName], name: &str) -> bool
-    ensures { IsTrue result ↔ Any (λ interface. interface.name ≡ name.now) (map type_name_of interfaces.now) }
+    ensures { IsTrue result
+        ↔ Any (λ interface. interface.name ≡ name.now) (map type_name_of interfaces.now) }
 {
     for interface in interfaces {
         if interface.name.as_str() == name {
@@ -55,7 +57,8 @@ fn holds(member: &Member, class: &Class) -> bool
 }
 
 fn any_holds(members: &[Member], class: &Class) -> bool
-    ensures { IsTrue result ↔ Any (λ member. Holds member (class_of class.now)) (map member_of members.now) }
+    ensures { IsTrue result
+        ↔ Any (λ member. Holds member (class_of class.now)) (map member_of members.now) }
 {
     for member in members {
         if holds(member, class) {
@@ -71,7 +74,7 @@ fn refers(from: &Class, to: &Class) -> bool
     any_holds(&from.members, to)
 }
 
-/// The classes of a module, in the order in which they stand.
+/// The classes of a module, in their order.
 pub fn classes(alloc: Global, items: &[Item]) -> Result<Vec<&Class>, AllocError>
     ensures { IfOk result (λ classes. seen classes.items ≡ classes_of (map item_of items.now)) }
 {
@@ -85,7 +88,8 @@ pub fn classes(alloc: Global, items: &[Item]) -> Result<Vec<&Class>, AllocError>
 }
 
 fn row_of(alloc: Global, classes: &[&Class], to: &Class) -> Result<Vec<usize>, AllocError>
-    ensures { IfOk result (λ row. (from : ℕ) → Contains row.items from ↔ RefersAt (seen classes.now) from (class_of to.now)) }
+    ensures { IfOk result (λ row. (from : ℕ)
+        → Contains row.items from ↔ RefersAt (seen classes.now) from (class_of to.now)) }
 {
     let mut row = Vec::new(alloc);
     for (place, from) in classes.iter().enumerate() {
@@ -99,7 +103,8 @@ fn row_of(alloc: Global, classes: &[&Class], to: &Class) -> Result<Vec<usize>, A
 /// For each class of a module the places of those that refer to it.
 pub(crate) fn referrers(alloc: Global, classes: &[&Class]) -> Result<Vec<Vec<usize>>, AllocError>
     ensures places { IfOk result (λ rows. length rows.items ≡ length classes.now) }
-    ensures rows { IfOk result (λ rows. (from to : ℕ) → Goes (rows_of rows.items) from to ↔ Refers (seen classes.now) from to) }
+    ensures rows { IfOk result (λ rows. (from to : ℕ)
+        → Goes (rows_of rows.items) from to ↔ Refers (seen classes.now) from to) }
 {
     let mut rows = Vec::new(alloc);
     for to in classes {

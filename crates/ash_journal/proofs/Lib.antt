@@ -5,3 +5,5 @@ pub mod OpenLaws
 pub mod ReadLaws
 pub mod RunLaws
 pub mod SettleLaws
+pub mod ReopenLaws
+pub mod InstallLaws

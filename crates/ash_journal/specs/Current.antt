@@ -1,44 +1,44 @@
--- What two files represent, and what they settle on once a repair is done.
+-- These definitions say what two files represent, and what they settle on once a repair is done.
 use Rattle.std.specs.Prelude.{◌≡◌, ◌≢◌, ◌⊎◌, ℕ, zero, suc, ◌<◌, List, [], ◌∷◌, ◌++◌}
-use Rattle.ash_journal.specs.Layout.{solid, Fits, IsFile, IsClosed, IsShut, HasMark}
+use Rattle.ash_journal.specs.Layout.{solid, FieldsFit, IsFile, IsClosed, IsShut, HasMark}
 
--- the image of a generation, and the records that were added to it
+-- `Contents` are the image of a generation and the bodies of the records that were added to it.
 abbrev pub Contents : Type 0
 Contents = List ℕ × List (List ℕ)
 
--- these contents and no others
+-- The contents are these and no others.
 abbrev pub Is : Contents → Contents → Type 0
 Is contents other = other ≡ contents
 
--- contents of which one or the other holds
+-- One or the other holds of the contents.
 abbrev pub Either : (Contents → Type 0) → (Contents → Type 0) → Contents → Type 0
 Either P Q contents = P contents ⊎ Q contents
 
--- a file that is closed, or open with an older generation
+-- The file is closed, or open with an older generation.
 abbrev pub IsBehind : ℕ → List ℕ → Type 0
 IsBehind generation file = IsClosed file ⊎ ((older : ℕ) × HasMark older file × (older < generation))
 
--- the first of two files is current, with this generation, image and records
+-- The first of two files is current, with this generation, image and records.
 pub record IsCurrent (generation : ℕ) (image : List ℕ) (bodies : List (List ℕ)) (current other : List ℕ) : Type 0 where
   pub file : IsFile generation image bodies current
   pub older : IsBehind generation other
 
--- two files represent these contents: those of the current file
+-- Two files represent these contents, which are those of the current file.
 abbrev pub Represent : Contents → List ℕ → List ℕ → Type 0
 Represent contents first second =
     ((generation : ℕ) × IsCurrent generation contents.0 contents.1 first second)
     ⊎ ((generation : ℕ) × IsCurrent generation contents.0 contents.1 second first)
 
--- two files represent contents of which P holds
+-- Two files represent contents of which P holds.
 abbrev pub RepresentOne : (Contents → Type 0) → List ℕ → List ℕ → Type 0
 RepresentOne P first second = (contents : Contents) × P contents × Represent contents first second
 
--- the file with 1 for its first gate
+-- `reopened file` is the file with 1 for its first gate.
 abbrev pub reopened : List ℕ → List ℕ
 reopened [] = 1 ∷ []
 reopened (gate ∷ rest) = 1 ∷ rest
 
--- The first file is current, and 1 is put for the gate behind its last open record, which a repair would write
+-- The first file is current, and 1 is put for the gate after its last open record, which a repair would write
 -- over since it is neither 0 nor 1.
 pub record EndReopens (current other after : List ℕ) : Type 0 where
   pub generation : ℕ
@@ -46,7 +46,7 @@ pub record EndReopens (current other after : List ℕ) : Type 0 where
   pub bodies : List (List ℕ)
   pub gate : ℕ
   pub behind : List ℕ
-  pub fits : Fits generation image bodies
+  pub fits : FieldsFit generation image bodies
   pub bytes : current ≡ solid generation image bodies ++ gate ∷ behind
   pub not_open : gate ≢ 1
   pub not_shut : gate ≢ 0
@@ -64,17 +64,18 @@ pub record OtherReopens (current other after : List ℕ) : Type 0 where
   pub not_shut : IsShut other → ⊥
   pub opened : after ≡ reopened other
 
--- with the first of two files current, 1 is put for a gate that a repair would write over
+-- With the first of two files current, 1 is put for a gate that a repair would write over.
 abbrev pub ReopensBy : List ℕ → List ℕ → List ℕ → List ℕ → Type 0
 ReopensBy current other current_after other_after =
-    (EndReopens current other current_after × (other_after ≡ other)) ⊎ (OtherReopens current other other_after × (current_after ≡ current))
+    (EndReopens current other current_after × (other_after ≡ other))
+    ⊎ (OtherReopens current other other_after × (current_after ≡ current))
 
--- 1 is put for a gate that a repair would write over, whichever file is current
+-- Whichever file is current, 1 is put for a gate that a repair would write over.
 abbrev pub Reopens : List ℕ → List ℕ → List ℕ → List ℕ → Type 0
 Reopens first second first_after second_after =
     ReopensBy first second first_after second_after ⊎ ReopensBy second first second_after first_after
 
--- the same so many times, one after the other
+-- A gate is reopened so many times, one after the other.
 abbrev pub ReopensTimes : ℕ → List ℕ → List ℕ → List ℕ → List ℕ → Type 0
 ReopensTimes zero first second first_after second_after = (first_after ≡ first) × (second_after ≡ second)
 ReopensTimes (suc n) first second first_after second_after =
@@ -86,7 +87,7 @@ abbrev pub SettleOn : (Contents → Type 0) → List ℕ → List ℕ → Type 0
 SettleOn P first second =
     (n : ℕ) (x y : List ℕ) → ReopensTimes n first second x y → RepresentOne P x y
 
--- these are contents that a repair of two files may come to
+-- A repair of two files may come to these contents.
 abbrev pub MaySettleOn : List ℕ → List ℕ → Contents → Type 0
 MaySettleOn first second contents =
     (n : ℕ) × (x : List ℕ) × (y : List ℕ) × ReopensTimes n first second x y × Represent contents x y
@@ -95,4 +96,5 @@ MaySettleOn first second contents =
 -- some that a repair of the first two may come to.
 abbrev pub SettleFurther : (Contents → Type 0) → List ℕ → List ℕ → List ℕ → List ℕ → Type 0
 SettleFurther IsNew first second first_after second_after =
-    SettleOn (MaySettleOn first second) first second → SettleOn (Either IsNew (MaySettleOn first second)) first_after second_after
+    SettleOn (MaySettleOn first second) first second
+    → SettleOn (Either IsNew (MaySettleOn first second)) first_after second_after

@@ -1,4 +1,4 @@
--- How two devices count their failures.
+-- These definitions say how two devices count their failures.
 use Rattle.std.specs.Prelude.{◌≡◌, ◌⊎◌, ℕ, ◌≤◌}
 use Rattle.ash_disk.specs.Failures.{Rose}
 

@@ -1,90 +1,92 @@
--- The bytes of a file, by what they stand for.
+-- These definitions say which bytes a file has, by what they represent.
 use Rattle.std.specs.Prelude.{◌≡◌, ◌≢◌, ◌⊎◌, ℕ, ◌<◌, ◌≤◌, ◌^◌, List, [], ◌∷◌, ◌++◌, length, codes}
 use Rattle.byteorder.specs.Endian.{little_bytes}
 
--- what a file begins with, behind its first gate
+-- `magic` is what a file begins with after its first gate.
 unfoldable pub magic : List ℕ
 magic = codes "ASHOST01"
 
--- a length, with the lowest byte first
+-- `four_bytes n` is a length, with the lowest byte first.
 unfoldable pub four_bytes : ℕ → List ℕ
 four_bytes n = little_bytes 4 n
 
--- a generation's number, with the lowest byte first
+-- `eight_bytes n` is the number of a generation, with the lowest byte first.
 unfoldable pub eight_bytes : ℕ → List ℕ
 eight_bytes n = little_bytes 8 n
 
--- the magic, and the number of the generation
+-- `mark generation` is the magic and the number of the generation.
 unfoldable pub mark : ℕ → List ℕ
 mark generation = magic ++ eight_bytes generation
 
--- a length in four bytes, and so many bytes
+-- `block body` is the length of the body in four bytes, and the body.
 unfoldable pub block : List ℕ → List ℕ
 block body = four_bytes (length body) ++ body
 
--- records, each behind a gate that is open
+-- `records bodies` are the blocks of the bodies, each after an open gate.
 unfoldable pub records : List (List ℕ) → List ℕ
 records [] = []
 records (body ∷ bodies) = 1 ∷ (block body ++ records bodies)
 
--- all of a file that counts, up to the gate behind its last open record
+-- `solid generation image bodies` is all of a file that counts, up to the gate after its last open record.
 unfoldable pub solid : ℕ → List ℕ → List (List ℕ) → List ℕ
 solid generation image bodies = 1 ∷ (mark generation ++ (block image ++ records bodies))
 
--- each body's length fits four bytes
+-- The length of each body fits four bytes.
 abbrev pub AreShort : List (List ℕ) → Type 0
 AreShort [] = Unit {0}
 AreShort (body ∷ bodies) = (length body < 2 ^ 32) × AreShort bodies
 
--- the numbers fit their fields
-pub record Fits (generation : ℕ) (image : List ℕ) (bodies : List (List ℕ)) : Type 0 where
+-- The numbers fit their fields.
+pub record FieldsFit (generation : ℕ) (image : List ℕ) (bodies : List (List ℕ)) : Type 0 where
   pub numbered : generation < 2 ^ 64
   pub image_short : length image < 2 ^ 32
   pub bodies_short : AreShort bodies
 
--- The file of this generation, with this image and these records. The gate behind the last of them is no 1, and
--- anything may stand behind it.
+-- This is a file of the generation, with this image and these records; the gate after the last of them is not 1, and
+-- anything may follow it.
 pub record IsFile (generation : ℕ) (image : List ℕ) (bodies : List (List ℕ)) (file : List ℕ) : Type 0 where
   pub gate : ℕ
   pub behind : List ℕ
   pub shut : gate ≢ 1
   pub bytes : file ≡ solid generation image bodies ++ gate ∷ behind
-  pub fits : Fits generation image bodies
+  pub fits : FieldsFit generation image bodies
 
--- the first gate is 1, and something stands behind it
+-- The first gate is 1, and something follows it.
 abbrev pub IsOpen : List ℕ → Type 0
 IsOpen [] = ⊥
 IsOpen (gate ∷ []) = ⊥
 IsOpen (gate ∷ second ∷ rest) = gate ≡ 1
 
--- the first gate is no 1, or nothing stands behind it
+-- The first gate is not 1, or nothing follows it.
 abbrev pub IsClosed : List ℕ → Type 0
 IsClosed [] = Unit {0}
 IsClosed (gate ∷ []) = Unit {0}
 IsClosed (gate ∷ second ∷ rest) = gate ≢ 1
 
--- the first gate is 0
+-- The first gate is 0.
 abbrev pub IsShut : List ℕ → Type 0
 IsShut [] = ⊥
 IsShut (gate ∷ rest) = gate ≡ 0
 
--- an open file with a magic and this generation
+-- The file is open, and has the magic and this generation.
 pub record HasMark (generation : ℕ) (file : List ℕ) : Type 0 where
   pub rest : List ℕ
   pub bytes : file ≡ 1 ∷ (mark generation ++ rest)
   pub numbered : generation < 2 ^ 64
 
--- a length is cut short, or what it tells the length of, or the gate behind that
+-- The length is cut short, or what it is the length of, or the gate after that.
 abbrev pub IsCut : List ℕ → Type 0
-IsCut rest = (length rest < 4) ⊎ ((n : ℕ) × (more : List ℕ) × (n < 2 ^ 32) × (rest ≡ four_bytes n ++ more) × (length more ≤ n))
+IsCut rest =
+    (length rest < 4) ⊎ ((n : ℕ) × (more : List ℕ) × (n < 2 ^ 32) × (rest ≡ four_bytes n ++ more) × (length more ≤ n))
 
--- the file is open, and its magic and generation are not there
+-- The file is open, and it has no magic and generation.
 abbrev pub LacksMark : List ℕ → Type 0
 LacksMark file = IsOpen file × ((generation : ℕ) → HasMark generation file → ⊥)
 
--- An open file is cut short, as told by this offset: 0 where its image is, else the gate before the record that is.
+-- An open file is cut short, as this offset says: 0 where its image is, else the gate before the record that is.
 abbrev pub IsCutAt : ℕ → List ℕ → Type 0
 IsCutAt at file =
     ((generation : ℕ) × (rest : List ℕ) × (file ≡ 1 ∷ (mark generation ++ rest)) × IsCut rest × (at ≡ 0))
-    ⊎ ((generation : ℕ) × (image : List ℕ) × (bodies : List (List ℕ)) × (rest : List ℕ) × Fits generation image bodies
+    ⊎ ((generation : ℕ) × (image : List ℕ) × (bodies : List (List ℕ)) × (rest : List ℕ)
+    × FieldsFit generation image bodies
     × (file ≡ solid generation image bodies ++ 1 ∷ rest) × IsCut rest × (at ≡ length (solid generation image bodies)))

@@ -1,9 +1,9 @@
-pub mod Beside
 pub mod Current
 pub mod Failures
 pub mod Journal
 pub mod Layout
 pub mod Opening
+pub mod OtherState
 pub mod Reading
 pub mod Runs
 pub mod Writes

@@ -1,33 +1,34 @@
--- What is read of two files.
-use Rattle.std.specs.Prelude.{◌≡◌, ◌⊎◌, ℕ, List, [], ◌∷◌, length}
+-- These definitions say what is read of two files.
+use Rattle.std.specs.Prelude.{◌≡◌, ◌⊎◌, ℕ, List, [], length}
 use Rattle.ash_journal.specs.declared.error.OpenFault.{OpenFault}
 use Rattle.ash_journal.specs.declared.error.OpenFault.TheVariants.{DeviceFailed, NoGeneration, Damaged, NoMemory}
 use Rattle.ash_journal.specs.declared.error.CreateFault.{CreateFault}
 use Rattle.ash_journal.specs.declared.error.CreateFault.TheVariants as reasons
-use Rattle.ash_journal.specs.declared.opening.Choice.{Choice}
-use Rattle.ash_journal.specs.declared.opening.Looks.{Looks}
-use Rattle.ash_journal.specs.declared.reading.Reading.{Reading}
-use Rattle.ash_journal.specs.Beside.{first_of, second_of, OtherIs}
+use Rattle.ash_journal.specs.declared.two_files.Choice.{Choice}
+use Rattle.ash_journal.specs.declared.two_files.Headers.{Headers}
+use Rattle.ash_journal.specs.declared.one_file.CurrentFile.{CurrentFile}
+use Rattle.ash_journal.specs.OtherState.{first_of, second_of, OtherIs}
 use Rattle.ash_journal.specs.Current.{Is, IsBehind, SettleOn}
 use Rattle.ash_journal.specs.Layout.{IsOpen, IsClosed, IsCutAt, HasMark, LacksMark}
-use Rattle.ash_journal.specs.Reading.{StandingIs, IsRead}
+use Rattle.ash_journal.specs.Reading.{HeaderIs, IsRead}
 
--- two files of which one is open and no generation, or both are open with one number
+-- One of two files is open and has no generation, or both are open with one number.
 abbrev pub IsUnsound : List ℕ → List ℕ → Type 0
 IsUnsound first second =
     LacksMark first ⊎ LacksMark second ⊎ ((generation : ℕ) × HasMark generation first × HasMark generation second)
 
--- a current file that is cut short at an offset
+-- The first file is current, and it is cut short at this offset.
 abbrev pub IsCutCurrent : ℕ → List ℕ → List ℕ → Type 0
-IsCutCurrent at current other = (generation : ℕ) × HasMark generation current × IsBehind generation other × IsCutAt at current
+IsCutCurrent at current other =
+    (generation : ℕ) × HasMark generation current × IsBehind generation other × IsCutAt at current
 
--- one of two files has a mark, and the other is closed or older
+-- One of two files has a mark, and the other is closed or older.
 abbrev pub HasCurrent : List ℕ → List ℕ → Type 0
 HasCurrent first second =
     ((generation : ℕ) × HasMark generation first × IsBehind generation second)
     ⊎ ((generation : ℕ) × HasMark generation second × IsBehind generation first)
 
--- what makes a fault that is told of two files
+-- `FaultIs fault first second` says what two files are like of which a fault is reported.
 abbrev pub FaultIs : OpenFault → List ℕ → List ℕ → Type 0
 FaultIs DeviceFailed first second = Unit {0}
 FaultIs NoMemory first second = HasCurrent first second
@@ -35,32 +36,33 @@ FaultIs NoGeneration first second = IsClosed first × IsClosed second
 FaultIs (Damaged at) first second =
     (IsUnsound first second × (at ≡ 0)) ⊎ (IsCutCurrent at first second ⊎ IsCutCurrent at second first)
 
--- the current file, and how the other stands beside it
+-- The choice names the current file, and it has the state of the other.
 abbrev pub ChoiceIs : Choice → List ℕ → List ℕ → Type 0
 ChoiceIs choice first second =
     HasMark choice.generation (first_of choice.swapped first second)
-    × OtherIs choice.beside choice.generation (second_of choice.swapped first second)
+    × OtherIs choice.other_state choice.generation (second_of choice.swapped first second)
 
--- the current of two files as it was read, and the other
-abbrev pub ContentsAre : Choice → Reading → List ℕ → List ℕ → Type 0
-ContentsAre choice reading first second =
-    IsRead choice.generation reading.image.items reading.tail.records.items reading.tail.end reading.tail.gate (first_of choice.swapped first second)
-    × OtherIs choice.beside choice.generation (second_of choice.swapped first second)
+-- This is the current of two files as it was read, and the choice has the state of the other.
+abbrev pub ContentsAre : Choice → CurrentFile → List ℕ → List ℕ → Type 0
+ContentsAre choice current_file first second =
+    IsRead choice.generation current_file.image.items current_file.tail.records.items current_file.tail.end
+    current_file.tail.gate (first_of choice.swapped first second)
+    × OtherIs choice.other_state choice.generation (second_of choice.swapped first second)
 
--- how two files stand, and their lengths
-pub record LooksAre (looks : Looks) (first second : List ℕ) : Type 0 where
-  pub first_stands : StandingIs looks.first first
-  pub second_stands : StandingIs looks.second second
-  pub first_len : looks.first_len ≡ length first
-  pub second_len : looks.second_len ≡ length second
+-- These are the headers of two files, and their lengths.
+pub record HeadersAre (headers : Headers) (first second : List ℕ) : Type 0 where
+  pub first_header : HeaderIs headers.first first
+  pub second_header : HeaderIs headers.second second
+  pub first_len : headers.first_len ≡ length first
+  pub second_len : headers.second_len ≡ length second
 
--- What makes a fault that is reported where a journal was to be created, and what it leaves: a file was open, or none
--- was and memory ran out; but for a failure of the device, nothing is written.
+-- `CreateFaultIs fault first second unchanged` says why no journal was created, and what that leaves: a file was open,
+-- or none was and memory ran out; but for a failure of the device, nothing is written.
 abbrev pub CreateFaultIs : CreateFault → List ℕ → List ℕ → Type 0 → Type 0
 CreateFaultIs reasons.DeviceFailed first second unchanged = Unit {0}
 CreateFaultIs reasons.AlreadyThere first second unchanged = (IsOpen first ⊎ IsOpen second) × unchanged
 CreateFaultIs reasons.NoMemory first second unchanged = (IsClosed first × IsClosed second) × unchanged
 
--- no file is open, or they settle on this image with no records
+-- No file is open, or the two settle on this image with no records.
 abbrev pub IsCreatedOrClosed : List ℕ → List ℕ → List ℕ → Type 0
 IsCreatedOrClosed image first second = (IsClosed first × IsClosed second) ⊎ SettleOn (Is (image, [])) first second

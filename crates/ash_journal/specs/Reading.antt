@@ -1,68 +1,71 @@
--- What is read of a file.
-use Rattle.std.specs.Prelude.{◌≡◌, ◌≢◌, ℕ, ◌+◌, ◌<◌, ◌≤◌, ◌^◌, Bool, true, false, List, [], ◌∷◌, ◌++◌, length, map, Result, IfErr}
+-- These definitions say what is read of a file.
+use Rattle.std.specs.Prelude.{◌≡◌, ◌≢◌, ℕ, ◌+◌, ◌<◌, ◌≤◌, ◌^◌, Bool, true, false, List, [], ◌∷◌, ◌++◌, length, map}
+use Rattle.std.specs.Prelude.{Result, IfErr}
 use Rattle.ash_disk.specs.Failures.{Rose}
-use Rattle.ash_journal.specs.declared.reading.Standing.{Standing}
-use Rattle.ash_journal.specs.declared.reading.Standing.TheVariants.{Closed, Unmarked, Marked}
+use Rattle.ash_journal.specs.declared.one_file.FileHeader.{FileHeader}
+use Rattle.ash_journal.specs.declared.one_file.FileHeader.TheVariants.{Closed, Unmarked, Marked}
 use Rattle.ash_journal.specs.declared.record.Record.{Record}
 use Rattle.ash_journal.specs.declared.error.OpenFault.{OpenFault}
 use Rattle.ash_journal.specs.declared.error.OpenFault.TheVariants.{DeviceFailed, NoGeneration, Damaged, NoMemory}
-use Rattle.ash_journal.specs.Layout.{block, solid, Fits, IsClosed, IsShut, IsCutAt, HasMark, LacksMark}
+use Rattle.ash_journal.specs.Layout.{block, solid, FieldsFit, IsClosed, IsShut, IsCutAt, HasMark, LacksMark}
 
--- the first gate is 0, or it is not
+-- The first gate is 0, or it is not.
 abbrev pub ShutIs : Bool → List ℕ → Type 0
 ShutIs true file = IsShut file
 ShutIs false file = IsShut file → ⊥
 
--- how a file stands
-abbrev pub StandingIs : Standing → List ℕ → Type 0
-StandingIs (Closed shut) file = IsClosed file × ShutIs shut file
-StandingIs Unmarked file = LacksMark file
-StandingIs (Marked generation) file = HasMark generation file
+-- The file has this header.
+abbrev pub HeaderIs : FileHeader → List ℕ → Type 0
+HeaderIs (Closed gate) file = IsClosed file × ShutIs gate.shut file
+HeaderIs Unmarked file = LacksMark file
+HeaderIs (Marked generation) file = HasMark generation file
 
--- A device's count doesn't fall. Where the answer is that it failed, it rose; where it is another, it didn't.
+-- The count of a device does not fall: where the answer is that it failed, the count rose, and where it is another, the
+-- count did not.
 pub record Counts (failed : Type 0) (before after : ℕ) : Type 0 where
   pub never_falls : before ≤ after
-  pub told : failed → Rose before after
+  pub reported : failed → Rose before after
   pub none : (failed → ⊥) → after ≡ before
 
--- a block stands here, with this gate behind it
+-- The bytes begin with the block of this body and this gate.
 abbrev pub IsBlock : List ℕ → ℕ → List ℕ → Type 0
 IsBlock body gate bytes = (length body < 2 ^ 32) × (more : List ℕ) × (bytes ≡ block body ++ gate ∷ more)
 
--- the bodies of records
+-- `bodies_of found` are the bodies of records.
 abbrev pub bodies_of : List Record → List (List ℕ)
 bodies_of found = map (λ r. r.body.items) found
 
--- the gates before records stand one after the other, from an offset on
+-- The gates before records follow one another, from an offset on.
 abbrev pub AreAt : ℕ → List Record → Type 0
 AreAt at [] = Unit {0}
 AreAt at (r ∷ found) = (r.gate ≡ at) × AreAt (at + 5 + length r.body.items) found
 
--- A generation up to a gate: its records from the first gate behind its image on, and that gate.
-pub record IsReadTo (generation : ℕ) (image : List ℕ) (found : List Record) (end : ℕ) (gate : ℕ) (file : List ℕ) : Type 0 where
+-- The file is read up to a gate: its records from the first gate after its image on, and that gate.
+pub record IsReadTo (generation : ℕ) (image : List ℕ) (found : List Record) (end : ℕ) (gate : ℕ)
+    (file : List ℕ) : Type 0 where
   pub behind : List ℕ
   pub bytes : file ≡ solid generation image (bodies_of found) ++ gate ∷ behind
-  pub fits : Fits generation image (bodies_of found)
+  pub fits : FieldsFit generation image (bodies_of found)
   pub end_is : end ≡ length (solid generation image (bodies_of found))
   pub placed : AreAt (21 + length image) found
 
--- a whole generation, up to a gate that is not open
+-- The file is read whole, up to a gate that is not open.
 abbrev pub IsRead : ℕ → List ℕ → List Record → ℕ → ℕ → List ℕ → Type 0
 IsRead generation image found end gate file = IsReadTo generation image found end gate file × (gate ≢ 1)
 
--- what makes a fault that was told while a current file was read
+-- `IsCutFault fault file` says what a current file is like where a fault is reported as it is read.
 abbrev pub IsCutFault : OpenFault → List ℕ → Type 0
 IsCutFault DeviceFailed file = Unit {0}
 IsCutFault NoMemory file = Unit {0}
 IsCutFault NoGeneration file = ⊥
 IsCutFault (Damaged at) file = IsCutAt at file
 
--- a failure of the device, or want of memory
+-- The fault is a failure of the device, or that memory ran out.
 abbrev pub IsUnread : OpenFault → Type 0
 IsUnread DeviceFailed = Unit {0}
 IsUnread NoMemory = Unit {0}
 IsUnread _ = ⊥
 
--- nothing but a failure of the device or want of memory is told
+-- No fault is reported but a failure of the device, or that memory ran out.
 abbrev pub IsFailure : {T : Type 0} → Result T OpenFault → Type 0
 IsFailure result = IfErr result IsUnread

@@ -1,4 +1,4 @@
--- What two disks settled on since two earlier times.
+-- These definitions say what two disks settled on since two earlier times.
 use Rattle.std.specs.Prelude.{ℕ, ◌≤◌, List, min}
 use Rattle.ash_disk.specs.Device.{Device, EveryMomentSince}
 use Rattle.ash_journal.specs.Current.{Contents, SettleOn, SettleFurther}
@@ -10,8 +10,7 @@ pub record Run {D : Type 0} (device : Device D) (a b : ℕ) (first second : D) (
   pub second_began : b ≤ device.clock second
   pub moments : EveryMomentSince device a b first second (SettleOn P)
 
--- two images that a crash might have left of two disks by two times: those of these times, or of now where that is
--- earlier
+-- A crash might have left these two images of two disks by two times: at these times, or now where that is earlier.
 pub record Earlier {D : Type 0} (device : Device D) (first second : D) (s t : ℕ) (x y : List ℕ) : Type 0 where
   pub first_left : device.leaves first (min s (device.clock first)) x
   pub second_left : device.leaves second (min t (device.clock second)) y
@@ -19,11 +18,14 @@ pub record Earlier {D : Type 0} (device : Device D) (first second : D) (s t : �
 -- Calls took two disks from old to new. At every pair of moments up to their return, what a crash leaves settles on new
 -- contents, or on what it might have settled on at the same moments, or at the last before the calls. So whatever a run
 -- says of contents up to the calls, it says up to their return of these and the new ones.
-pub record Extends {D : Type 0} (device : Device D) (first second first_after second_after : D) (IsNew : Contents → Type 0) : Type 0 where
+pub record Extends {D : Type 0} (device : Device D) (first second first_after second_after : D)
+    (IsNew : Contents → Type 0) : Type 0 where
   pub first_later : device.clock first ≤ device.clock first_after
   pub second_later : device.clock second ≤ device.clock second_after
-  pub moments : (s t : ℕ) (x y : List ℕ) → s ≤ device.clock first_after → t ≤ device.clock second_after → device.leaves first_after s x → device.leaves second_after t y → (u : List ℕ) × (v : List ℕ) × Earlier device first second s t u v × SettleFurther IsNew u v x y
+  pub moments : (s t : ℕ) (x y : List ℕ) → s ≤ device.clock first_after → t ≤ device.clock second_after
+      → device.leaves first_after s x → device.leaves second_after t y
+      → (u : List ℕ) × (v : List ℕ) × Earlier device first second s t u v × SettleFurther IsNew u v x y
 
--- no contents are new
+-- No contents are new.
 abbrev pub Nothing : Contents → Type 0
 Nothing contents = ⊥

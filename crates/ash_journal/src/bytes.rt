@@ -1,11 +1,11 @@
-//! What is written behind a gate, in one piece.
+//! What is written after a gate, in one piece.
 ghost use Rattle.std.specs.Prelude.{◌≡◌, ◌<◌, ◌^◌, ◌∷◌, ◌++◌, [], length, IfOk};
 ghost use Rattle.ash_journal.specs.Layout.{mark, block};
 
 use byteorder::{ByteOrder, LittleEndian};
 use std::alloc::{AllocError, Global};
 
-/// What every generation has behind its first gate.
+/// What every generation has after its first gate.
 pub(crate) const MAGIC: &[u8; 8] = b"ASHOST01";
 
 /// A record's length and body, and a next gate that is shut.

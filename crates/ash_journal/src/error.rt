@@ -16,7 +16,7 @@ pub enum AppendError {
 /// Why no new generation was installed.
 #[derive(Clone, Copy, Debug, PartialEq, Eq, Drop, Error)]
 pub enum InstallError {
-    /// The generation is the last that its number can tell, and nothing has changed.
+    /// The generation is the last that a number can have, and nothing has changed.
     #[error("511 GenerationSpent")]
     GenerationSpent,
     /// Memory was refused, and nothing has changed.
@@ -36,7 +36,7 @@ pub enum OpenFault {
     /// Neither file is open.
     #[error("501 NoGeneration")]
     NoGeneration,
-    /// The bytes are no generation: at 0 the magic, the number or the image, elsewhere the record behind the gate at
+    /// The bytes are no generation: at 0 the magic, the number or the image, elsewhere the record after the gate at
     /// this offset in the current file.
     #[error("503 Damaged {0}")]
     Damaged(u64),

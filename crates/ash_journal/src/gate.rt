@@ -1,25 +1,28 @@
-//! How a file is changed: a gate is shut, or bytes are committed behind one that is shut. A repair and the replacing of
-//! what a file holds are made of these. Nothing else in the crate writes, but for `clear` in `creating`, which writes 0
+//! How a file is changed: a gate is shut, or bytes are committed after one that is shut. A repair and the replacing of
+//! what a file holds are made of these. Nothing else in the crate writes, but for `clear` in `creation`, which writes 0
 //! over the first gate of a file that is not open.
 ghost use Rattle.std.specs.Prelude.{◌≡◌, false, IsTrue, ◌+◌, ◌<◌, ◌^◌, ◌∷◌, ◌++◌, [], ℕ, List, length, drop, OnOk};
 ghost use Rattle.ash_disk.specs.Failures.{CountsFailure};
 ghost use Rattle.ash_disk.specs.Device.{IsDurable, Throughout};
 ghost use Rattle.ash_journal.specs.Layout.{IsShut};
-ghost use Rattle.ash_journal.specs.Writes.{IsSplit, IsOn, WritesByte, WhileShut, WhileCommitted, WhileRepaired, WhileReplaced, repaired};
+ghost use Rattle.ash_journal.specs.OtherState.{is_older};
+ghost use Rattle.ash_journal.specs.Writes.{IsSplit, IsOn, WritesByte, WhileShut, WhileCommitted, WhileRepaired};
+ghost use Rattle.ash_journal.specs.Writes.{WhileReplaced, repaired};
 
+use crate::other_state::OtherState;
 use ash_disk::{DeviceFailed, Disk, write_durably};
 
 /// Writes 0 over a gate, and syncs.
 pub(crate) fn shut_gate<D: Disk>(disk: &mut D, gate: u64) -> Result<(), DeviceFailed>
-    ensures shut { OnOk result ((front behind : List ℕ)
-        → IsSplit D.Disk disk.old gate front behind
-        → IsOn D.Disk disk.new (front ++ 0 ∷ drop 1 behind)) }
-    ensures moments { (front behind : List ℕ)
-        → IsSplit D.Disk disk.old gate front behind
+    ensures shut { OnOk result ((prefix suffix : List ℕ)
+        → IsSplit D.Disk disk.old gate prefix suffix
+        → IsOn D.Disk disk.new (prefix ++ 0 ∷ drop 1 suffix)) }
+    ensures moments { (prefix suffix : List ℕ)
+        → IsSplit D.Disk disk.old gate prefix suffix
         → Throughout D.Disk disk.old disk.new
-        (WhileShut front behind) }
-    ensures only_gate { (front behind : List ℕ)
-        → IsSplit D.Disk disk.old gate front behind
+        (WhileShut prefix suffix) }
+    ensures only_gate { (prefix suffix : List ℕ)
+        → IsSplit D.Disk disk.old gate prefix suffix
         → WritesByte D.Disk gate disk.old disk.new }
     ensures honesty { D.honest disk.new ≡ D.honest disk.old }
     ensures cause { CountsFailure result (D.failures disk.old) (D.failures disk.new) }
@@ -27,18 +30,18 @@ pub(crate) fn shut_gate<D: Disk>(disk: &mut D, gate: u64) -> Result<(), DeviceFa
     write_durably(disk, gate, &[0])
 }
 
-/// Writes bytes behind a gate that is 0 on the device, and syncs; then writes 1 over the gate, and syncs. Only then do
+/// Writes bytes after a gate that is 0 on the device, and syncs; then writes 1 over the gate, and syncs. Only then do
 /// the bytes count, and a crash on the way leaves them whole or not at all.
 pub(crate) fn commit<D: Disk>(disk: &mut D, gate: u64, bytes: &[u8]) -> Result<(), DeviceFailed>
     requires { gate + 1 < 2 ^ 64 }
-    ensures committed { OnOk result ((front behind : List ℕ)
-        → IsSplit D.Disk disk.old gate front (0 ∷ behind)
+    ensures committed { OnOk result ((prefix suffix : List ℕ)
+        → IsSplit D.Disk disk.old gate prefix (0 ∷ suffix)
         → IsOn D.Disk disk.new
-        (front ++ 1 ∷ (bytes.now ++ drop (length bytes.now) behind))) }
-    ensures moments { (front behind : List ℕ)
-        → IsSplit D.Disk disk.old gate front (0 ∷ behind)
+        (prefix ++ 1 ∷ (bytes.now ++ drop (length bytes.now) suffix))) }
+    ensures moments { (prefix suffix : List ℕ)
+        → IsSplit D.Disk disk.old gate prefix (0 ∷ suffix)
         → Throughout D.Disk disk.old disk.new
-        (WhileCommitted front bytes.now behind) }
+        (WhileCommitted prefix bytes.now suffix) }
     ensures honesty { D.honest disk.new ≡ D.honest disk.old }
     ensures cause { CountsFailure result (D.failures disk.old) (D.failures disk.new) }
 {
@@ -46,48 +49,60 @@ pub(crate) fn commit<D: Disk>(disk: &mut D, gate: u64, bytes: &[u8]) -> Result<(
     write_durably(disk, gate, &[1])
 }
 
-/// Writes 0 over a gate where it is owed, and syncs.
+/// A gate at an offset, and whether it is still to be written over.
+#[derive(Clone, Copy)]
+pub(crate) struct Gate {
+    pub(crate) at: u64,
+    pub(crate) stray: bool,
+}
+
+/// Writes 0 over a gate where it is stray, and syncs.
 #[tactic(auto, using(crate::proofs::GateLaws::unwritten))]
-pub(crate) fn repair<D: Disk>(disk: &mut D, owed: bool, gate: u64) -> Result<(), DeviceFailed>
-    ensures repaired { OnOk result ((front behind : List ℕ)
-        → IsSplit D.Disk disk.old gate front behind
-        → IsOn D.Disk disk.new (front ++ repaired owed behind)) }
-    ensures moments { (front behind : List ℕ)
-        → IsSplit D.Disk disk.old gate front behind
+pub(crate) fn repair<D: Disk>(disk: &mut D, gate: Gate) -> Result<(), DeviceFailed>
+    ensures repaired { OnOk result ((prefix suffix : List ℕ)
+        → IsSplit D.Disk disk.old gate.at prefix suffix
+        → IsOn D.Disk disk.new (prefix ++ repaired gate.stray suffix)) }
+    ensures moments { (prefix suffix : List ℕ)
+        → IsSplit D.Disk disk.old gate.at prefix suffix
         → Throughout D.Disk disk.old disk.new
-        (WhileRepaired owed front behind) }
-    ensures only_gate { (front behind : List ℕ)
-        → IsSplit D.Disk disk.old gate front behind
-        → WritesByte D.Disk gate disk.old disk.new }
-    ensures only_owed { owed ≡ false → disk.new ≡ disk.old }
+        (WhileRepaired gate.stray prefix suffix) }
+    ensures only_gate { (prefix suffix : List ℕ)
+        → IsSplit D.Disk disk.old gate.at prefix suffix
+        → WritesByte D.Disk gate.at disk.old disk.new }
+    ensures only_stray { gate.stray ≡ false → disk.new ≡ disk.old }
     ensures honesty { D.honest disk.new ≡ D.honest disk.old }
     ensures cause { CountsFailure result (D.failures disk.old) (D.failures disk.new) }
 {
-    if owed {
-        return shut_gate(disk, gate);
+    if gate.stray {
+        return shut_gate(disk, gate.at);
     }
     Ok(())
 }
 
-/// Puts bytes in place of what a file holds: shuts its first gate, where that is open, and commits them behind it.
+/// Puts bytes in place of what a file in this state holds: shuts its first gate, where it is an older generation, and
+/// commits them after it.
 pub(crate) fn replace<D: Disk>(
     disk: &mut D,
-    is_open: bool,
+    state: OtherState,
     bytes: &[u8],
 ) -> Result<(), DeviceFailed>
     ensures replaced { OnOk result (IsTrue (D.honest disk.old)
         → IsDurable D.Disk disk.old
-        → (is_open ≡ false → IsShut (D.seen disk.old))
+        → (is_older state ≡ false → IsShut (D.seen disk.old))
         → IsOn D.Disk disk.new
         (1 ∷ (bytes.now ++ drop (length bytes.now) (drop 1 (D.seen disk.old))))) }
     ensures moments { IsTrue (D.honest disk.old)
         → IsDurable D.Disk disk.old
-        → (is_open ≡ false → IsShut (D.seen disk.old))
+        → (is_older state ≡ false → IsShut (D.seen disk.old))
         → Throughout D.Disk disk.old disk.new
-        (WhileReplaced is_open bytes.now (D.seen disk.old)) }
+        (WhileReplaced (is_older state) bytes.now (D.seen disk.old)) }
     ensures honesty { D.honest disk.new ≡ D.honest disk.old }
     ensures cause { CountsFailure result (D.failures disk.old) (D.failures disk.new) }
 {
-    repair(disk, is_open, 0)?;
+    let first = Gate {
+        at: 0,
+        stray: state.is_older(),
+    };
+    repair(disk, first)?;
     commit(disk, 0, bytes)
 }

@@ -1,13 +1,13 @@
 //! The journal.
 ghost use Rattle.std.specs.Prelude.{◌≡◌, ◌≤◌, ◌+◌, ◌^◌};
 
-use crate::beside::{Beside, place};
 use crate::bytes::{generation_bytes, record_bytes};
-use crate::creating::create_both;
+use crate::creation::create_both;
 use crate::error::{AppendError, CreateFault, InstallError, OpenFault};
-use crate::gate::{commit, repair, replace};
-use crate::opening::{Contents, read_both};
+use crate::gate::{Gate, commit, repair, replace};
+use crate::other_state::{Order, OtherState};
 use crate::record::Record;
+use crate::two_files::{Contents, read_both};
 use ash_disk::{DeviceFailed, Disk};
 use std::alloc::Global;
 use std::mem;
@@ -21,12 +21,12 @@ pub struct Journal<D> {
     /// Whether the current disk was handed over as the second.
     swapped: bool,
     generation: u64,
-    /// The offset of the gate behind the last open record.
+    /// The offset of the gate after the last open record.
     end: u64,
     record_bytes: u64,
     /// Whether that gate is still to be written over.
     stray: bool,
-    beside: Beside,
+    other_state: OtherState,
     /// Whether a device failed in a call: the journal is to be opened again.
     failed: bool,
     ghost within: { end ≤ record_bytes + 2 ^ 33 },
@@ -59,9 +59,13 @@ pub struct CreateRefused<D> {
 }
 
 impl<D: Disk> Journal<D> {
-    ghost use Rattle.std.specs.Prelude.{◌≡◌, ◌<◌, ◌-◌, ◌↔◌, ◌∷◌, ◌++◌, [], ℕ, List, length, IsTrue, IfOk, IfErr, OnOk, OnErr, IsErr, IsErrOf, MatchResult};
+    ghost use Rattle.std.specs.Prelude.{◌≡◌, ◌<◌, ◌-◌, ◌↔◌, ◌∷◌, ◌++◌, [], ℕ, List, length, IsTrue, IfOk, IfErr, OnOk};
+    ghost use Rattle.std.specs.Prelude.{OnErr, IsErr, IsErrOf, MatchResult};
     ghost use Rattle.ash_journal.specs.Failures.{CountsFailures};
-    ghost use Rattle.ash_journal.specs.Journal.{first_disk, second_disk, generation, record_bytes, current_disk, IsReady, IsRepaired, HasFailed, Finds, Holds, KeepsOne, KeepsOther, KeepsUnowed, WritesGates};
+    ghost use Rattle.ash_journal.specs.Journal.{first_disk, second_disk, generation, record_bytes, current_disk};
+    ghost use Rattle.ash_journal.specs.Journal.{IsReady, IsRepaired, HasFailed, Finds, Holds, LeavesCurrent};
+    ghost use Rattle.ash_journal.specs.Journal.{LeavesOther};
+    ghost use Rattle.ash_journal.specs.Journal.{KeepsUnowed, WritesGates};
     ghost use Rattle.ash_journal.specs.Current.{Is, Either, Represent};
     ghost use Rattle.ash_disk.specs.Device.{IsOnlyRead, EveryMomentSince};
     ghost use Rattle.ash_journal.specs.Layout.{IsClosed};
@@ -102,10 +106,11 @@ impl<D: Disk> Journal<D> {
         ensures moments { (a b : ℕ) → IsTrue (D.honest first) → IsTrue (D.honest second)
             → HasRested D.Disk a first → HasRested D.Disk b second
             → MatchResult result
-            (λ j. EveryMomentSince D.Disk a b (first_disk j) (second_disk j) (IsCreatedOrClosed image.now))
+            (λ j. EveryMomentSince D.Disk a b (first_disk j) (second_disk j)
+            (IsCreatedOrClosed image.now))
             (λ r. EveryMomentSince D.Disk a b r.first r.second (IsCreatedOrClosed image.now)) }
-        ensures honesty_first { MatchResult result
-            (λ j. D.honest (first_disk j) ≡ D.honest first) (λ r. D.honest r.first ≡ D.honest first) }
+        ensures honesty_first { MatchResult result (λ j. D.honest (first_disk j) ≡ D.honest first)
+            (λ r. D.honest r.first ≡ D.honest first) }
         ensures honesty_second { MatchResult result
             (λ j. D.honest (second_disk j) ≡ D.honest second)
             (λ r. D.honest r.second ≡ D.honest second) }
@@ -127,7 +132,7 @@ impl<D: Disk> Journal<D> {
                 end: 21 + image.len() as u64,
                 record_bytes: 0,
                 stray: false,
-                beside: Beside::Shut,
+                other_state: OtherState::Shut,
                 failed: false,
             }),
             Err(fault) => Err(CreateRefused {
@@ -139,7 +144,7 @@ impl<D: Disk> Journal<D> {
     }
 
     /// Opens two disks: syncs them, and reads which is current, its image and its open records, in order, with memory
-    /// for these. It writes nothing, and leaves gates that are owed a repair to `settle`, which comes before the first
+    /// for these. It writes nothing, and leaves gates that are to be repaired to `settle`, which comes before the first
     /// record or image.
     ///
     /// Refusals: `NoGeneration` where no file is open; `Damaged` where an open file has no magic and generation, two
@@ -154,8 +159,10 @@ impl<D: Disk> Journal<D> {
             → FaultIs r.fault (D.seen first) (D.seen second)) }
         ensures represented { IfOk result (λ o. IsTrue (D.honest first) → IsTrue (D.honest second)
             → Represent (o.image.items, bodies_of o.records.items) (D.seen first) (D.seen second)) }
-        ensures extends { IsTrue (D.honest first) → IsTrue (D.honest second) → MatchResult result
-            (λ o. Extends D.Disk first second (first_disk o.journal) (second_disk o.journal) Nothing)
+        ensures extends { IsTrue (D.honest first) → IsTrue (D.honest second)
+            → MatchResult result
+            (λ o. Extends D.Disk first second (first_disk o.journal) (second_disk o.journal)
+            Nothing)
             (λ r. Extends D.Disk first second r.first r.second Nothing) }
         ensures sound { IfOk result (λ o. HasFailed o.journal → ⊥) }
         ensures first_read { MatchResult result
@@ -182,24 +189,30 @@ impl<D: Disk> Journal<D> {
                 });
             }
         };
-        let Contents { choice, reading } = contents;
-        let (current, other) = place(choice.swapped, one, two);
+        let Contents {
+            choice,
+            current_file,
+        } = contents;
+        let order = Order {
+            swapped: choice.swapped,
+        };
+        let (current, other) = order.arrange(one, two);
         let journal = Journal {
             alloc,
             current,
             other,
             swapped: choice.swapped,
             generation: choice.generation,
-            end: reading.tail.end,
-            record_bytes: reading.tail.end - 21 - reading.image.len() as u64,
-            stray: reading.tail.gate != 0,
-            beside: choice.beside,
+            end: current_file.tail.end,
+            record_bytes: current_file.tail.end - 21 - current_file.image.len() as u64,
+            stray: current_file.tail.gate != 0,
+            other_state: choice.other_state,
             failed: false,
         };
         Ok(Opened {
             journal,
-            image: reading.image,
-            records: reading.tail.records,
+            image: current_file.image,
+            records: current_file.tail.records,
         })
     }
 
@@ -215,7 +228,7 @@ impl<D: Disk> Journal<D> {
     pub fn is_ready(&self) -> bool
         ensures { IsTrue result ↔ IsReady self.now }
     {
-        !self.failed && !self.stray && !self.beside.is_stray()
+        !self.failed && !self.stray && !self.other_state.is_stray()
     }
 
     /// Adds a record to the current generation, on a journal that is ready. At `Ok` the record is acknowledged, and
@@ -240,7 +253,7 @@ impl<D: Disk> Journal<D> {
         ensures longer { OnOk result (record_bytes self.new
             ≡ record_bytes self.old + 5 + length body.now) }
         ensures no_longer { OnErr result (record_bytes self.new ≡ record_bytes self.old) }
-        ensures untouched { KeepsOther self.old self.new }
+        ensures untouched { LeavesOther self.old self.new }
         ensures number { generation self.new ≡ generation self.old }
         ensures cause { CountsFailures (IsErrOf result AppendError.DeviceFailed)
             (D.failures (first_disk self.old)) (D.failures (second_disk self.old))
@@ -287,13 +300,13 @@ impl<D: Disk> Journal<D> {
             end: _,
             record_bytes: _,
             stray: _,
-            beside: _,
+            other_state: _,
             failed: _,
         } = self;
-        place(swapped, current, other)
+        Order { swapped }.arrange(current, other)
     }
 
-    /// Writes 0 over the gates that a crash left with another value: the one behind the last open record, and the first
+    /// Writes 0 over the gates that a crash left with another value: the one after the last open record, and the first
     /// of the file that isn't current unless that is an older generation. Each only where it isn't 0, and with its own
     /// sync. At `Ok` a journal is ready for records, unless one of its calls has failed before. It takes no memory.
     ///
@@ -309,8 +322,9 @@ impl<D: Disk> Journal<D> {
         ensures ready { OnOk result ((HasFailed self.old → ⊥) → IsReady self.new) }
         ensures failed { IsErr result → HasFailed self.new }
         ensures still_failed { HasFailed self.old → HasFailed self.new }
-        ensures only_owed { IsRepaired self.old
-            → (first_disk self.new ≡ first_disk self.old) × (second_disk self.new ≡ second_disk self.old) }
+        ensures only_stray { IsRepaired self.old
+            → (first_disk self.new ≡ first_disk self.old)
+            × (second_disk self.new ≡ second_disk self.old) }
         ensures each_owed { KeepsUnowed self.old self.new }
         ensures gates { (image : List ℕ) (bodies : List (List ℕ))
             → Finds D.Disk self.old image bodies
@@ -323,15 +337,23 @@ impl<D: Disk> Journal<D> {
         ensures honesty_first { D.honest (first_disk self.new) ≡ D.honest (first_disk self.old) }
         ensures honesty_second { D.honest (second_disk self.new) ≡ D.honest (second_disk self.old) }
     {
-        match repair(&mut self.current, self.stray, self.end) {
+        let last_gate = Gate {
+            at: self.end,
+            stray: self.stray,
+        };
+        match repair(&mut self.current, last_gate) {
             Ok(()) => self.stray = false,
             Err(failure) => {
                 self.failed = true;
                 return Err(failure);
             }
         }
-        match repair(&mut self.other, self.beside.is_stray(), 0) {
-            Ok(()) => self.beside = self.beside.repaired(),
+        let first_gate = Gate {
+            at: 0,
+            stray: self.other_state.is_stray(),
+        };
+        match repair(&mut self.other, first_gate) {
+            Ok(()) => self.other_state = self.other_state.repaired(),
             Err(failure) => {
                 self.failed = true;
                 return Err(failure);
@@ -345,25 +367,25 @@ impl<D: Disk> Journal<D> {
     ///
     /// Refusals, the first that holds: `GenerationSpent` where the number is 2^64 - 1; `NoMemory`; both change nothing
     /// and come before any call of a device. After `DeviceFailed` the old generation is current or the new one, and the
-    /// journal is ready no more: it is to be opened again. It is one write and a sync, twice, and once more where the other file's first
-    /// gate is to be shut; nothing is read.
+    /// journal is ready no more: it is to be opened again. It is one write and a sync, twice, and once more where the
+    /// other file's first gate is to be shut; nothing is read.
     pub fn install(&mut self, image: &[u8]) -> Result<(), InstallError>
         requires short { length image.now < 2 ^ 32 }
         requires ready { IsReady self.old }
         ensures installed { OnOk result ((was : List ℕ) (bodies : List (List ℕ))
             → Holds D.Disk self.old was bodies
             → Holds D.Disk self.new image.now []) }
-        ensures run { (was : List ℕ) (bodies : List (List ℕ))
-            → Holds D.Disk self.old was bodies
+        ensures run { (was : List ℕ) (bodies : List (List ℕ)) → Holds D.Disk self.old was bodies
             → Run D.Disk (D.clock (first_disk self.old)) (D.clock (second_disk self.old))
-            (first_disk self.new) (second_disk self.new) (Either (Is (image.now, [])) (Is (was, bodies))) }
+            (first_disk self.new) (second_disk self.new)
+            (Either (Is (image.now, [])) (Is (was, bodies))) }
         ensures ready { (IsErrOf result InstallError.DeviceFailed → ⊥) → IsReady self.new }
         ensures failed { IsErrOf result InstallError.DeviceFailed → HasFailed self.new }
         ensures higher { OnOk result (generation self.new ≡ generation self.old + 1) }
         ensures emptied { OnOk result (record_bytes self.new ≡ 0) }
         ensures no_higher { OnErr result ((generation self.new ≡ generation self.old)
             × (record_bytes self.new ≡ record_bytes self.old)) }
-        ensures untouched { KeepsOne self.old self.new }
+        ensures untouched { LeavesCurrent self.old self.new }
         ensures spent { IsErrOf result InstallError.GenerationSpent
             ↔ (generation self.old ≡ 2 ^ 64 - 1) }
         ensures unchanged { IsErrOf result InstallError.GenerationSpent → self.new ≡ self.old }
@@ -382,7 +404,7 @@ impl<D: Disk> Journal<D> {
             Ok(bytes) => bytes,
             Err(_) => return Err(InstallError::NoMemory),
         };
-        match replace(&mut self.other, self.beside.is_older(), &bytes) {
+        match replace(&mut self.other, self.other_state, &bytes) {
             Ok(()) => {}
             Err(_) => {
                 self.failed = true;
@@ -395,7 +417,7 @@ impl<D: Disk> Journal<D> {
         self.end = 21 + image.len() as u64;
         self.record_bytes = 0;
         self.stray = false;
-        self.beside = Beside::Older;
+        self.other_state = OtherState::Older;
         Ok(())
     }
 }

@@ -3,7 +3,8 @@ use Rattle.std.specs.Option.{option_and_then, option_map, option_or}
 use Rattle.std.proofs.lemmas.Option.{same_Some}
 use Rattle.std.proofs.lemmas.List.Elements.{Contains-append_right, Contains-append_cases, Contains-push_cases}
 use Rattle.std.proofs.lemmas.Slice.Eq.{bytes_eq-Decides}
-use Rattle.std.proofs.Common.{◌≡◌, ◌<◌, ◌⊎◌, inl, inr, ⊎_elim, ℕ, length, List, [], ◌∷◌, ◌++◌, map, true, Option, Some, None, IfSome, find, All, Any, Contains, slice_get, suc, refl, sym, ap, subst, ◌∙◌, arith}
+use Rattle.std.proofs.Common.{◌≡◌, ◌<◌, ◌⊎◌, inl, inr, ⊎_elim, ℕ, length, List, [], ◌∷◌, ◌++◌, map, true, Option, Some}
+use Rattle.std.proofs.Common.{None, IfSome, find, All, Any, Contains, slice_get, suc, refl, sym, ap, subst, ◌∙◌, arith}
 use Rattle.ash_classes.specs.References as written_references
 use Rattle.ash_classes.specs.Ways as ways
 use Rattle.ash_registrations.specs.Calls as host
@@ -18,13 +19,17 @@ use Rattle.ash_typed.specs.Modules.{Module}
 use Rattle.ash_typed.specs.References as references
 use Rattle.ash_typed.specs.Signatures as signatures
 use Rattle.ash_typing.specs.Types.{var_type, ty_of}
-use Rattle.ash_typing.specs.Environment.{Interface, Class, Heads, first_from, is_class, is_interface_named, type_declared}
-use Rattle.ash_typing.specs.Heads.{class_type, interface_type, host_object, object_named, element_of, element_by, element_named, array_named, object_ty, handle_ty, ty_named, declared, variables, interface_place, with_place, listed_in, named_class, class_head, names_in, heads, all_variables}
+use Rattle.ash_typing.specs.Environment.{Interface, Class, Heads, first_from, is_class, is_interface_named}
+use Rattle.ash_typing.specs.Environment.{type_declared}
+use Rattle.ash_typing.specs.Heads.{class_type, interface_type, host_object, object_named, element_of, element_by}
+use Rattle.ash_typing.specs.Heads.{element_named, array_named, object_ty, handle_ty, ty_named, declared, variables}
+use Rattle.ash_typing.specs.Heads.{interface_place, with_place, listed_in, named_class, class_head, names_in, heads}
+use Rattle.ash_typing.specs.Heads.{all_variables}
 use Rattle.ash_typing.specs.TypedModules.{environment, IsTyped}
 use Rattle.ash_typing.specs.Offered.{offered}
 use Rattle.ash_typing.specs.Soundness.{signature_of_class, signatures_in}
 use Rattle.ash_typing.proofs.TypingKnown.{if_or}
-use Rattle.ash_typing.proofs.SoundnessNames.{first_place}
+use Rattle.ash_typing.proofs.SoundnessLookUps.{first_place}
 use Rattle.ash_typing.proofs.SoundnessClasses.{first_passes, unmapped, classes_length}
 use Rattle.ash_typing.proofs.SoundnessSignatures.{same_signatures}
 use Rattle.ash_tree.specs.Items.{classes_of, fields_of}
@@ -38,7 +43,8 @@ one_contained : {A : Type 0} (x y : A) → Contains (x ∷ []) y → x ≡ y
 one_contained x y h = ⊎_elim (λ none. absurd (none_contained y none)) (λ e. e) (Contains-push_cases [] x y h)
 
 contained_cases : {A : Type 0} (x : A) (xs : List A) (y : A) → Contains (x ∷ xs) y → (x ≡ y) ⊎ Contains xs y
-contained_cases x xs y h = ⊎_elim (λ one. inl (one_contained x y one)) (λ rest. inr rest) (Contains-append_cases (x ∷ []) xs y h)
+contained_cases x xs y h =
+    ⊎_elim (λ one. inl (one_contained x y one)) (λ rest. inr rest) (Contains-append_cases (x ∷ []) xs y h)
 
 -- one of the elements passes
 Among : {A : Type 0} → (A → Type 0) → List A → Type 0
@@ -48,10 +54,12 @@ Among P (x ∷ xs) = P x ⊎ Among P xs
 among_from : {A : Type 0} (P : A → Type 0) (xs : List A) (y : A) → Contains xs y → P y → Among P xs
 unfolding Among
 among_from P [] y h p = none_contained y h
-among_from P (x ∷ xs) y h p = ⊎_elim (λ e. inl (subst P (sym e) p)) (λ rest. inr (among_from P xs y rest p)) (contained_cases x xs y h)
+among_from P (x ∷ xs) y h p =
+    ⊎_elim (λ e. inl (subst P (sym e) p)) (λ rest. inr (among_from P xs y rest p)) (contained_cases x xs y h)
 
 any_later : {A : Type 0} (P : A → Type 0) (x : A) (xs : List A) → Any P xs → Any P (x ∷ xs)
-any_later P x xs h = let k : Contains (x ∷ xs) h.1 = Contains-append_right (x ∷ []) xs h.1 (h.0, h.2, h.3) in (k.0, h.1, k.1, k.2, h.4)
+any_later P x xs h = let k : Contains (x ∷ xs) h.1 = Contains-append_right (x ∷ []) xs h.1 (h.0, h.2, h.3) in
+    (k.0, h.1, k.1, k.2, h.4)
 
 any_among : {A : Type 0} (P : A → Type 0) (xs : List A) → Among P xs → Any P xs
 unfolding Among
@@ -101,34 +109,55 @@ IsNamed named name (objects.Host kind) = Unit {0}
 IsNamed named name (objects.Array of) = ⊥
 
 class_is_named : (named : Heads) (name : List ℕ) → IfSome (class_type named.classes name) (IsNamed named name)
-class_is_named named name = go (first_from (is_class name) 0 named.classes) (first_place (is_class name) named.classes) (first_passes (is_class name) 0 named.classes)
+class_is_named named name =
+    go (first_from (is_class name) 0 named.classes) (first_place (is_class name) named.classes)
+    (first_passes (is_class name) 0 named.classes)
   where
-    go : (found : Option (ℕ × Class)) → IfSome found (λ f. slice_get named.classes f.0 ≡ Some f.1) → IfSome found (λ f. is_class name f.1 ≡ true) → IfSome (option_map (λ (f : ℕ × Class). objects.Class f.0) found) (IsNamed named name)
+    go : (found : Option (ℕ × Class)) → IfSome found (λ f. slice_get named.classes f.0 ≡ Some f.1)
+        → IfSome found (λ f. is_class name f.1 ≡ true)
+        → IfSome (option_map (λ (f : ℕ × Class). objects.Class f.0) found) (IsNamed named name)
     go None at called = tt
     go (Some f) at called = (f.1, at, (bytes_eq-Decides name f.1.name).0 called)
 
-interface_is_named : (named : Heads) (name : List ℕ) → IfSome (interface_type named.interfaces name) (IsNamed named name)
-interface_is_named named name = go (first_from (is_interface_named name) 0 named.interfaces) (first_place (is_interface_named name) named.interfaces) (first_passes (is_interface_named name) 0 named.interfaces)
+interface_is_named : (named : Heads) (name : List ℕ)
+    → IfSome (interface_type named.interfaces name) (IsNamed named name)
+interface_is_named named name =
+    go (first_from (is_interface_named name) 0 named.interfaces)
+    (first_place (is_interface_named name) named.interfaces) (first_passes (is_interface_named name) 0 named.interfaces)
   where
-    go : (found : Option (ℕ × Interface)) → IfSome found (λ f. slice_get named.interfaces f.0 ≡ Some f.1) → IfSome found (λ f. is_interface_named name f.1 ≡ true) → IfSome (option_map (λ (f : ℕ × Interface). objects.Interface f.0) found) (IsNamed named name)
+    go : (found : Option (ℕ × Interface)) → IfSome found (λ f. slice_get named.interfaces f.0 ≡ Some f.1)
+        → IfSome found (λ f. is_interface_named name f.1 ≡ true)
+        → IfSome (option_map (λ (f : ℕ × Interface). objects.Interface f.0) found) (IsNamed named name)
     go None at called = tt
     go (Some f) at called = (f.1, at, (bytes_eq-Decides name f.1.name).0 called)
 
-host_is_named : (named : Heads) (name : List ℕ) (call : Option host.Call) → IfSome (option_and_then host_object call) (IsNamed named name)
+host_is_named : (named : Heads) (name : List ℕ) (call : Option host.Call)
+    → IfSome (option_and_then host_object call) (IsNamed named name)
 host_is_named named name None = tt
 host_is_named named name (Some (host.AType other kind)) = tt
 host_is_named named name (Some _) = tt
 
-object_is_named : (calls : List host.Call) (named : Heads) (name : List ℕ) → IfSome (object_named calls named name) (IsNamed named name)
+object_is_named : (calls : List host.Call) (named : Heads) (name : List ℕ)
+    → IfSome (object_named calls named name) (IsNamed named name)
 unfolding object_named
-object_is_named calls named name = if_or (IsNamed named name) (class_type named.classes name) (option_or (interface_type named.interfaces name) (option_and_then host_object (find (host.takes_name name) calls))) (class_is_named named name) (if_or (IsNamed named name) (interface_type named.interfaces name) (option_and_then host_object (find (host.takes_name name) calls)) (interface_is_named named name) (host_is_named named name (find (host.takes_name name) calls)))
+object_is_named calls named name =
+    if_or (IsNamed named name) (class_type named.classes name)
+    (option_or (interface_type named.interfaces name) (option_and_then host_object (find (host.takes_name name) calls)))
+    (class_is_named named name)
+    (if_or (IsNamed named name) (interface_type named.interfaces name)
+    (option_and_then host_object (find (host.takes_name name) calls)) (interface_is_named named name)
+    (host_is_named named name (find (host.takes_name name) calls)))
 
-named_by : (calls : List host.Call) (named : Heads) (name : List ℕ) (o : ObjectType) → object_named calls named name ≡ Some o → IsNamed named name o
-named_by calls named name o e = let h = object_is_named calls named name in subst (λ (found : Option ObjectType). IfSome found (IsNamed named name)) e h
+named_by : (calls : List host.Call) (named : Heads) (name : List ℕ) (o : ObjectType)
+    → object_named calls named name ≡ Some o → IsNamed named name o
+named_by calls named name o e = let h = object_is_named calls named name in
+    subst (λ (found : Option ObjectType). IfSome found (IsNamed named name)) e h
 
 -- two names of one interface are the same
-same_names : (named : Heads) (one other : List ℕ) (place : ℕ) → IsNameOfInterface named one place → IsNameOfInterface named other place → one ≡ other
-same_names named one other place h k = let same = same_Some h.0 k.0 (sym h.1 ∙ k.1) in h.2 ∙ ap (λ (i : Interface). i.name) same ∙ sym k.2
+same_names : (named : Heads) (one other : List ℕ) (place : ℕ) → IsNameOfInterface named one place
+    → IsNameOfInterface named other place → one ≡ other
+same_names named one other place h k = let same = same_Some h.0 k.0 (sym h.1 ∙ k.1) in
+    h.2 ∙ ap (λ (i : Interface). i.name) same ∙ sym k.2
 
 -- classes as they are written
 
@@ -137,12 +166,20 @@ abbrev HasClass : List written.Item → ℕ → (written.Class → Type 0) → T
 HasClass is place P = (c : written.Class) × (slice_get (classes_of is) place ≡ Some c) × P c
 
 -- the interfaces that are listed
-among_listed : (calls : List host.Call) (named : Heads) (ns : List written.TypeName) (interface : ℕ) → Among (λ i. i ≡ interface) (listed_in calls named ns) → Among (λ n. object_named calls named n.name ≡ Some (objects.Interface interface)) ns
+among_listed : (calls : List host.Call) (named : Heads) (ns : List written.TypeName) (interface : ℕ)
+    → Among (λ i. i ≡ interface) (listed_in calls named ns)
+    → Among (λ n. object_named calls named n.name ≡ Some (objects.Interface interface)) ns
 unfolding Among
 among_listed calls named [] interface h = h
-among_listed calls named (n ∷ ns) interface h = go (object_named calls named n.name) refl h (among_listed calls named ns interface)
+among_listed calls named (n ∷ ns) interface h =
+    go (object_named calls named n.name) refl h (among_listed calls named ns interface)
   where
-    go : (found : Option ObjectType) → object_named calls named n.name ≡ found → Among (λ i. i ≡ interface) (with_place (interface_place found) (listed_in calls named ns)) → (Among (λ i. i ≡ interface) (listed_in calls named ns) → Among (λ n. object_named calls named n.name ≡ Some (objects.Interface interface)) ns) → (object_named calls named n.name ≡ Some (objects.Interface interface)) ⊎ Among (λ n. object_named calls named n.name ≡ Some (objects.Interface interface)) ns
+    go : (found : Option ObjectType) → object_named calls named n.name ≡ found
+        → Among (λ i. i ≡ interface) (with_place (interface_place found) (listed_in calls named ns))
+        → (Among (λ i. i ≡ interface) (listed_in calls named ns)
+        → Among (λ n. object_named calls named n.name ≡ Some (objects.Interface interface)) ns)
+        → (object_named calls named n.name ≡ Some (objects.Interface interface)) ⊎ Among
+        (λ n. object_named calls named n.name ≡ Some (objects.Interface interface)) ns
     go (Some (objects.Interface i)) e (inl same) more = inl (e ∙ ap (λ place. Some (objects.Interface place)) same)
     go (Some (objects.Interface i)) e (inr rest) more = inr (more rest)
     go (Some (objects.Class i)) e h more = inr (more h)
@@ -154,7 +191,8 @@ module _ (calls : List host.Call) (is : List written.Item) where
   abbrev seen : signatures.Signatures
   seen = signatures_in calls (heads calls is)
 
-  written_class : (place : ℕ) (c : signatures.ClassSignature) → slice_get seen.classes place ≡ Some c → HasClass is place (λ w. signature_of_class (class_head calls (names_in is) w) ≡ c)
+  written_class : (place : ℕ) (c : signatures.ClassSignature) → slice_get seen.classes place ≡ Some c
+      → HasClass is place (λ w. signature_of_class (class_head calls (names_in is) w) ≡ c)
   unfolding heads
   written_class place c h =
       let signed = unmapped signature_of_class (heads calls is).classes place c h in
@@ -162,23 +200,38 @@ module _ (calls : List host.Call) (is : List written.Item) where
       (head.0, head.1, ap signature_of_class head.2 ∙ signed.2)
 
   -- a class of the name at the place
-  class_written : (name : List ℕ) (place : ℕ) → IsNameOfClass (names_in is) name place → HasClass is place (λ w. written_references.IsOf w name)
+  class_written : (name : List ℕ) (place : ℕ) → IsNameOfClass (names_in is) name place
+      → HasClass is place (λ w. written_references.IsOf w name)
   class_written name place h =
       let at = unmapped named_class (classes_of is) place h.0 h.1 in
       (at.0, at.1, inl (ap (λ (c : Class). c.name) at.2 ∙ sym h.2))
 
   -- a class that lists the interface of the name
-  lister_written : (name : List ℕ) (interface place : ℕ) → IsNameOfInterface (names_in is) name interface → references.Lists seen place interface → HasClass is place (λ w. written_references.IsOf w name)
+  lister_written : (name : List ℕ) (interface place : ℕ) → IsNameOfInterface (names_in is) name interface
+      → references.Lists seen place interface → HasClass is place (λ w. written_references.IsOf w name)
   lister_written name interface place h lists =
       let at = written_class place lists.0 lists.1 in
       let listed = subst (λ (c : signatures.ClassSignature). Contains c.interfaces interface) (sym at.2) lists.2 in
-      let among = among_listed calls (names_in is) at.0.interfaces interface (among_from (λ i. i ≡ interface) (listed_in calls (names_in is) at.0.interfaces) interface listed refl) in
-      (at.0, at.1, inr (any_among (λ n. n.name ≡ name) at.0.interfaces (among_weaker (λ n. object_named calls (names_in is) n.name ≡ Some (objects.Interface interface)) (λ n. n.name ≡ name) at.0.interfaces (λ n e. same_names (names_in is) n.name name interface (named_by calls (names_in is) n.name (objects.Interface interface) e) h) among)))
+      let among = among_listed calls (names_in is) at.0.interfaces interface
+      (among_from (λ i. i ≡ interface) (listed_in calls (names_in is) at.0.interfaces) interface listed refl) in (
+        at.0,
+        at.1,
+        inr (any_among
+            (λ n. n.name ≡ name) at.0.interfaces
+            (among_weaker (λ n. object_named calls (names_in is) n.name ≡ Some (objects.Interface interface))
+            (λ n. n.name ≡ name) at.0.interfaces
+            (λ n e. same_names (names_in is) n.name name interface
+            (named_by calls (names_in is) n.name (objects.Interface interface) e) h) among)),
+      )
 
-  object_written : (name : List ℕ) (o : ObjectType) (to : ℕ) → object_named calls (names_in is) name ≡ Some o → references.ObjectHolds seen to o → HasClass is to (λ w. written_references.IsOf w name)
-  object_written name o to e references.is_class = class_written name to (named_by calls (names_in is) name (objects.Class to) e)
-  object_written name o to e (references.is_interface {interface = interface} lists) = lister_written name interface to (named_by calls (names_in is) name (objects.Interface interface) e) lists
-  object_written name o to e (references.in_array {of = of} h) = absurd (named_by calls (names_in is) name (objects.Array of) e)
+  object_written : (name : List ℕ) (o : ObjectType) (to : ℕ) → object_named calls (names_in is) name ≡ Some o
+      → references.ObjectHolds seen to o → HasClass is to (λ w. written_references.IsOf w name)
+  object_written name o to e references.is_class =
+      class_written name to (named_by calls (names_in is) name (objects.Class to) e)
+  object_written name o to e (references.is_interface {interface = interface} lists) =
+      lister_written name interface to (named_by calls (names_in is) name (objects.Interface interface) e) lists
+  object_written name o to e (references.in_array {of = of} h) =
+      absurd (named_by calls (names_in is) name (objects.Array of) e)
 
   -- what may be named holds objects of the class
   abbrev ObjectMay : ℕ → Option ObjectType → Type 0
@@ -189,14 +242,18 @@ module _ (calls : List host.Call) (is : List written.Item) where
   ElementMay to None = ⊥
   ElementMay to (Some of) = references.ElementHolds seen to of
 
-  object_found : (name : List ℕ) (found : Option ObjectType) (to : ℕ) → object_named calls (names_in is) name ≡ found → ObjectMay to found → HasClass is to (λ w. written_references.IsOf w name)
+  object_found : (name : List ℕ) (found : Option ObjectType) (to : ℕ) → object_named calls (names_in is) name ≡ found
+      → ObjectMay to found → HasClass is to (λ w. written_references.IsOf w name)
   object_found name None to e h = absurd h
   object_found name (Some o) to e h = object_written name o to e h
 
-  element_found : (name : List ℕ) (found : Option ObjectType) (to : ℕ) → object_named calls (names_in is) name ≡ found → ElementMay to (option_and_then element_by found) → HasClass is to (λ w. written_references.IsOf w name)
+  element_found : (name : List ℕ) (found : Option ObjectType) (to : ℕ) → object_named calls (names_in is) name ≡ found
+      → ElementMay to (option_and_then element_by found) → HasClass is to (λ w. written_references.IsOf w name)
   element_found name None to e h = absurd h
-  element_found name (Some (objects.Class class)) to e references.of_class = object_written name (objects.Class to) to e references.is_class
-  element_found name (Some (objects.Interface interface)) to e (references.of_interface lists) = object_written name (objects.Interface interface) to e (references.is_interface lists)
+  element_found name (Some (objects.Class class)) to e references.of_class =
+      object_written name (objects.Class to) to e references.is_class
+  element_found name (Some (objects.Interface interface)) to e (references.of_interface lists) =
+      object_written name (objects.Interface interface) to e (references.is_interface lists)
   element_found name (Some (objects.Host kind)) to e h = elim h [ ]
   element_found name (Some (objects.Array of)) to e h = absurd h
 
@@ -226,40 +283,60 @@ module _ (calls : List host.Call) (is : List written.Item) where
   no_primitives to primitives.Uint h = elim h [ ]
   no_primitives to primitives.Uint64 h = elim h [ ]
 
-  element_written : (of : written.Element) (to : ℕ) → ElementMay to (element_named calls (names_in is) of) → HasClass is to (λ w. written_references.ElementNames of w)
+  element_written : (of : written.Element) (to : ℕ) → ElementMay to (element_named calls (names_in is) of)
+      → HasClass is to (λ w. written_references.ElementNames of w)
   unfolding element_named
   element_written (written.PrimElement p primitive) to h = absurd (no_primitives to primitive h)
-  element_written (written.HandleElement p name) to h = element_found name (object_named calls (names_in is) name) to refl h
+  element_written (written.HandleElement p name) to h =
+      element_found name (object_named calls (names_in is) name) to refl h
 
   -- a type that is written, of variables that can hold objects of the class
-  type_written : (of : written.Named) (to : ℕ) → references.Holds seen to (var_type (ty_named calls (names_in is) of)) → HasClass is to (λ w. written_references.Names of w)
+  type_written : (of : written.Named) (to : ℕ) → references.Holds seen to (var_type (ty_named calls (names_in is) of))
+      → HasClass is to (λ w. written_references.Names of w)
   unfolding ty_named
   type_written (written.Prim p primitive) to h = absurd (no_primitive to primitive h)
-  type_written (written.Object p name) to h = object_found name (object_named calls (names_in is) name) to refl (object_holds to (object_named calls (names_in is) name) h)
-  type_written (written.Handle p name) to h = object_found name (object_named calls (names_in is) name) to refl (handle_holds to (object_named calls (names_in is) name) h)
-  type_written (written.Array p of) to h = element_written of to (array_holds to (element_named calls (names_in is) of) (object_holds to (array_named calls (names_in is) of) h))
-  type_written (written.ArrayHandle p of) to h = element_written of to (array_holds to (element_named calls (names_in is) of) (handle_holds to (array_named calls (names_in is) of) h))
+  type_written (written.Object p name) to h =
+      object_found name (object_named calls (names_in is) name) to refl
+      (object_holds to (object_named calls (names_in is) name) h)
+  type_written (written.Handle p name) to h =
+      object_found name (object_named calls (names_in is) name) to refl
+      (handle_holds to (object_named calls (names_in is) name) h)
+  type_written (written.Array p of) to h =
+      element_written of to
+      (array_holds to (element_named calls (names_in is) of) (object_holds to (array_named calls (names_in is) of) h))
+  type_written (written.ArrayHandle p of) to h =
+      element_written of to
+      (array_holds to (element_named calls (names_in is) of) (handle_holds to (array_named calls (names_in is) of) h))
 
   -- a field of the type
   abbrev IsFieldOf : VarType → written.Member → Type 0
   IsFieldOf of (written.AField v) = var_type (ty_named calls (names_in is) v.of) ≡ of
   IsFieldOf of _ = ⊥
 
-  field_written : (of : VarType) (ms : List written.Member) → Among (λ d. type_declared d ≡ of) (all_variables calls (names_in is) (fields_of ms)) → Among (IsFieldOf of) ms
+  field_written : (of : VarType) (ms : List written.Member)
+      → Among (λ d. type_declared d ≡ of) (all_variables calls (names_in is) (fields_of ms)) → Among (IsFieldOf of) ms
   unfolding Among
   field_written of [] h = h
   field_written of (written.AField v ∷ ms) h =
       let named = ty_named calls (names_in is) v.of in
-      ⊎_elim (λ here. inl (among_all (var_type named ≡ of) v.decls (among_map (λ d. type_declared d ≡ of) (declared named) v.decls here))) (λ rest. inr (field_written of ms rest)) (among_append (λ d. type_declared d ≡ of) (variables calls (names_in is) v) (all_variables calls (names_in is) (fields_of ms)) h)
+      ⊎_elim (λ here.
+      inl (among_all (var_type named ≡ of) v.decls
+      (among_map (λ d. type_declared d ≡ of) (declared named) v.decls here)))
+      (λ rest. inr (field_written of ms rest))
+      (among_append
+      (λ d. type_declared d ≡ of) (variables calls (names_in is) v) (all_variables calls (names_in is) (fields_of ms))
+      h)
   field_written of (written.AMethod f ∷ ms) h = inr (field_written of ms h)
   field_written of (written.AConstructor c ∷ ms) h = inr (field_written of ms h)
 
-  member_written : (of : VarType) (to : ℕ) (m : written.Member) → references.Holds seen to of → IsFieldOf of m → HasClass is to (λ w. written_references.Holds m w)
+  member_written : (of : VarType) (to : ℕ) (m : written.Member) → references.Holds seen to of → IsFieldOf of m
+      → HasClass is to (λ w. written_references.Holds m w)
   member_written of to (written.AField v) h e = type_written v.of to (subst (references.Holds seen to) (sym e) h)
   member_written of to (written.AMethod f) h e = absurd e
   member_written of to (written.AConstructor c) h e = absurd e
 
-  members_written : (of : VarType) (to : ℕ) (ms : List written.Member) → references.Holds seen to of → Among (IsFieldOf of) ms → HasClass is to (λ w. Among (λ m. written_references.Holds m w) ms)
+  members_written : (of : VarType) (to : ℕ) (ms : List written.Member) → references.Holds seen to of
+      → Among (IsFieldOf of) ms → HasClass is to (λ w. Among (λ m. written_references.Holds m w) ms)
   unfolding Among
   members_written of to [] h e = absurd e
   members_written of to (m ∷ ms) h (inl e) = let at = member_written of to m h e in (at.0, at.1, inl at.2)
@@ -269,20 +346,30 @@ module _ (calls : List host.Call) (is : List written.Item) where
   refers_written from to h =
       let one = written_class from h.0 h.2 in
       let fields = subst (λ (c : signatures.ClassSignature). Contains c.fields h.1) (sym one.2) h.3 in
-      let typed = among_map (λ of. of ≡ h.1) type_declared (all_variables calls (names_in is) (fields_of one.0.members)) (among_from (λ of. of ≡ h.1) (map type_declared (all_variables calls (names_in is) (fields_of one.0.members))) h.1 fields refl) in
+      let typed = among_map
+      (λ of. of ≡ h.1) type_declared (all_variables calls (names_in is) (fields_of one.0.members))
+      (among_from (λ of. of ≡ h.1) (map type_declared (all_variables calls (names_in is) (fields_of one.0.members)))
+      h.1 fields refl) in
       let other = members_written h.1 to one.0.members h.4 (field_written h.1 one.0.members typed) in
       (other.0, other.1, (one.0, one.1, any_among (λ m. written_references.Holds m other.0) one.0.members other.2))
 
-pub typed_refers : (calls : List host.Call) (is : List written.Item) (m : Module) → IsTyped calls is m → (from to : ℕ) → references.Refers (signatures.signatures_of (offered calls) m) from to → written_references.Refers (classes_of is) from to
-typed_refers calls is m typed from to h = refers_written calls is from to (subst (λ s. references.Refers s from to) (same_signatures calls is m typed) h)
+pub typed_refers : (calls : List host.Call) (is : List written.Item) (m : Module) → IsTyped calls is m → (from to : ℕ)
+    → references.Refers (signatures.signatures_of (offered calls) m) from to
+    → written_references.Refers (classes_of is) from to
+typed_refers calls is m typed from to h =
+    refers_written calls is from to (subst (λ s. references.Refers s from to) (same_signatures calls is m typed) h)
 
 length-mapped : {A B : Type 0} (f : A → B) (xs : List A) → length (map f xs) ≡ length xs
 length-mapped f [] = refl
 length-mapped f (x ∷ xs) = ap suc (length-mapped f xs)
 
-pub typed_ranks : (calls : List host.Call) (is : List written.Item) (m : Module) → IsTyped calls is m → (ranks : List ℕ) → ways.AreRanks (written_references.Refers (classes_of is)) (length (classes_of is)) ranks → references.AreRanks (signatures.signatures_of (offered calls) m) ranks
+pub typed_ranks : (calls : List host.Call) (is : List written.Item) (m : Module) → IsTyped calls is m → (ranks : List ℕ)
+    → ways.AreRanks (written_references.Refers (classes_of is)) (length (classes_of is)) ranks
+    → references.AreRanks (signatures.signatures_of (offered calls) m) ranks
 typed_ranks calls is m typed ranks are =
-    let long : length (classes_of is) ≡ length (map signatures.signature_of_class m.classes) = sym (classes_length (environment calls is) 0 (classes_of is) m.classes typed.classes) ∙ sym (length-mapped signatures.signature_of_class m.classes) in
+    let long : length (classes_of is) ≡ length (map signatures.signature_of_class m.classes) =
+    sym (classes_length (environment calls is) 0 (classes_of is) m.classes typed.classes)
+    ∙ sym (length-mapped signatures.signature_of_class m.classes) in
     record {
       count = are.count ∙ long;
       within = subst (λ n. All (λ rank. rank < n) ranks) long are.within;

@@ -2,7 +2,7 @@
 //!
 //! `ash_classes` finds ranks of a script's classes, along what their fields name. This crate says that they fall along
 //! what the fields of the typed module's classes hold, so that what walks the typed module alone may rely on them. It
-//! stands on `ash_classes`, on the rules of typing and on typed trees. It computes nothing.
+//! uses `ash_classes`, the rules of typing and typed trees. It computes nothing.
 #![tactic(auto)]
 
 ghost use Rattle.std.specs.Prelude.{ℕ, List, length};
@@ -16,12 +16,14 @@ ghost use Rattle.ash_typed.specs.Signatures.{signatures_of};
 ghost use Rattle.ash_typing.specs.Offered.{offered};
 ghost use Rattle.ash_typing.specs.TypedModules.{IsTyped};
 
-/// That a class of a typed module refers only to what it refers to as it is written, so that ranks of the written classes
-/// are ranks of the typed ones. It does nothing when it runs.
+/// That a class of a typed module refers only to what it refers to as it is written, so that ranks of the written
+/// classes are ranks of the typed ones. It does nothing when it runs.
 pub fn typed_ranks_fall()
-    ensures refers { (calls : List Call) (is : List Item) (typed : Module) → IsTyped calls is typed → (from to : ℕ) →
-        Refers (signatures_of (offered calls) typed) from to → written.Refers (written.classes_of is) from to }
-    ensures ranks { (calls : List Call) (is : List Item) (typed : Module) → IsTyped calls is typed → (ranks : List ℕ) →
-        ways.AreRanks (written.Refers (written.classes_of is)) (length (written.classes_of is)) ranks →
-        AreRanks (signatures_of (offered calls) typed) ranks }
+    ensures refers { (calls : List Call) (is : List Item) (typed : Module) → IsTyped calls is typed
+        → (from to : ℕ) → Refers (signatures_of (offered calls) typed) from to
+        → written.Refers (written.classes_of is) from to }
+    ensures ranks { (calls : List Call) (is : List Item) (typed : Module) → IsTyped calls is typed
+        → (ranks : List ℕ)
+        → ways.AreRanks (written.Refers (written.classes_of is)) (length (written.classes_of is))
+        ranks → AreRanks (signatures_of (offered calls) typed) ranks }
 {}

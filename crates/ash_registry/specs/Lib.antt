@@ -1,5 +1,5 @@
 pub mod Texts
-pub mod Spelled
+pub mod NameClasses
 pub mod Calls
 pub mod Text
 pub mod Refusals

@@ -1,40 +1,47 @@
--- Which registrations are refused, with the first cause in the order in which they are tested, and what an
--- accepted one adds.
-use Rattle.std.specs.Prelude.{◌≡◌, ◌⊎◌, ℕ, Bool, true, false, not, ◌||◌, List, [], ◌∷◌, ◌++◌, Option, None, Some, Result, Err, OnOk, OnErr, IfErr, nat_le, count_by}
+-- These definitions say which registrations are refused, with the first cause in the order in which they are tested,
+-- and what an accepted one adds.
+use Rattle.std.specs.Prelude.{◌≡◌, ◌⊎◌, ℕ, Bool, true, false, not, ◌||◌, List, [], ◌∷◌, ◌++◌, Option, None, Some}
+use Rattle.std.specs.Prelude.{Result, Err, OnOk, OnErr, IfErr, nat_le, count_by}
 use Rattle.std.specs.List.{list_any, filter_map}
 use Rattle.std.specs.Option.{is_none, option_and_then, option_to_list}
 use Rattle.std.specs.Str.{bytes_eq}
 use Rattle.ash_tree.specs.declared.tree.types.Primitive.{Primitive}
 use Rattle.ash_registry.specs.declared.fault.RegistryFault.{RegistryFault}
-use Rattle.ash_registry.specs.declared.fault.RegistryFault.TheVariants.{UnknownType, NoService, BadDeclaration, ReservedName, NotPrimitive, NameTaken, FactoryTaken, TooMany, NoMemory}
-use Rattle.ash_tree.specs.Tree.{Element, PrimElement, HandleElement, Named, Prim, Object, Handle, Array, ArrayHandle, Signature, Property, Declaration, ASignature}
+use Rattle.ash_registry.specs.declared.fault.RegistryFault.TheVariants.{UnknownType, NoService, BadDeclaration}
+use Rattle.ash_registry.specs.declared.fault.RegistryFault.TheVariants.{ReservedName, NotPrimitive, NameTaken}
+use Rattle.ash_registry.specs.declared.fault.RegistryFault.TheVariants.{FactoryTaken, TooMany, NoMemory}
+use Rattle.ash_tree.specs.Tree.{Element, PrimElement, HandleElement, Named, Prim, Object, Handle, Array, ArrayHandle}
+use Rattle.ash_tree.specs.Tree.{Signature, Property, Declaration, ASignature}
 use Rattle.ash_tree.specs.Tree as tree
-use Rattle.ash_registry.specs.Texts.{Spelling, AName, AReserved, ANoName}
-use Rattle.ash_registrations.specs.Calls.{Operation, Call, AType, AFactory, AMethod, AProperty, AService, AFunction, is_type, names_type, takes_kind, takes_name, is_factory_of, is_member_of, takes_member, takes_method, takes_property, takes_function, is_service, is_function}
+use Rattle.ash_registry.specs.Texts.{NameClass, AName, AReserved, ANoName}
+use Rattle.ash_registrations.specs.Calls.{Operation, Call, AType, AFactory, AMethod, AProperty, AService, AFunction}
+use Rattle.ash_registrations.specs.Calls.{is_type, names_type, takes_kind, takes_name, is_factory_of, is_member_of}
+use Rattle.ash_registrations.specs.Calls.{takes_member, takes_method, takes_property, takes_function, is_service}
+use Rattle.ash_registrations.specs.Calls.{is_function}
 use Rattle.ash_registrations.specs.Added.{is_too_long}
 use Rattle.ash_registrations.specs.declared.adding.AddFault.{AddFault}
 use Rattle.ash_registrations.specs.declared.adding.AddFault.TheVariants as add_faults
 
--- what a call is refused with that is not added
+-- `fault_of added` is what a call is refused with where the registrations do not take it.
 abbrev pub fault_of : AddFault → RegistryFault
 fault_of add_faults.TooLong = TooMany
 fault_of add_faults.NoMemory = NoMemory
 
--- a cause that is tested, and those that are tested after it
+-- `cause test fault later` is the fault where the test holds, and else what is tested later.
 abbrev pub cause : Bool → RegistryFault → Option RegistryFault → Option RegistryFault
 cause true fault later = Some fault
 cause false fault later = later
 
--- whether a type of this name is registered
+-- A type of this name is registered.
 abbrev pub is_known : List Call → List ℕ → Bool
 is_known calls name = list_any (names_type name) calls
 
--- whether the elements of an array are handles of a type that isn't registered
+-- The elements of an array are handles of a type that is not registered.
 abbrev pub is_unknown_element : List Call → Element → Bool
 is_unknown_element calls (PrimElement _ _) = false
 is_unknown_element calls (HandleElement _ name) = not (is_known calls name)
 
--- whether a declared type is an object type that isn't registered, or an array of handles of one
+-- A declared type is an object type that is not registered, or an array of handles of one.
 abbrev pub is_unknown : List Call → Named → Bool
 is_unknown calls (Prim _ _) = false
 is_unknown calls (Object _ name) = not (is_known calls name)
@@ -42,131 +49,165 @@ is_unknown calls (Handle _ name) = not (is_known calls name)
 is_unknown calls (Array _ element) = is_unknown_element calls element
 is_unknown calls (ArrayHandle _ element) = is_unknown_element calls element
 
--- a declared type, where it is a primitive
+-- `primitive_of named` is the declared type, where it is a primitive.
 abbrev pub primitive_of : Named → Option Primitive
 primitive_of (Prim _ primitive) = Some primitive
 primitive_of _ = None
 
--- whether a declared type is no primitive
+-- A declared type is no primitive.
 abbrev pub is_object : Named → Bool
 is_object named = is_none (primitive_of named)
 
--- the causes that lie in declared types
+-- `cause_in calls types later` is the first cause that is in the declared types, and else what is tested later.
 abbrev pub cause_in : List Call → List Named → Option RegistryFault → Option RegistryFault
-cause_in calls types later = cause (list_any (is_unknown calls) types) UnknownType (cause (list_any is_object types) NotPrimitive later)
+cause_in calls types later =
+    cause (list_any (is_unknown calls) types) UnknownType (cause (list_any is_object types) NotPrimitive later)
 
--- too many of a kind, or too long a text
+-- `cause_of_many many calls call` is the cause that there are too many of a kind, or that the text is too long.
 abbrev pub cause_of_many : Bool → List Call → Call → Option RegistryFault
 cause_of_many many calls call = cause (many || is_too_long calls call) TooMany None
 
--- the types that a signature names, its result first
+-- `types_of s` are the types that a signature names, its result first.
 abbrev pub types_of : Signature → List Named
 types_of s = option_to_list s.result ++ s.parameters
 
--- a signature whose types are primitive
+-- `primitive_operation s` is a signature whose types are primitive.
 abbrev pub primitive_operation : Signature → Operation
-primitive_operation s = record { name = s.name; result = option_and_then primitive_of s.result; parameters = filter_map primitive_of s.parameters }
+primitive_operation s = record {
+  name = s.name;
+  result = option_and_then primitive_of s.result;
+  parameters = filter_map primitive_of s.parameters;
+}
 
--- A call is accepted where no cause speaks against it, and is then added; else its cause is told, or that memory
--- ran out, and nothing changes.
-pub record RegisteredIf {A : Type 0} (refusal : Option RegistryFault) (call : List Call) (result : Result A RegistryFault) (old new : List Call) : Type 0 where
+-- A call is accepted where no cause speaks against it, and is then added; else it is refused with its cause, or because
+-- memory ran out, and nothing changes.
+pub record RegisteredIf {A : Type 0} (refusal : Option RegistryFault) (call : List Call)
+    (result : Result A RegistryFault) (old new : List Call) : Type 0 where
   pub accepted : OnOk result (refusal ≡ None)
   pub added : OnOk result (new ≡ old ++ call)
   pub refused : IfErr result (λ fault. (refusal ≡ Some fault) ⊎ (fault ≡ NoMemory))
   pub unchanged : OnErr result (new ≡ old)
 
--- Where the first test of a call speaks against it that is told, whether memory is there or not.
-abbrev pub TellsAtOnce : {A : Type 0} → Bool → RegistryFault → Result A RegistryFault → Type 0
-TellsAtOnce test fault result = test ≡ true → result ≡ Err fault
+-- Where the first test of a call speaks against it, the call is refused with that, whether memory is there or not.
+abbrev pub RefusedWithoutAllocating : {A : Type 0} → Bool → RegistryFault → Result A RegistryFault → Type 0
+RefusedWithoutAllocating test fault result = test ≡ true → result ≡ Err fault
 
 -- A type has a name and a kind of its own, and there are at most 256.
-abbrev pub refusal_of_type : List Call → List ℕ → Spelling → ℕ → Option RegistryFault
+abbrev pub refusal_of_type : List Call → List ℕ → NameClass → ℕ → Option RegistryFault
 refusal_of_type calls name ANoName kind = Some BadDeclaration
 refusal_of_type calls name AReserved kind = Some ReservedName
 refusal_of_type calls name AName kind =
-    cause (list_any (takes_name name) calls || list_any (takes_kind kind) calls) NameTaken (cause_of_many (nat_le 256 (count_by is_type calls)) calls (AType name kind))
+    cause (list_any (takes_name name) calls || list_any (takes_kind kind) calls) NameTaken
+    (cause_of_many (nat_le 256 (count_by is_type calls)) calls (AType name kind))
 
 -- A service has a kind of its own, and there are at most 16.
 abbrev pub refusal_of_service : List Call → ℕ → Option RegistryFault
 refusal_of_service calls kind =
-    cause (list_any (takes_kind kind) calls) NameTaken (cause_of_many (nat_le 16 (count_by is_service calls)) calls (AService kind))
+    cause (list_any (takes_kind kind) calls) NameTaken
+    (cause_of_many (nat_le 16 (count_by is_service calls)) calls (AService kind))
 
--- What a method declares: a function of primitives. A type's methods and properties have names of their own, its
--- methods numbers of their own, and there are at most 32 of both.
+-- A method is a function of primitives; a type's methods and properties have names of their own, its methods have
+-- numbers of their own, and there are at most 32 of both.
 abbrev pub refusal_of_signature : List Call → List ℕ → ℕ → Signature → Option RegistryFault
 refusal_of_signature calls of id s =
-    cause_in calls (types_of s) (cause (list_any (takes_member of s.name) calls || list_any (takes_method of id) calls) NameTaken (cause_of_many (nat_le 32 (count_by (is_member_of of) calls)) calls (AMethod of id (primitive_operation s))))
+    cause_in calls (types_of s)
+    (cause (list_any (takes_member of s.name) calls || list_any (takes_method of id) calls) NameTaken
+    (cause_of_many (nat_le 32 (count_by (is_member_of of) calls)) calls (AMethod of id (primitive_operation s))))
 
+-- What is declared for a method must be a function.
 abbrev pub refusal_of_declared_method : List Call → List ℕ → ℕ → Option Declaration → Option RegistryFault
 refusal_of_declared_method calls of id (Some (ASignature s)) = refusal_of_signature calls of id s
 refusal_of_declared_method calls of id _ = Some BadDeclaration
 
+-- The type of a method must be known.
 abbrev pub refusal_of_method : List Call → List ℕ → ℕ → Option Declaration → Option RegistryFault
-refusal_of_method calls of id declared = cause (not (is_known calls of)) UnknownType (refusal_of_declared_method calls of id declared)
+refusal_of_method calls of id declared =
+    cause (not (is_known calls of)) UnknownType (refusal_of_declared_method calls of id declared)
 
--- the call of a method
+-- `method_call of id declared` is the call that registers a method.
 abbrev pub method_call : List ℕ → ℕ → Option Declaration → List Call
 method_call of id (Some (ASignature s)) = AMethod of id (primitive_operation s) ∷ []
 method_call _ _ _ = []
 
--- A property is of a primitive type; its number is its own among the type's properties.
+-- A property has a name of its own among the type's members and a number of its own among its properties.
 abbrev pub refusal_of_primitive : List Call → List ℕ → ℕ → Primitive → List ℕ → Option RegistryFault
 refusal_of_primitive calls of id value name =
-    cause (list_any (takes_member of name) calls || list_any (takes_property of id) calls) NameTaken (cause_of_many (nat_le 32 (count_by (is_member_of of) calls)) calls (AProperty of id value name))
+    cause (list_any (takes_member of name) calls || list_any (takes_property of id) calls) NameTaken
+    (cause_of_many (nat_le 32 (count_by (is_member_of of) calls)) calls (AProperty of id value name))
 
+-- A property is of a primitive type.
 abbrev pub refusal_of_value : List Call → List ℕ → ℕ → Named → List ℕ → Option RegistryFault
 refusal_of_value calls of id (Prim _ value) name = refusal_of_primitive calls of id value name
 refusal_of_value calls of id other name = cause (is_unknown calls other) UnknownType (Some NotPrimitive)
 
+-- What is declared for a property must be a property.
 abbrev pub refusal_of_declared_property : List Call → List ℕ → ℕ → Option Declaration → Option RegistryFault
 refusal_of_declared_property calls of id (Some (tree.AProperty p)) = refusal_of_value calls of id p.of p.name
 refusal_of_declared_property calls of id _ = Some BadDeclaration
 
+-- The type of a property must be known.
 abbrev pub refusal_of_property : List Call → List ℕ → ℕ → Option Declaration → Option RegistryFault
-refusal_of_property calls of id declared = cause (not (is_known calls of)) UnknownType (refusal_of_declared_property calls of id declared)
+refusal_of_property calls of id declared =
+    cause (not (is_known calls of)) UnknownType (refusal_of_declared_property calls of id declared)
 
--- the call of a property
+-- `value_call of id named name` is the call that registers a property of this type.
 abbrev pub value_call : List ℕ → ℕ → Named → List ℕ → List Call
 value_call of id (Prim _ value) name = AProperty of id value name ∷ []
 value_call _ _ _ _ = []
 
+-- `property_call of id declared` is the call that registers a property.
 abbrev pub property_call : List ℕ → ℕ → Option Declaration → List Call
 property_call of id (Some (tree.AProperty p)) = value_call of id p.of p.name
 property_call _ _ _ = []
 
--- A factory gives a handle of its own type, whatever its name, and a type has one.
+-- A factory gives a handle of its own type, whatever its name.
 abbrev pub gives_handle_of : List ℕ → Option Named → Bool
 gives_handle_of of (Some (Handle _ name)) = bytes_eq of name
 gives_handle_of _ _ = false
 
+-- A type has one factory, which takes primitives.
 abbrev pub refusal_of_constructor : List Call → List ℕ → List Named → Option RegistryFault
 refusal_of_constructor calls of parameters =
-    cause_in calls parameters (cause (list_any (is_factory_of of) calls) FactoryTaken (cause_of_many false calls (AFactory of (filter_map primitive_of parameters))))
+    cause_in calls parameters
+    (cause (list_any (is_factory_of of) calls) FactoryTaken
+    (cause_of_many false calls (AFactory of (filter_map primitive_of parameters))))
 
+-- What is declared for a factory must be a function that gives a handle of the type.
 abbrev pub refusal_of_declared_factory : List Call → List ℕ → Option Declaration → Option RegistryFault
-refusal_of_declared_factory calls of (Some (ASignature s)) = cause (not (gives_handle_of of s.result)) BadDeclaration (refusal_of_constructor calls of s.parameters)
+refusal_of_declared_factory calls of (Some (ASignature s)) =
+    cause (not (gives_handle_of of s.result)) BadDeclaration (refusal_of_constructor calls of s.parameters)
 refusal_of_declared_factory calls of _ = Some BadDeclaration
 
+-- The type of a factory must be known.
 abbrev pub refusal_of_factory : List Call → List ℕ → Option Declaration → Option RegistryFault
-refusal_of_factory calls of declared = cause (not (is_known calls of)) UnknownType (refusal_of_declared_factory calls of declared)
+refusal_of_factory calls of declared =
+    cause (not (is_known calls of)) UnknownType (refusal_of_declared_factory calls of declared)
 
+-- `factory_call of declared` is the call that registers a factory.
 abbrev pub factory_call : List ℕ → Option Declaration → List Call
 factory_call of (Some (ASignature s)) = AFactory of (filter_map primitive_of s.parameters) ∷ []
 factory_call _ _ = []
 
--- A function of a service has a name of its own among types and functions and a number of its own in its service,
--- and there are at most 256.
+-- A function of a service has a name of its own among types and functions and a number of its own in its service, and
+-- there are at most 256.
 abbrev pub refusal_of_operation : List Call → ℕ → ℕ → Signature → Option RegistryFault
 refusal_of_operation calls service id s =
-    cause_in calls (types_of s) (cause (list_any (takes_name s.name) calls || list_any (takes_function service id) calls) NameTaken (cause_of_many (nat_le 256 (count_by is_function calls)) calls (AFunction service id (primitive_operation s))))
+    cause_in calls (types_of s)
+    (cause (list_any (takes_name s.name) calls || list_any (takes_function service id) calls) NameTaken
+    (cause_of_many (nat_le 256 (count_by is_function calls)) calls (AFunction service id (primitive_operation s))))
 
+-- What is declared for a function of a service must be a function.
 abbrev pub refusal_of_declared_function : List Call → ℕ → ℕ → Option Declaration → Option RegistryFault
 refusal_of_declared_function calls service id (Some (ASignature s)) = refusal_of_operation calls service id s
 refusal_of_declared_function calls service id _ = Some BadDeclaration
 
+-- The service of a function must be registered.
 abbrev pub refusal_of_function : List Call → ℕ → ℕ → Option Declaration → Option RegistryFault
-refusal_of_function calls service id declared = cause (nat_le (count_by is_service calls) service) NoService (refusal_of_declared_function calls service id declared)
+refusal_of_function calls service id declared =
+    cause (nat_le (count_by is_service calls) service) NoService
+    (refusal_of_declared_function calls service id declared)
 
+-- `function_call service id declared` is the call that registers a function of a service.
 abbrev pub function_call : ℕ → ℕ → Option Declaration → List Call
 function_call service id (Some (ASignature s)) = AFunction service id (primitive_operation s) ∷ []
 function_call _ _ _ = []

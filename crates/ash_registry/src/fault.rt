@@ -7,7 +7,7 @@ use ash_registrations::AddFault;
 use std::alloc::{AllocError, AllocFailed};
 use thiserror::Error;
 
-/// Why a registration is refused, in the order in which the causes are tested, want of memory apart.
+/// Why a registration is refused, in the order in which the causes are tested, but for memory.
 #[derive(Clone, Copy, Debug, PartialEq, Eq, Error)]
 pub enum RegistryFault {
     /// A type that isn't registered, as the argument or inside the declaration.

@@ -1,19 +1,26 @@
-//! The calls that register.
-ghost use Rattle.std.specs.Prelude.{◌≡◌, ◌||◌, ℕ, List, false, [], ◌∷◌, Option, Some, count_by, map, nat_le, not, string_bytes, IfOk};
+//! The calls that register types and services, and members of types.
+ghost use Rattle.std.specs.Prelude.{◌≡◌, [], ◌∷◌, Option, Some, count_by, map, nat_le, not, string_bytes, IfOk};
 ghost use Rattle.std.specs.List.{filter_map, list_any};
 ghost use Rattle.std.specs.Option.{option_map};
 ghost use Rattle.ash_tree.specs.Tree.{Declaration as DeclarationTree};
 ghost use Rattle.ash_tree.specs.Views.{declaration_of, signature_of, type_of};
-ghost use Rattle.ash_registrations.specs.Calls.{call_of, AType, AFactory, AMethod, AProperty, AService, AFunction, is_member_of, is_service, is_function, takes_function, takes_kind, takes_name};
-ghost use Rattle.std.specs.Str.{bytes_eq};
-ghost use Rattle.ash_registry.specs.declared.fault.RegistryFault.TheVariants.{BadDeclaration, NameTaken, NoService, UnknownType, NotPrimitive};
+ghost use Rattle.ash_registrations.specs.Calls.{AType, AFactory, AMethod, AProperty, AService, is_member_of};
+ghost use Rattle.ash_registrations.specs.Calls.{is_service, takes_kind};
+ghost use Rattle.ash_registry.specs.declared.fault.RegistryFault.TheVariants.{BadDeclaration, NameTaken, UnknownType};
+ghost use Rattle.ash_registry.specs.declared.fault.RegistryFault.TheVariants.{NotPrimitive};
 ghost use Rattle.ash_registry.specs.Registered.{registered};
-ghost use Rattle.ash_registry.specs.Refusals.{RegisteredIf, TellsAtOnce, cause, cause_of_many, refusal_of_type, refusal_of_service, refusal_of_method, refusal_of_declared_method, refusal_of_signature, refusal_of_property, refusal_of_declared_property, refusal_of_primitive, refusal_of_value, is_known, primitive_of, value_call, is_unknown, refusal_of_factory, refusal_of_declared_factory, refusal_of_constructor, refusal_of_function, refusal_of_declared_function, refusal_of_operation, gives_handle_of, primitive_operation, method_call, property_call, factory_call, function_call};
-ghost use Rattle.ash_registry.specs.Spelled.{spelling_of};
-ghost use Rattle.ash_registry.specs.Texts.{Spelling, AName, IsSpelled, IsDeclared};
+ghost use Rattle.ash_registry.specs.Refusals.{RegisteredIf, RefusedWithoutAllocating, cause, cause_of_many};
+ghost use Rattle.ash_registry.specs.Refusals.{refusal_of_type, refusal_of_service, refusal_of_method};
+ghost use Rattle.ash_registry.specs.Refusals.{refusal_of_declared_method, refusal_of_signature, refusal_of_property};
+ghost use Rattle.ash_registry.specs.Refusals.{refusal_of_declared_property, refusal_of_primitive, refusal_of_value};
+ghost use Rattle.ash_registry.specs.Refusals.{is_known, primitive_of, value_call, is_unknown, refusal_of_factory};
+ghost use Rattle.ash_registry.specs.Refusals.{refusal_of_declared_factory, refusal_of_constructor, gives_handle_of};
+ghost use Rattle.ash_registry.specs.Refusals.{primitive_operation, method_call, property_call, factory_call};
+ghost use Rattle.ash_registry.specs.NameClasses.{name_class_of};
+ghost use Rattle.ash_registry.specs.Texts.{NameClass, AName, HasNameClass, IsDeclared};
 
-use crate::reading::{Spelled, read_declaration, read_name};
 use crate::signatures::{gives_handle, has_object, names_object, operation, primitives};
+use crate::texts::{NameKind, read_declaration, read_name};
 use crate::{Call, Registry, RegistryFault};
 use ash_tree::{Declaration, Primitive, Property, Signature, Type, TypeKind};
 
@@ -23,31 +30,34 @@ const MAX_TYPES: usize = 256;
 /// The most methods and properties of a type.
 const MAX_MEMBERS: usize = 32;
 
-/// The most functions.
-const MAX_FUNCTIONS: usize = 256;
-
 /// The most services.
 const MAX_SERVICES: usize = 16;
 
 impl Registry {
     /// Registers a type of host objects by its name and the number of its kind.
     pub fn object_type(&mut self, name: &str, kind: u16) -> Result<(), RegistryFault>
-        ensures { (spelling : Spelling) → IsSpelled name.now spelling
-            → RegisteredIf (refusal_of_type (registered self.old) name.now spelling kind)
+        ensures { (name_class : NameClass) → HasNameClass name.now name_class
+            → RegisteredIf (refusal_of_type (registered self.old) name.now name_class kind)
             (AType name.now kind ∷ []) result (registered self.old) (registered self.new) }
     {
-        let spelled = read_name(self.alloc, name)?;
-        self.spelled_type(name, spelled, kind)
+        let name_kind = read_name(self.alloc, name)?;
+        self.classified_type(name, name_kind, kind)
     }
 
-    fn spelled_type(&mut self, name: &str, spelled: Spelled, kind: u16) -> Result<(), RegistryFault>
-        ensures { RegisteredIf (refusal_of_type (registered self.old) name.now (spelling_of spelled) kind)
+    fn classified_type(
+        &mut self,
+        name: &str,
+        name_kind: NameKind,
+        kind: u16,
+    ) -> Result<(), RegistryFault>
+        ensures { RegisteredIf
+            (refusal_of_type (registered self.old) name.now (name_class_of name_kind) kind)
             (AType name.now kind ∷ []) result (registered self.old) (registered self.new) }
     {
-        match spelled {
-            Spelled::Name => self.named_type(name, kind),
-            Spelled::Reserved => Err(RegistryFault::ReservedName),
-            Spelled::Other => Err(RegistryFault::BadDeclaration),
+        match name_kind {
+            NameKind::Name => self.named_type(name, kind),
+            NameKind::Reserved => Err(RegistryFault::ReservedName),
+            NameKind::Other => Err(RegistryFault::BadDeclaration),
         }
     }
 
@@ -60,8 +70,8 @@ impl Registry {
         }
         let key = name.to_string(self.alloc)?;
         let name = name.to_string(self.alloc)?;
-        let many = self.table.types() >= MAX_TYPES;
-        self.accept_named(Call::Type { name, kind }, key, many)
+        let count = self.table.types();
+        self.accept_named(Call::Type { name, kind }, key, count, MAX_TYPES)
     }
 
     /// Registers a service of a kind. The answer is its index.
@@ -69,13 +79,14 @@ impl Registry {
         ensures index { IfOk result (λ index. index ≡ count_by is_service (registered self.old)) }
         ensures registers { RegisteredIf (refusal_of_service (registered self.old) kind)
             (AService kind ∷ []) result (registered self.old) (registered self.new) }
-        ensures at_once { TellsAtOnce (list_any (takes_kind kind) (registered self.old)) NameTaken result }
+        ensures without_allocating { RefusedWithoutAllocating
+            (list_any (takes_kind kind) (registered self.old)) NameTaken result }
     {
         if self.table.takes_kind(kind) {
             return Err(RegistryFault::NameTaken);
         }
         let index = self.table.services();
-        self.accept(Call::Service { kind }, index >= MAX_SERVICES)?;
+        self.accept(Call::Service { kind }, index, MAX_SERVICES)?;
         Ok(index)
     }
 
@@ -84,33 +95,35 @@ impl Registry {
         ensures registers { (declared : Option DeclarationTree) → IsDeclared decl.now declared
             → RegisteredIf (refusal_of_method (registered self.old) of.now id declared)
             (method_call of.now id declared) result (registered self.old) (registered self.new) }
-        ensures at_once { TellsAtOnce (not (is_known (registered self.old) of.now)) UnknownType result }
+        ensures without_allocating { RefusedWithoutAllocating
+            (not (is_known (registered self.old) of.now)) UnknownType result }
     {
         if !self.table.knows(of) {
             return Err(RegistryFault::UnknownType);
         }
         let declared = read_declaration(self.alloc, decl)?;
-        self.declared_method(of, declared, id)
+        self.method_of_declaration(of, declared, id)
     }
 
-    fn declared_method(
+    fn method_of_declaration(
         &mut self,
         of: &str,
         declared: Option<Declaration>,
         id: u16,
     ) -> Result<(), RegistryFault>
         ensures { RegisteredIf
-            (refusal_of_declared_method (registered self.old) of.now id (option_map declaration_of declared))
-            (method_call of.now id (option_map declaration_of declared))
-            result (registered self.old) (registered self.new) }
+            (refusal_of_declared_method (registered self.old) of.now id
+            (option_map declaration_of declared))
+            (method_call of.now id (option_map declaration_of declared)) result
+            (registered self.old) (registered self.new) }
     {
         match declared {
-            Some(Declaration::Function(signature)) => self.signed_method(of, signature, id),
+            Some(Declaration::Function(signature)) => self.method_of_signature(of, signature, id),
             _ => Err(RegistryFault::BadDeclaration),
         }
     }
 
-    fn signed_method(
+    fn method_of_signature(
         &mut self,
         of: &str,
         signature: Signature,
@@ -138,15 +151,16 @@ impl Registry {
 
     fn add_method(&mut self, of: &str, signature: Signature, id: u16) -> Result<(), RegistryFault>
         ensures { RegisteredIf
-            (cause_of_many (nat_le 32 (count_by (is_member_of of.now) (registered self.old))) (registered self.old)
+            (cause_of_many (nat_le 32 (count_by (is_member_of of.now) (registered self.old)))
+            (registered self.old)
             (AMethod of.now id (primitive_operation (signature_of signature))))
-            (AMethod of.now id (primitive_operation (signature_of signature)) ∷ [])
-            result (registered self.old) (registered self.new) }
+            (AMethod of.now id (primitive_operation (signature_of signature)) ∷ []) result
+            (registered self.old) (registered self.new) }
     {
         let operation = operation(self.alloc, signature)?;
         let of = of.to_string(self.alloc)?;
-        let many = self.table.members_of(of.as_str()) >= MAX_MEMBERS;
-        self.accept(Call::Method { of, id, operation }, many)
+        let count = self.table.members_of(of.as_str());
+        self.accept(Call::Method { of, id, operation }, count, MAX_MEMBERS)
     }
 
     /// Registers a property of a type, as `int value`, by its number.
@@ -154,42 +168,45 @@ impl Registry {
         ensures registers { (declared : Option DeclarationTree) → IsDeclared decl.now declared
             → RegisteredIf (refusal_of_property (registered self.old) of.now id declared)
             (property_call of.now id declared) result (registered self.old) (registered self.new) }
-        ensures at_once { TellsAtOnce (not (is_known (registered self.old) of.now)) UnknownType result }
+        ensures without_allocating { RefusedWithoutAllocating
+            (not (is_known (registered self.old) of.now)) UnknownType result }
     {
         if !self.table.knows(of) {
             return Err(RegistryFault::UnknownType);
         }
         let declared = read_declaration(self.alloc, decl)?;
-        self.declared_property(of, declared, id)
+        self.property_of_declaration(of, declared, id)
     }
 
-    fn declared_property(
+    fn property_of_declaration(
         &mut self,
         of: &str,
         declared: Option<Declaration>,
         id: u16,
     ) -> Result<(), RegistryFault>
         ensures { RegisteredIf
-            (refusal_of_declared_property (registered self.old) of.now id (option_map declaration_of declared))
-            (property_call of.now id (option_map declaration_of declared))
-            result (registered self.old) (registered self.new) }
+            (refusal_of_declared_property (registered self.old) of.now id
+            (option_map declaration_of declared))
+            (property_call of.now id (option_map declaration_of declared)) result
+            (registered self.old) (registered self.new) }
     {
         match declared {
-            Some(Declaration::Property(property)) => self.valued_property(of, property, id),
+            Some(Declaration::Property(property)) => self.property_of_type(of, property, id),
             _ => Err(RegistryFault::BadDeclaration),
         }
     }
 
-    fn valued_property(
+    fn property_of_type(
         &mut self,
         of: &str,
         property: Property,
         id: u16,
     ) -> Result<(), RegistryFault>
         ensures { RegisteredIf
-            (refusal_of_value (registered self.old) of.now id (type_of property.of) (string_bytes property.name))
-            (value_call of.now id (type_of property.of) (string_bytes property.name))
-            result (registered self.old) (registered self.new) }
+            (refusal_of_value (registered self.old) of.now id (type_of property.of)
+            (string_bytes property.name))
+            (value_call of.now id (type_of property.of) (string_bytes property.name)) result
+            (registered self.old) (registered self.new) }
     {
         let Property {
             place: _,
@@ -204,9 +221,11 @@ impl Registry {
 
     // The fault of a property of an object type.
     fn fault_of_object(&self, of: &Type) -> RegistryFault
-        ensures { Some result ≡ cause (is_unknown (registered self.now) (type_of of.now)) UnknownType (Some NotPrimitive) }
+        ensures { Some result
+            ≡ cause (is_unknown (registered self.now) (type_of of.now)) UnknownType
+            (Some NotPrimitive) }
     {
-        if self.misses(of) {
+        if self.is_unknown(of) {
             RegistryFault::UnknownType
         } else {
             RegistryFault::NotPrimitive
@@ -229,16 +248,14 @@ impl Registry {
             return Err(RegistryFault::NameTaken);
         }
         let of = of.to_string(self.alloc)?;
-        let many = self.table.members_of(of.as_str()) >= MAX_MEMBERS;
-        self.accept(
-            Call::Property {
-                of,
-                id,
-                value,
-                name,
-            },
-            many,
-        )
+        let count = self.table.members_of(of.as_str());
+        let call = Call::Property {
+            of,
+            id,
+            value,
+            name,
+        };
+        self.accept(call, count, MAX_MEMBERS)
     }
 
     /// Registers the factory of a type, as `T@ make(int)`. Its name is ignored.
@@ -246,35 +263,38 @@ impl Registry {
         ensures registers { (declared : Option DeclarationTree) → IsDeclared decl.now declared
             → RegisteredIf (refusal_of_factory (registered self.old) of.now declared)
             (factory_call of.now declared) result (registered self.old) (registered self.new) }
-        ensures at_once { TellsAtOnce (not (is_known (registered self.old) of.now)) UnknownType result }
+        ensures without_allocating { RefusedWithoutAllocating
+            (not (is_known (registered self.old) of.now)) UnknownType result }
     {
         if !self.table.knows(of) {
             return Err(RegistryFault::UnknownType);
         }
         let declared = read_declaration(self.alloc, decl)?;
-        self.declared_factory(of, declared)
+        self.factory_of_declaration(of, declared)
     }
 
-    fn declared_factory(
+    fn factory_of_declaration(
         &mut self,
         of: &str,
         declared: Option<Declaration>,
     ) -> Result<(), RegistryFault>
         ensures { RegisteredIf
-            (refusal_of_declared_factory (registered self.old) of.now (option_map declaration_of declared))
-            (factory_call of.now (option_map declaration_of declared))
-            result (registered self.old) (registered self.new) }
+            (refusal_of_declared_factory (registered self.old) of.now
+            (option_map declaration_of declared))
+            (factory_call of.now (option_map declaration_of declared)) result (registered self.old)
+            (registered self.new) }
     {
         match declared {
-            Some(Declaration::Function(signature)) => self.signed_factory(of, signature),
+            Some(Declaration::Function(signature)) => self.factory_of_signature(of, signature),
             _ => Err(RegistryFault::BadDeclaration),
         }
     }
 
-    fn signed_factory(&mut self, of: &str, signature: Signature) -> Result<(), RegistryFault>
+    fn factory_of_signature(&mut self, of: &str, signature: Signature) -> Result<(), RegistryFault>
         ensures { RegisteredIf
             (cause (not (gives_handle_of of.now (signature_of signature).result)) BadDeclaration
-            (refusal_of_constructor (registered self.old) of.now (signature_of signature).parameters))
+            (refusal_of_constructor (registered self.old) of.now
+            (signature_of signature).parameters))
             (AFactory of.now (filter_map primitive_of (signature_of signature).parameters) ∷ [])
             result (registered self.old) (registered self.new) }
     {
@@ -291,7 +311,7 @@ impl Registry {
             (AFactory of.now (filter_map primitive_of (map type_of parameters.now)) ∷ [])
             result (registered self.old) (registered self.new) }
     {
-        if self.misses_one(parameters) {
+        if self.any_unknown(parameters) {
             return Err(RegistryFault::UnknownType);
         }
         if has_object(parameters) {
@@ -302,119 +322,6 @@ impl Registry {
         }
         let parameters = primitives(self.alloc, parameters)?;
         let of = of.to_string(self.alloc)?;
-        self.accept(Call::Factory { of, parameters }, false)
-    }
-
-    /// Registers a function of a service, as `int tally(int)`, by the service's index and the function's number.
-    pub fn function(&mut self, service: u16, decl: &str, id: u16) -> Result<(), RegistryFault>
-        ensures registers { (declared : Option DeclarationTree) → IsDeclared decl.now declared
-            → RegisteredIf (refusal_of_function (registered self.old) service id declared)
-            (function_call service id declared) result (registered self.old) (registered self.new) }
-        ensures at_once { TellsAtOnce (nat_le (count_by is_service (registered self.old)) service) NoService result }
-    {
-        if self.table.services() <= service as usize {
-            return Err(RegistryFault::NoService);
-        }
-        let declared = read_declaration(self.alloc, decl)?;
-        self.declared_function(service, declared, id)
-    }
-
-    fn declared_function(
-        &mut self,
-        service: u16,
-        declared: Option<Declaration>,
-        id: u16,
-    ) -> Result<(), RegistryFault>
-        ensures { RegisteredIf
-            (refusal_of_declared_function (registered self.old) service id (option_map declaration_of declared))
-            (function_call service id (option_map declaration_of declared))
-            result (registered self.old) (registered self.new) }
-    {
-        match declared {
-            Some(Declaration::Function(signature)) => self.signed_function(service, signature, id),
-            _ => Err(RegistryFault::BadDeclaration),
-        }
-    }
-
-    // Whether a name is taken among types and functions, or a number among the functions of a service.
-    fn takes_function_or_name(&self, name: &str, service: u16, id: u16) -> bool
-        ensures { result ≡ (list_any (takes_name name.now) (registered self.now)
-            || list_any (takes_function service id) (registered self.now)) }
-    {
-        self.table.takes_name(name) || self.table.takes_function(service, id)
-    }
-
-    fn signed_function(
-        &mut self,
-        service: u16,
-        signature: Signature,
-        id: u16,
-    ) -> Result<(), RegistryFault>
-        ensures { RegisteredIf
-            (refusal_of_operation (registered self.old) service id (signature_of signature))
-            (AFunction service id (primitive_operation (signature_of signature)) ∷ [])
-            result (registered self.old) (registered self.new) }
-    {
-        if self.names_unknown(&signature) {
-            return Err(RegistryFault::UnknownType);
-        }
-        if names_object(&signature) {
-            return Err(RegistryFault::NotPrimitive);
-        }
-        if self.takes_function_or_name(signature.name.as_str(), service, id) {
-            return Err(RegistryFault::NameTaken);
-        }
-        self.add_function(service, signature, id)
-    }
-
-    fn add_function(
-        &mut self,
-        service: u16,
-        signature: Signature,
-        id: u16,
-    ) -> Result<(), RegistryFault>
-        requires { list_any (takes_name (string_bytes signature.name)) (registered self.old) ≡ false }
-        ensures { RegisteredIf
-            (cause_of_many (nat_le 256 (count_by is_function (registered self.old))) (registered self.old)
-            (AFunction service id (primitive_operation (signature_of signature))))
-            (AFunction service id (primitive_operation (signature_of signature)) ∷ [])
-            result (registered self.old) (registered self.new) }
-    {
-        let key = signature.name.clone()?;
-        let operation = operation(self.alloc, signature)?;
-        let many = self.table.functions() >= MAX_FUNCTIONS;
-        let call = Call::Function {
-            service,
-            id,
-            operation,
-        };
-        self.accept_named(call, key, many)
-    }
-
-    // Adds a type or a function against which nothing else speaks, with its name.
-    fn accept_named(&mut self, call: Call, key: String, many: bool) -> Result<(), RegistryFault>
-        requires named { (name : List ℕ) → takes_name name (call_of call) ≡ bytes_eq name (string_bytes key) }
-        requires free { list_any (takes_name (string_bytes key)) (registered self.old) ≡ false }
-        ensures { RegisteredIf (cause_of_many many (registered self.old) (call_of call)) (call_of call ∷ [])
-            result (registered self.old) (registered self.new) }
-    {
-        if many {
-            return Err(RegistryFault::TooMany);
-        }
-        self.table.add_named(call, key)?;
-        Ok(())
-    }
-
-    // Adds a call against which nothing else speaks, and which takes no name of a type or function.
-    fn accept(&mut self, call: Call, many: bool) -> Result<(), RegistryFault>
-        requires { (name : List ℕ) → takes_name name (call_of call) ≡ false }
-        ensures { RegisteredIf (cause_of_many many (registered self.old) (call_of call)) (call_of call ∷ [])
-            result (registered self.old) (registered self.new) }
-    {
-        if many {
-            return Err(RegistryFault::TooMany);
-        }
-        self.table.add(call)?;
-        Ok(())
+        self.add(Call::Factory { of, parameters })
     }
 }

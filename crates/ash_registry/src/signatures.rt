@@ -1,8 +1,9 @@
-//! Signatures as they are tested and kept.
+//! Signatures as they are tested and registered.
 ghost use Rattle.std.specs.Prelude.{◌≡◌, IfOk, Some, map};
 ghost use Rattle.std.specs.List.{list_any, filter_map};
 ghost use Rattle.ash_registrations.specs.Calls.{operation_of};
-ghost use Rattle.ash_registry.specs.Refusals.{is_unknown, is_unknown_element, is_object, primitive_of, primitive_operation, types_of, gives_handle_of};
+ghost use Rattle.ash_registry.specs.Refusals.{is_unknown, is_unknown_element, is_object, primitive_of};
+ghost use Rattle.ash_registry.specs.Refusals.{primitive_operation, types_of, gives_handle_of};
 ghost use Rattle.std.specs.Option.{option_map};
 ghost use Rattle.ash_registry.specs.Registered.{registered};
 ghost use Rattle.ash_tree.specs.Views.{element_of, type_of, signature_of};
@@ -23,7 +24,8 @@ fn primitive(of: &Type) -> Option<Primitive>
 
 // The primitives among types.
 pub(crate) fn primitives(alloc: Global, types: &[Type]) -> Result<Vec<Primitive>, AllocError>
-    ensures { IfOk result (λ kept. kept.items ≡ filter_map (λ t. primitive_of (type_of t)) types.now) }
+    ensures { IfOk result (λ primitive_types.
+        primitive_types.items ≡ filter_map (λ t. primitive_of (type_of t)) types.now) }
 {
     types.iter().filter_map(|t| primitive(t)).collect(alloc)
 }
@@ -31,7 +33,8 @@ pub(crate) fn primitives(alloc: Global, types: &[Type]) -> Result<Vec<Primitive>
 /// A signature whose types are primitive.
 #[tactic(auto, using(ash_registrations::proofs::Mapped::filter_mapped))]
 pub(crate) fn operation(alloc: Global, signature: Signature) -> Result<Operation, AllocError>
-    ensures { IfOk result (λ kept. operation_of kept ≡ primitive_operation (signature_of signature)) }
+    ensures { IfOk result (λ primitive_types.
+        operation_of primitive_types ≡ primitive_operation (signature_of signature)) }
 {
     let Signature {
         place: _,
@@ -53,7 +56,7 @@ pub(crate) fn operation(alloc: Global, signature: Signature) -> Result<Operation
 
 impl Registry {
     // Whether the elements of an array are handles of a type that isn't registered.
-    fn misses_element(&self, of: &Element) -> bool
+    fn is_unknown_element(&self, of: &Element) -> bool
         ensures { result ≡ is_unknown_element (registered self.now) (element_of of.now) }
     {
         match &of.kind {
@@ -63,33 +66,34 @@ impl Registry {
     }
 
     // Whether a type names an object type that isn't registered.
-    pub(crate) fn misses(&self, of: &Type) -> bool
+    pub(crate) fn is_unknown(&self, of: &Type) -> bool
         ensures { result ≡ is_unknown (registered self.now) (type_of of.now) }
     {
         match &of.kind {
             TypeKind::Primitive(_) => false,
             TypeKind::Object(name) | TypeKind::Handle(name) => !self.table.knows(name.as_str()),
             TypeKind::Array(element) | TypeKind::ArrayHandle(element) => {
-                self.misses_element(element)
+                self.is_unknown_element(element)
             }
         }
     }
 
     // Whether one of these types names an object type that isn't registered.
-    pub(crate) fn misses_one(&self, types: &[Type]) -> bool
+    pub(crate) fn any_unknown(&self, types: &[Type]) -> bool
         ensures { result ≡ list_any (λ t. is_unknown (registered self.now) (type_of t)) types.now }
     {
-        types.iter().any(|t| self.misses(t))
+        types.iter().any(|t| self.is_unknown(t))
     }
 
     // Whether a signature names an object type that isn't registered.
     #[tactic(auto, using(ash_registrations::proofs::Mapped::any_mapped))]
     pub(crate) fn names_unknown(&self, signature: &Signature) -> bool
-        ensures { result ≡ list_any (is_unknown (registered self.now)) (types_of (signature_of signature.now)) }
+        ensures { result
+            ≡ list_any (is_unknown (registered self.now)) (types_of (signature_of signature.now)) }
     {
         match &signature.result {
-            Some(of) => self.misses(of) || self.misses_one(&signature.parameters),
-            None => self.misses_one(&signature.parameters),
+            Some(of) => self.is_unknown(of) || self.any_unknown(&signature.parameters),
+            None => self.any_unknown(&signature.parameters),
         }
     }
 }
@@ -120,20 +124,20 @@ pub(crate) fn has_object(types: &[Type]) -> bool
 }
 
 /// Whether a result is a handle of a type.
-pub(crate) fn gives_handle(given: &Option<Type>, of: &str) -> bool
-    ensures { result ≡ gives_handle_of of.now (option_map type_of given.now) }
+pub(crate) fn gives_handle(result_type: &Option<Type>, of: &str) -> bool
+    ensures { result ≡ gives_handle_of of.now (option_map type_of result_type.now) }
 {
-    match given {
-        Some(given) => is_handle(given, of),
+    match result_type {
+        Some(result_type) => is_handle(result_type, of),
         None => false,
     }
 }
 
 // Whether a type is a handle of a type of this name.
-fn is_handle(given: &Type, of: &str) -> bool
-    ensures { result ≡ gives_handle_of of.now (Some (type_of given.now)) }
+fn is_handle(result_type: &Type, of: &str) -> bool
+    ensures { result ≡ gives_handle_of of.now (Some (type_of result_type.now)) }
 {
-    match &given.kind {
+    match &result_type.kind {
         TypeKind::Handle(name) => of == name.as_str(),
         _ => false,
     }

@@ -26,7 +26,8 @@ no_links (layer.Path base ls) h = absurd (h base ls (sym (views.rolls-Path base 
 no_links _ h = refl
 
 pub links_of-other : (e : code.Expr) → IsNoPath e → links_of e ≡ []
-links_of-other e h = subst (λ (x : code.Expr). IsNoPath x → links_of x ≡ []) (views.roll-out-Expr e) (no_links (views.out-Expr e)) h
+links_of-other e h =
+    subst (λ (x : code.Expr). IsNoPath x → links_of x ≡ []) (views.roll-out-Expr e) (no_links (views.out-Expr e)) h
 
 own_base : (e : Layer) → IsNoPath (views.roll-Expr e) → base_of (views.roll-Expr e) ≡ views.roll-Expr e
 unfolding code.roll-Expr denote.Hole.Carrier.roll
@@ -34,7 +35,8 @@ own_base (layer.Path base ls) h = absurd (h base ls (sym (views.rolls-Path base 
 own_base _ h = refl
 
 pub base_of-other : (e : code.Expr) → IsNoPath e → base_of e ≡ e
-base_of-other e h = subst (λ (x : code.Expr). IsNoPath x → base_of x ≡ x) (views.roll-out-Expr e) (own_base (views.out-Expr e)) h
+base_of-other e h =
+    subst (λ (x : code.Expr). IsNoPath x → base_of x ≡ x) (views.roll-out-Expr e) (own_base (views.out-Expr e)) h
 
 abbrev IsNoChain : code.Expr → Type 0
 IsNoChain e = (first : Box code.Expr Global) (os : Vec operand.Operand Global) → e ≡ views.Chain first os → ⊥
@@ -45,7 +47,9 @@ no_operands (layer.Chain first os) h = absurd (h first os (sym (views.rolls-Chai
 no_operands _ h = refl
 
 pub operands_of-other : (e : code.Expr) → IsNoChain e → operands_of e ≡ []
-operands_of-other e h = subst (λ (x : code.Expr). IsNoChain x → operands_of x ≡ []) (views.roll-out-Expr e) (no_operands (views.out-Expr e)) h
+operands_of-other e h =
+    subst (λ (x : code.Expr). IsNoChain x → operands_of x ≡ []) (views.roll-out-Expr e) (no_operands (views.out-Expr e))
+    h
 
 own_first : (e : Layer) → IsNoChain (views.roll-Expr e) → first_of (views.roll-Expr e) ≡ views.roll-Expr e
 unfolding code.roll-Expr denote.Hole.Carrier.roll
@@ -53,7 +57,8 @@ own_first (layer.Chain first os) h = absurd (h first os (sym (views.rolls-Chain 
 own_first _ h = refl
 
 pub first_of-other : (e : code.Expr) → IsNoChain e → first_of e ≡ e
-first_of-other e h = subst (λ (x : code.Expr). IsNoChain x → first_of x ≡ x) (views.roll-out-Expr e) (own_first (views.out-Expr e)) h
+first_of-other e h =
+    subst (λ (x : code.Expr). IsNoChain x → first_of x ≡ x) (views.roll-out-Expr e) (own_first (views.out-Expr e)) h
 
 abbrev IsNotLazy : code.Expr → Type 0
 IsNotLazy e = (op : Lazy) (first : Box code.Expr Global) (es : Vec code.Expr Global) → e ≡ views.Lazy op first es → ⊥
@@ -65,4 +70,6 @@ no_others lazies.And _ h = refl
 no_others lazies.Or _ h = refl
 
 pub others_of-other : (op : Lazy) (e : code.Expr) → IsNotLazy e → others_of op e ≡ []
-others_of-other op e h = subst (λ (x : code.Expr). IsNotLazy x → others_of op x ≡ []) (views.roll-out-Expr e) (no_others op (views.out-Expr e)) h
+others_of-other op e h =
+    subst (λ (x : code.Expr). IsNotLazy x → others_of op x ≡ []) (views.roll-out-Expr e)
+    (no_others op (views.out-Expr e)) h

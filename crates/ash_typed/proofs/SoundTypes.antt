@@ -7,12 +7,19 @@ use Rattle.ash_typed.specs.declared.tree.operations.Target.{Target}
 use Rattle.ash_typed.specs.declared.tree.operations.Change.{Change}
 use Rattle.ash_typed.specs.declared.types.ObjectType.{ObjectType}
 use Rattle.ash_typed.specs.Tree.{Expr, Place}
-use Rattle.ash_typed.specs.TypeOf.{ValueType, value, kept, given, type_of, type_of_place, type_of_member, result_of_method, result_of_target, altered_type, chosen_type}
+use Rattle.ash_typed.specs.TypeOf.{ValueType, value, as_value, value_of_result, type_of, type_of_place, type_of_member}
+use Rattle.ash_typed.specs.TypeOf.{result_of_method, result_of_target, altered_type, chosen_type}
 use Rattle.ash_typed.specs.Signatures.{Signatures}
-use Rattle.ash_typed.specs.SoundOperations.{IsMember, field, property, IsMethod, of_class, of_interface, of_host, of_array, IsTarget, function, service, class, host, empty_array, sized_array, IsChange, negate, complement, not}
-use Rattle.ash_typed.specs.SoundExpressions.{Environment, IsWellTyped, number, truth, null, this, read, invoke, convert, cast, alter, calculate, shift, compare, lazily, choose, choose_or_null, null_or_choose, assign, update, update_by_shift, count, call, HasPlace, local, global, member, element}
+use Rattle.ash_typed.specs.SoundOperations.{IsMember, field, property, IsMethod, of_class, of_interface, of_host}
+use Rattle.ash_typed.specs.SoundOperations.{of_array, IsTarget, function, service, class, host, empty_array}
+use Rattle.ash_typed.specs.SoundOperations.{sized_array, IsChange, negate, complement, not}
+use Rattle.ash_typed.specs.SoundExpressions.{Environment, IsWellTyped, number, truth, null, this, read, invoke, convert}
+use Rattle.ash_typed.specs.SoundExpressions.{cast, alter, calculate, shift, compare, lazily, choose, choose_or_null}
+use Rattle.ash_typed.specs.SoundExpressions.{null_or_choose, assign, update, update_by_shift, count, call, HasPlace}
+use Rattle.ash_typed.specs.SoundExpressions.{local, global, member, element}
 
-member_type : {s : Signatures} {o : ObjectType} {held : Member} {of : VarType} → IsMember s o held of → type_of_member held ≡ of
+member_type : {s : Signatures} {o : ObjectType} {held : Member} {of : VarType} → IsMember s o held of
+    → type_of_member held ≡ of
 member_type (field h i) = refl
 member_type (property h) = refl
 
@@ -22,13 +29,15 @@ place_type (global h) = refl
 place_type (member h i) = member_type i
 place_type (element h i) = refl
 
-method_result : {s : Signatures} {o : ObjectType} {method : Method} {parameters : List VarType} {result : Option VarType} → IsMethod s o method parameters result → result_of_method method ≡ result
+method_result : {s : Signatures} {o : ObjectType} {method : Method} {parameters : List VarType}
+    {result : Option VarType} → IsMethod s o method parameters result → result_of_method method ≡ result
 method_result (of_class h i) = refl
 method_result (of_interface h i) = refl
 method_result (of_host h) = refl
 method_result of_array = refl
 
-target_result : {s : Signatures} {target : Target} {parameters : List VarType} {result : Option VarType} → IsTarget s target parameters result → result_of_target target ≡ result
+target_result : {s : Signatures} {target : Target} {parameters : List VarType} {result : Option VarType}
+    → IsTarget s target parameters result → result_of_target target ≡ result
 target_result (function h) = refl
 target_result (service h) = refl
 target_result (class h) = refl
@@ -46,8 +55,8 @@ type_is (number h) = refl
 type_is truth = refl
 type_is null = refl
 type_is (this h) = refl
-type_is (read h) = ap (λ (of : VarType). value (kept of)) (place_type h)
-type_is (invoke h i args) = ap given (method_result i)
+type_is (read h) = ap (λ (of : VarType). value (as_value of)) (place_type h)
+type_is (invoke h i args) = ap value_of_result (method_result i)
 type_is (convert h) = refl
 type_is (cast h i) = refl
 type_is (alter h i) = ap value (change_type h)
@@ -58,11 +67,12 @@ type_is (lazily h i) = refl
 type_is (choose h i k) = rw (type_is i) refl
 type_is (choose_or_null h i k) = rw (type_is i) refl
 type_is (null_or_choose h i k) = rw (type_is i, type_is k) refl
-type_is (assign h i k) = ap (λ (of : VarType). value (kept of)) (place_type h)
+type_is (assign h i k) = ap (λ (of : VarType). value (as_value of)) (place_type h)
 type_is (update h i) = refl
 type_is (update_by_shift h i k) = refl
 type_is (count h) = refl
-type_is (call h args) = ap given (target_result h)
+type_is (call h args) = ap value_of_result (target_result h)
 
-pub one_type : {env : Environment} {e : Expr} {one other : ValueType} → IsWellTyped env e one → IsWellTyped env e other → one ≡ other
+pub one_type : {env : Environment} {e : Expr} {one other : ValueType} → IsWellTyped env e one → IsWellTyped env e other
+    → one ≡ other
 one_type h k = sym (type_is h) ∙ type_is k

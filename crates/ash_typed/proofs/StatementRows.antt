@@ -2,7 +2,9 @@
 use Rattle.std.proofs.Common.{◌≡◌, ℕ, ap, refl, rules, map}
 use Rattle.std.specs.declared.vec.Vec.{Vec}
 use Rattle.std.specs.declared.alloc.Global.{Global}
-use Rattle.ash_typed.specs.declared.tree.statements.StmtKind.{Row_of-Stmt, end_of-Stmt, more_of-Stmt, items-the_row-Stmt, Row_of-Case, end_of-Case, more_of-Case, items-the_row-Case}
+use Rattle.ash_typed.specs.declared.tree.statements.StmtKind.{Row_of-Stmt, end_of-Stmt, more_of-Stmt}
+use Rattle.ash_typed.specs.declared.tree.statements.StmtKind.{items-the_row-Stmt, Row_of-Case, end_of-Case}
+use Rattle.ash_typed.specs.declared.tree.statements.StmtKind.{more_of-Case, items-the_row-Case}
 use Rattle.ash_typed.specs.declared.tree.statements.StmtKind.TheViews as views
 use Rattle.ash_typed.specs.declared.types.Kind.{Kind}
 use Rattle.ash_typed.specs.declared.tree.statements.Stmt as code_stmt
@@ -20,8 +22,10 @@ pub cases_of-row : {n : _} (row : Row_of-Case n) → cases_of row ≡ cases (map
 cases_of-row end_of-Case = refl
 cases_of-row (more_of-Case c rest) = ap (next_case (case_of c)) (cases_of-row rest)
 
-pub block_is : (line : ℕ) (ss : Vec code_stmt.Stmt Global) → stmt_at line (views.Block ss) ≡ Block line (body_of ss.items)
+pub block_is : (line : ℕ) (ss : Vec code_stmt.Stmt Global)
+    → stmt_at line (views.Block ss) ≡ Block line (body_of ss.items)
 block_is line ss = search (rules, views.the_lemmas, stmts_of-row)
 
-pub switch_is : (line : ℕ) (of : Kind) (e : code_expr.Expr) (cs : Vec code_case.Case Global) → stmt_at line (views.Switch of e cs) ≡ Switch line of (expr_of e) (cases (map case_of cs.items))
+pub switch_is : (line : ℕ) (of : Kind) (e : code_expr.Expr) (cs : Vec code_case.Case Global)
+    → stmt_at line (views.Switch of e cs) ≡ Switch line of (expr_of e) (cases (map case_of cs.items))
 switch_is line of e cs = search (rules, views.the_lemmas, cases_of-row)

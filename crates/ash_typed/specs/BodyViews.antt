@@ -1,4 +1,4 @@
--- What the code's typed statements stand for.
+-- These definitions say what the code's typed statements represent.
 use Rattle.std.specs.Prelude.{ℕ, List, map, option_map, string_bytes}
 use Rattle.ash_typed.specs.declared.tree.statements.StmtKind as stmt_kind
 use Rattle.ash_typed.specs.declared.tree.statements.StmtKind.TheVariants as kinds
@@ -8,12 +8,17 @@ use Rattle.ash_typed.specs.declared.tree.statements.Loop as loop_code
 use Rattle.ash_typed.specs.declared.tree.statements.Head as head_code
 use Rattle.ash_typed.specs.declared.tree.statements.Head.TheVariants as heads
 use Rattle.ash_typed.specs.declared.tree.statements.Initialization as initialization_code
-use Rattle.ash_typed.specs.StatementTree.{Initialization, Stmt, Empty, Declare, Evaluate, Block, If, Branch, no_branch, branch, Head, no_head, declared_head, evaluated_head, Repeat, For, Loop, repeated, Switch, Break, Continue, Return, Stmts, no_stmt, stmt, stmts, Case, labelled, Cases, no_case, next_case}
+use Rattle.ash_typed.specs.StatementTree.{Initialization, Stmt, Empty, Declare, Evaluate, Block, If, Branch, no_branch}
+use Rattle.ash_typed.specs.StatementTree.{branch, Head, no_head, declared_head, evaluated_head, Repeat, For, Loop}
+use Rattle.ash_typed.specs.StatementTree.{repeated, Switch, Break, Continue, Return, Stmts, no_stmt, stmt, stmts, Case}
+use Rattle.ash_typed.specs.StatementTree.{labelled, Cases, no_case, next_case}
 use Rattle.ash_typed.specs.Views.{expr_of}
 
+-- `value_of v` is the variable that the code's represents.
 abbrev pub value_of : initialization_code.Initialization → Initialization
 value_of v = record { name = string_bytes v.name; of = v.of; value = option_map expr_of v.value }
 
+-- `head_of head` is the head of a `for` that the code's represents.
 abbrev pub head_of : head_code.Head → Head
 head_of heads.Empty = no_head
 head_of (heads.Declare values) = declared_head (map value_of values.items)
@@ -51,9 +56,10 @@ abbrev mutual
   pub case_of : case_code.Case → Case
   case_of (case_code.Case' l shape ss) = labelled l (stmts_of ss)
 
+-- `stmt_of s` is the statement that the code's represents.
 abbrev pub stmt_of : stmt_code.Stmt → Stmt
 stmt_of s = stmt_at s.line s.kind
 
--- the statements of a body
+-- `body_of ss` are the statements of a body.
 abbrev pub body_of : List stmt_code.Stmt → Stmts
 body_of ss = stmts (map stmt_of ss)

@@ -1,4 +1,5 @@
--- What the objects of a module's classes hold of one another, by the typed tree alone, and ranks that fall along it.
+-- These definitions say what the objects of a module's classes hold of one another, by the typed tree alone, and which
+-- ranks fall along it.
 use Rattle.std.specs.Prelude.{◌≡◌, ◌<◌, ℕ, length, List, Some, slice_get, slice_index, All}
 use Rattle.std.specs.List.{Contains}
 use Rattle.ash_typed.specs.declared.types.Element.{Element}
@@ -9,32 +10,33 @@ use Rattle.ash_typed.specs.declared.types.VarType.{VarType}
 use Rattle.ash_typed.specs.declared.types.VarType.TheVariants as vars
 use Rattle.ash_typed.specs.Signatures.{ClassSignature, Signatures}
 
--- the class of the one place lists the interface of the other
+-- The class of the first place lists the interface of the second.
 abbrev pub Lists : Signatures → ℕ → ℕ → Type 0
 Lists s class interface = (c : ClassSignature) × (slice_get s.classes class ≡ Some c) × Contains c.interfaces interface
 
--- an element of the type can be an object of the class
+-- An element of the type can be an object of the class.
 pub data ElementHolds (s : Signatures) (class : ℕ) : Element → Type 0 where
   of_class : ElementHolds s class (elements.Class class)
   of_interface : {interface : ℕ} → Lists s class interface → ElementHolds s class (elements.Interface interface)
 
--- an object of the type is one of the class, or an array that can hold one
+-- An object of the type is one of the class, or an array that can hold one.
 pub data ObjectHolds (s : Signatures) (class : ℕ) : ObjectType → Type 0 where
   is_class : ObjectHolds s class (objects.Class class)
   is_interface : {interface : ℕ} → Lists s class interface → ObjectHolds s class (objects.Interface interface)
   in_array : {of : Element} → ElementHolds s class of → ObjectHolds s class (objects.Array of)
 
--- a variable of the type can hold an object of the class
+-- A variable of the type can hold an object of the class.
 pub data Holds (s : Signatures) (class : ℕ) : VarType → Type 0 where
   object : {o : ObjectType} → ObjectHolds s class o → Holds s class (vars.Object o)
   handle : {o : ObjectType} → ObjectHolds s class o → Holds s class (vars.Handle o)
 
--- a field of the class of the one place can hold objects of the class of the other
+-- A field of the class of the first place can hold objects of the class of the second.
 abbrev pub Refers : Signatures → ℕ → ℕ → Type 0
-Refers s from to = (c : ClassSignature) × (of : VarType) × (slice_get s.classes from ≡ Some c) × Contains c.fields of × Holds s to of
+Refers s from to =
+    (c : ClassSignature) × (of : VarType) × (slice_get s.classes from ≡ Some c) × Contains c.fields of × Holds s to of
 
--- A rank for each class, below the number of classes. It is greater than that of each class that the class refers to, so
--- that objects never hold one another in a ring.
+-- Each class has a rank below the number of classes, which is greater than that of each class that the class refers to,
+-- so that objects never hold one another in a ring.
 pub record AreRanks (s : Signatures) (ranks : List ℕ) : Type 0 where
   pub count : length ranks ≡ length s.classes
   pub within : All (λ rank. rank < length s.classes) ranks

@@ -1,4 +1,5 @@
--- What the items of a module see of one another, and what the host offers them: their types alone, and no body.
+-- These definitions say what the items of a module see of one another, and what the host offers them: their types
+-- alone, and no body.
 use Rattle.std.specs.Prelude.{◌≡◌, ◌<◌, ℕ, length, List, [], ◌++◌, ◌∷◌, Option, Some, None, map, slice_get}
 use Rattle.std.specs.List.{Contains}
 use Rattle.ash_tree.specs.declared.tree.types.Primitive.{Primitive}
@@ -17,13 +18,13 @@ use Rattle.ash_typed.specs.TypeOf.{ValueType, null_value, value}
 
 -- what the host offers, by its numbers
 
--- what is called of it takes and gives primitives
+-- What is called of the host takes and gives primitives.
 pub record HostSignature : Type 0 where
   pub result : Option Primitive
   pub parameters : List Primitive
 
--- the kinds of its objects; what a kind is constructed of; the methods and the properties that a kind has by a number;
--- and the functions that a service has by a number
+-- The host has kinds of objects, what a kind is constructed of, the methods and properties that a kind has by a number,
+-- and the functions that a service has by a number.
 pub record Host : Type 0 where
   pub kinds : List ℕ
   pub factories : ℕ → List (List Primitive)
@@ -40,14 +41,15 @@ type_of_primitive primitives.Uint64 = vars.Integer kinds.Uint64
 
 -- what a module declares
 
--- a class: the interfaces that it lists, the types of its fields, the parameters of its construction, and its methods
+-- A class has the interfaces that it lists, the types of its fields, the parameters of its construction, and its
+-- methods.
 pub record ClassSignature : Type 0 where
   pub interfaces : List ℕ
   pub fields : List VarType
   pub parameters : List VarType
   pub methods : List Signature
 
--- each interface by its methods; everything by its place
+-- A module has each interface by its methods, and everything by its place.
 pub record Signatures : Type 0 where
   pub host : Host
   pub interfaces : List (List Signature)
@@ -64,13 +66,18 @@ signature_of f = record { name = f.name; result = f.result; parameters = f.param
 abbrev pub place_of_interface : Implementation → ℕ
 place_of_interface i = i.interface
 
--- nothing, where no constructor is written
+-- A construction takes nothing where no constructor is written.
 abbrev pub parameters_of : Option Function → List VarType
 parameters_of None = []
 parameters_of (Some f) = f.parameters
 
 abbrev pub signature_of_class : Class → ClassSignature
-signature_of_class c = record { interfaces = map place_of_interface c.interfaces; fields = map type_declared c.fields; parameters = parameters_of c.constructor; methods = map signature_of c.methods }
+signature_of_class c = record {
+  interfaces = map place_of_interface c.interfaces;
+  fields = map type_declared c.fields;
+  parameters = parameters_of c.constructor;
+  methods = map signature_of c.methods;
+}
 
 abbrev pub methods_of_interface : Interface → List Signature
 methods_of_interface i = i.methods
@@ -79,9 +86,15 @@ abbrev pub types_of_globals : List Variables → List VarType
 types_of_globals [] = []
 types_of_globals (v ∷ vs) = map type_declared v.values ++ types_of_globals vs
 
--- what the items of a module see
+-- `signatures_of host m` is what the items of a module see.
 abbrev pub signatures_of : Host → Module → Signatures
-signatures_of host m = record { host = host; interfaces = map methods_of_interface m.interfaces; classes = map signature_of_class m.classes; functions = map signature_of m.functions; globals = types_of_globals m.globals }
+signatures_of host m = record {
+  host = host;
+  interfaces = map methods_of_interface m.interfaces;
+  classes = map signature_of_class m.classes;
+  functions = map signature_of m.functions;
+  globals = types_of_globals m.globals;
+}
 
 -- types whose places are in range
 
@@ -102,14 +115,14 @@ abbrev pub IsNoInterface : ObjectType → Type 0
 IsNoInterface (objects.Interface _) = ⊥
 IsNoInterface _ = Unit {0}
 
--- the type of a variable: none has an object of an interface
+-- A variable may be of this type: none has an object of an interface.
 pub data IsVariableType (s : Signatures) : VarType → Type 0 where
   truth : IsVariableType s vars.Bool
   integer : {kind : Kind} → IsVariableType s (vars.Integer kind)
   object : {o : ObjectType} → IsObjectType s o → IsNoInterface o → IsVariableType s (vars.Object o)
   handle : {o : ObjectType} → IsObjectType s o → IsVariableType s (vars.Handle o)
 
--- the type of a parameter or a result: objects are passed by handles
+-- A parameter or a result may be of this type: objects are passed by handles.
 pub data IsPassedType (s : Signatures) : VarType → Type 0 where
   passed_truth : IsPassedType s vars.Bool
   passed_integer : {kind : Kind} → IsPassedType s (vars.Integer kind)
@@ -119,7 +132,7 @@ abbrev pub IsResultType : Signatures → Option VarType → Type 0
 IsResultType s None = Unit {0}
 IsResultType s (Some of) = IsPassedType s of
 
--- A value of the first type may stand where one of the second is awaited: null where there may be any object, and an
+-- A value of the first type may be where one of the second is awaited: null where there may be any object, and an
 -- object of a class where there is one of an interface that it lists.
 pub data IsSubtype (s : Signatures) : ValueType → ValueType → Type 0 where
   same : {of : ValueType} → IsSubtype s of of

@@ -1,8 +1,8 @@
--- Sound expressions, by the typed tree alone: what an expression gives, where each of its parts gives what its node asks
--- for, and each place is in range. One case for each node.
+-- Sound expressions, by the typed tree alone: what an expression gives, where each of its parts gives what its node
+-- asks for, and each place is in range. One case for each node.
 --
--- `IsWellTyped env e of`: in this environment the expression `e` is well typed, and gives a value of this type, or null,
--- or no value.
+-- `IsWellTyped env e of`: in this environment the expression `e` is well typed, and gives a value of this type, or
+-- null, or no value.
 use Rattle.std.specs.Prelude.{◌≡◌, ℕ, Bool, List, [], ◌∷◌, Option, Some, slice_get}
 use Rattle.ash_typed.specs.declared.types.Kind.{Kind}
 use Rattle.ash_typed.specs.declared.types.Kind.TheVariants as kinds
@@ -22,12 +22,15 @@ use Rattle.ash_typed.specs.declared.tree.operations.Operation.TheVariants as ope
 use Rattle.ash_typed.specs.declared.tree.operations.Lazy.{Lazy}
 use Rattle.ash_typed.specs.declared.tree.operations.Change.{Change}
 use Rattle.ash_typed.specs.declared.tree.operations.Step.{Step}
-use Rattle.ash_typed.specs.Tree.{Expr, Number, Truth, Null, This, Read, Invoke, Convert, Cast, Alter, Operate, Lazily, Conditional, Assign, Update, Count, Call, Place, Stored, Held, Indexed, Exprs, no_expr, expr}
-use Rattle.ash_typed.specs.TypeOf.{ValueType, null_value, value, kept, given, type_of_element}
+use Rattle.ash_typed.specs.Tree.{Expr, Number, Truth, Null, This, Read, Invoke, Convert, Cast, Alter, Operate, Lazily}
+use Rattle.ash_typed.specs.Tree.{Conditional, Assign, Update, Count, Call, Place, Stored, Held, Indexed, Exprs, no_expr}
+use Rattle.ash_typed.specs.Tree.{expr}
+use Rattle.ash_typed.specs.TypeOf.{ValueType, null_value, value, as_value, value_of_result, type_of_element}
 use Rattle.ash_typed.specs.Signatures.{Signatures, IsSubtype}
-use Rattle.ash_typed.specs.SoundOperations.{IsWithin, IsMember, IsMethod, IsTarget, IsShift, Compares, IsOperand, IsChange, IsCastType, IsAssigned}
+use Rattle.ash_typed.specs.SoundOperations.{IsWithin, IsMember, IsMethod, IsTarget, IsShift, Compares, IsOperand}
+use Rattle.ash_typed.specs.SoundOperations.{IsChange, IsCastType, IsAssigned}
 
--- what an expression sees: what the module declares, the class of the object that runs, and the types of the locals
+-- An expression sees what the module declares, the class of the object that runs, and the types of the locals.
 pub record Environment : Type 0 where
   pub signatures : Signatures
   pub this : Option ℕ
@@ -43,12 +46,13 @@ mutual
         → IsWellTyped env (This class) (value (vars.Handle (objects.Class class)))
     read : {place : Place} {of : VarType}
         → HasPlace env place of
-        → IsWellTyped env (Read place) (value (kept of))
-    invoke : {object : Expr} {o : ObjectType} {method : Method} {parameters : List VarType} {result : Option VarType} {es : Exprs}
+        → IsWellTyped env (Read place) (value (as_value of))
+    invoke : {object : Expr} {o : ObjectType} {method : Method} {parameters : List VarType} {result : Option VarType}
+        {es : Exprs}
         → IsWellTyped env object (value (vars.Handle o))
         → IsMethod env.signatures o method parameters result
         → AreArguments env parameters es
-        → IsWellTyped env (Invoke object method parameters es) (given result)
+        → IsWellTyped env (Invoke object method parameters es) (value_of_result result)
     convert : {from to : Kind} {e : Expr}
         → IsWellTyped env e (value (vars.Integer from))
         → IsWellTyped env (Convert (record { from = from; to = to }) e) (value (vars.Integer to))
@@ -63,12 +67,14 @@ mutual
     calculate : {operator : Calculator} {of : Kind} {a b : Expr}
         → IsWellTyped env a (value (vars.Integer of))
         → IsWellTyped env b (value (vars.Integer of))
-        → IsWellTyped env (Operate (operations.Calculate (record { operator = operator; of = of })) a b) (value (vars.Integer of))
+        → IsWellTyped env (Operate (operations.Calculate (record { operator = operator; of = of })) a b)
+        (value (vars.Integer of))
     shift : {operator : Calculator} {of count : Kind} {a b : Expr}
         → IsShift operator
         → IsWellTyped env a (value (vars.Integer of))
         → IsWellTyped env b (value (vars.Integer count))
-        → IsWellTyped env (Operate (operations.Calculate (record { operator = operator; of = of })) a b) (value (vars.Integer of))
+        → IsWellTyped env (Operate (operations.Calculate (record { operator = operator; of = of })) a b)
+        (value (vars.Integer of))
     compare : {operator : Comparator} {of : Operands} {a b : Expr} {x y : ValueType}
         → Compares operator of
         → IsWellTyped env a x
@@ -100,7 +106,7 @@ mutual
         → HasPlace env place of
         → IsAssigned of
         → Fits env of e
-        → IsWellTyped env (Assign place e) (value (kept of))
+        → IsWellTyped env (Assign place e) (value (as_value of))
     update : {place : Place} {kind of : Kind} {operator : Calculator} {e : Expr}
         → HasPlace env place (vars.Integer kind)
         → IsWellTyped env e (value (vars.Integer of))
@@ -116,9 +122,9 @@ mutual
     call : {target : Target} {parameters : List VarType} {result : Option VarType} {es : Exprs}
         → IsTarget env.signatures target parameters result
         → AreArguments env parameters es
-        → IsWellTyped env (Call target parameters es) (given result)
+        → IsWellTyped env (Call target parameters es) (value_of_result result)
 
-  -- a place of this type
+  -- The place is of this type.
   pub data HasPlace (env : Environment) : Place → VarType → Type 0 where
     local : {slot : ℕ} {of : VarType}
         → slice_get env.locals slot ≡ Some of
@@ -135,14 +141,14 @@ mutual
         → IsWellTyped env index (value (vars.Integer kinds.Uint))
         → HasPlace env (Indexed array index of) (type_of_element of)
 
-  -- what the expression gives may be stored in a variable of the type
+  -- What the expression gives may be stored in a variable of the type.
   pub data Fits (env : Environment) : VarType → Expr → Type 0 where
-    fits : {of : VarType} {given : ValueType} {e : Expr}
-        → IsWellTyped env e given
-        → IsSubtype env.signatures given (value (kept of))
+    fits : {of : VarType} {actual : ValueType} {e : Expr}
+        → IsWellTyped env e actual
+        → IsSubtype env.signatures actual (value (as_value of))
         → Fits env of e
 
-  -- as many arguments as parameters, each of which fits its parameter
+  -- There are as many arguments as parameters, and each fits its parameter.
   pub data AreArguments (env : Environment) : List VarType → Exprs → Type 0 where
     no_arguments : AreArguments env [] no_expr
     argument : {of : VarType} {parameters : List VarType} {e : Expr} {es : Exprs}

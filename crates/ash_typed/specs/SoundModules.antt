@@ -1,5 +1,6 @@
 -- Sound modules, by the typed tree alone: what a compiler and a machine that walk it may rely on.
-use Rattle.std.specs.Prelude.{◌≡◌, ◌≤◌, ◌+◌, ◌⊎◌, ℕ, length, List, [], ◌∷◌, ◌++◌, map, Some, None, IfSome, slice_get, false}
+use Rattle.std.specs.Prelude.{◌≡◌, ◌≤◌, ◌+◌, ◌⊎◌, ℕ, length, List, [], ◌∷◌, ◌++◌, map, Some, None, IfSome, slice_get}
+use Rattle.std.specs.Prelude.{false}
 use Rattle.std.specs.List.{AllByRecursion, AllZip, IsDistinct}
 use Rattle.std.specs.Str.{bytes_eq}
 use Rattle.ash_typed.specs.StatementTree.{Initialization}
@@ -9,20 +10,26 @@ use Rattle.ash_typed.specs.SoundExpressions.{Environment}
 use Rattle.ash_typed.specs.SoundStatements.{Scope, IsInitialized, AreStmts}
 use Rattle.ash_typed.specs.Returning.{AnyReturns}
 
--- what items see, inside a class and outside of classes
+-- `inside s class` is what items see inside a class.
 abbrev pub inside : Signatures → ℕ → Environment
 inside s class = record { signatures = s; this = Some class; locals = [] }
 
+-- `outside s` is what items see outside of classes.
 abbrev pub outside : Signatures → Environment
 outside s = record { signatures = s; this = None; locals = [] }
 
 -- functions
 
--- the parameters are the first locals of a body, and no jump leaves it
+-- The parameters are the first locals of a body, and no jump leaves it.
 abbrev pub body_scope : Environment → Function → Scope
-body_scope env f = record { env = record { signatures = env.signatures; this = env.this; locals = f.parameters }; gives = f.result; may_break = false; may_continue = false }
+body_scope env f = record {
+  env = record { signatures = env.signatures; this = env.this; locals = f.parameters };
+  gives = f.result;
+  may_break = false;
+  may_continue = false;
+}
 
--- a function, a method or a constructor: one with a result does not end without it
+-- A function, a method or a constructor with a result does not end without it.
 pub record IsFunction (env : Environment) (f : Function) : Type 0 where
   pub parameters : AllByRecursion (IsPassedType env.signatures) f.parameters
   pub result : IsResultType env.signatures f.result
@@ -35,7 +42,7 @@ pub record IsSignature (s : Signatures) (f : Signature) : Type 0 where
   pub parameters : AllByRecursion (IsPassedType s) f.parameters
   pub result : IsResultType s f.result
 
--- there are at most 32 methods in an interface
+-- An interface has at most 32 methods.
 pub record IsInterface (s : Signatures) (classes : ℕ) (i : Interface) : Type 0 where
   pub before : i.classes_before ≤ classes
   pub few : length i.methods ≤ 32
@@ -49,20 +56,22 @@ AreInOrder least (i ∷ is) = (least ≤ i.classes_before) × AreInOrder i.class
 
 -- classes
 
--- the method of this place has the name, the result and the parameters that an interface declares
+-- The method of this place has the name, the result and the parameters that an interface declares.
 abbrev pub Implements : List Function → Signature → ℕ → Type 0
 Implements methods declared place = (f : Function) × (slice_get methods place ≡ Some f) × (signature_of f ≡ declared)
 
--- a class has a method for each of an interface that it lists
+-- A class has a method for each of an interface that it lists.
 abbrev pub IsImplementation : Signatures → List Function → Implementation → Type 0
-IsImplementation s methods i = (declared : List Signature) × (slice_get s.interfaces i.interface ≡ Some declared) × AllZip (Implements methods) declared i.methods
+IsImplementation s methods i =
+    (declared : List Signature) × (slice_get s.interfaces i.interface ≡ Some declared)
+    × AllZip (Implements methods) declared i.methods
 
 pub record IsConstructor (env : Environment) (class : List ℕ) (f : Function) : Type 0 where
   pub named : f.name ≡ class
   pub gives_nothing : f.result ≡ None
   pub function : IsFunction env f
 
--- The class of this place. It has at most 32 fields and methods. Its fields are initialized where there are no locals.
+-- The class of this place has at most 32 fields and methods, and its fields are initialized where there are no locals.
 pub record IsClass (s : Signatures) (place : ℕ) (c : Class) : Type 0 where
   pub few : length c.fields + length c.methods ≤ 32
   pub interfaces : AllByRecursion (IsImplementation s c.methods) c.interfaces
@@ -70,7 +79,7 @@ pub record IsClass (s : Signatures) (place : ℕ) (c : Class) : Type 0 where
   pub constructor : IfSome c.constructor (IsConstructor (inside s place) c.name)
   pub methods : AllByRecursion (IsFunction (inside s place)) c.methods
 
--- classes, of which the first has this place
+-- These are classes, of which the first has this place.
 abbrev pub AreClasses : Signatures → ℕ → List Class → Type 0
 AreClasses s place [] = Unit {0}
 AreClasses s place (c ∷ cs) = IsClass s place c × AreClasses s (place + 1) cs
@@ -90,7 +99,7 @@ abbrev pub names_of_globals : List Variables → List (List ℕ)
 names_of_globals [] = []
 names_of_globals (v ∷ vs) = map name_of_variable v.values ++ names_of_globals vs
 
--- A module where a host offers this. It has at most 256 classes and interfaces, and 256 variables. Its functions differ in
+-- A module where a host offers this has at most 256 classes and interfaces, and 256 variables; its functions differ in
 -- name, and so do its variables.
 pub record IsSound (host : Host) (m : Module) : Type 0 where
   pub few_types : length m.classes + length m.interfaces ≤ 256

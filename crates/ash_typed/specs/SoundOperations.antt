@@ -1,5 +1,5 @@
--- What the nodes of sound expressions name, by the typed tree alone: members and methods of an object, what is called, and
--- operators with what they take. One case for each.
+-- What the nodes of sound expressions name, by the typed tree alone: members and methods of an object, what is called,
+-- and operators with what they take. One case for each.
 use Rattle.std.specs.Prelude.{◌≡◌, ◌<◌, ◌^◌, ℕ, List, [], ◌∷◌, Option, Some, map, option_map, slice_get}
 use Rattle.std.specs.List.{Contains}
 use Rattle.ash_tree.specs.declared.tree.types.Primitive.{Primitive}
@@ -28,9 +28,10 @@ use Rattle.ash_typed.specs.declared.tree.operations.Change.{Change}
 use Rattle.ash_typed.specs.declared.tree.operations.Change.TheVariants as changes
 use Rattle.ash_typed.specs.TypeOf.{ValueType, null_value, value, type_of_element, result_of_array_method}
 use Rattle.ash_typed.specs.Modules.{Signature}
-use Rattle.ash_typed.specs.Signatures.{HostSignature, type_of_primitive, ClassSignature, Signatures, IsElement, IsObjectType}
+use Rattle.ash_typed.specs.Signatures.{HostSignature, type_of_primitive, ClassSignature, Signatures, IsElement}
+use Rattle.ash_typed.specs.Signatures.{IsObjectType}
 
--- what a type holds, of numbers that are not negative: each number of a tree has 64 bits
+-- The type holds this number, which is not negative: each number of a tree has 64 bits.
 abbrev pub IsWithin : Kind → ℕ → Type 0
 IsWithin kinds.Int n = n < 2 ^ 31
 IsWithin kinds.Uint n = n < 2 ^ 32
@@ -39,7 +40,7 @@ IsWithin kinds.Uint64 n = Unit {0}
 
 -- members and methods
 
--- an object of the type holds what the member names, of this type
+-- An object of the type holds what the member names, of this type.
 pub data IsMember (s : Signatures) : ObjectType → Member → VarType → Type 0 where
   field : {class place : ℕ} {of : VarType} {c : ClassSignature}
       → slice_get s.classes class ≡ Some c
@@ -49,7 +50,7 @@ pub data IsMember (s : Signatures) : ObjectType → Member → VarType → Type 
       → Contains (s.host.properties kind id) of
       → IsMember s (objects.Host kind) (members.Property id (type_of_primitive of)) (type_of_primitive of)
 
--- what a method of arrays takes
+-- `parameters_of_array_method of method` is what a method of arrays takes.
 abbrev pub parameters_of_array_method : Element → ArrayMethod → List VarType
 parameters_of_array_method of arrays.Length = []
 parameters_of_array_method of arrays.Resize = vars.Integer kinds.Uint ∷ []
@@ -57,30 +58,35 @@ parameters_of_array_method of arrays.InsertLast = type_of_element of ∷ []
 parameters_of_array_method of arrays.RemoveLast = []
 parameters_of_array_method of arrays.IsEmpty = []
 
--- an object of the type has the method, which takes these parameters and gives this
+-- An object of the type has the method, which takes these parameters and gives this.
 pub data IsMethod (s : Signatures) : ObjectType → Method → List VarType → Option VarType → Type 0 where
-  of_class : {class method : ℕ} {c : ClassSignature} {name : List ℕ} {result : Option VarType} {parameters : List VarType}
+  of_class : {class method : ℕ} {c : ClassSignature} {name : List ℕ} {result : Option VarType}
+      {parameters : List VarType}
       → slice_get s.classes class ≡ Some c
       → slice_get c.methods method ≡ Some (record { name = name; result = result; parameters = parameters })
       → IsMethod s (objects.Class class) (methods.Script class method result) parameters result
-  of_interface : {interface method : ℕ} {declared : List Signature} {name : List ℕ} {result : Option VarType} {parameters : List VarType}
+  of_interface : {interface method : ℕ} {declared : List Signature} {name : List ℕ} {result : Option VarType}
+      {parameters : List VarType}
       → slice_get s.interfaces interface ≡ Some declared
       → slice_get declared method ≡ Some (record { name = name; result = result; parameters = parameters })
       → IsMethod s (objects.Interface interface) (methods.Interface interface method result) parameters result
   of_host : {kind id : ℕ} {offered : HostSignature}
       → Contains (s.host.methods kind id) offered
-      → IsMethod s (objects.Host kind) (methods.Host id (option_map type_of_primitive offered.result)) (map type_of_primitive offered.parameters) (option_map type_of_primitive offered.result)
+      → IsMethod s (objects.Host kind) (methods.Host id (option_map type_of_primitive offered.result))
+      (map type_of_primitive offered.parameters) (option_map type_of_primitive offered.result)
   of_array : {of : Element} {method : ArrayMethod}
-      → IsMethod s (objects.Array of) (methods.Array method) (parameters_of_array_method of method) (result_of_array_method method)
+      → IsMethod s (objects.Array of) (methods.Array method) (parameters_of_array_method of method)
+      (result_of_array_method method)
 
--- what is called takes these parameters and gives this; a construction gives a handle
+-- What is called takes these parameters and gives this; a construction gives a handle.
 pub data IsTarget (s : Signatures) : Target → List VarType → Option VarType → Type 0 where
   function : {function : ℕ} {name : List ℕ} {result : Option VarType} {parameters : List VarType}
       → slice_get s.functions function ≡ Some (record { name = name; result = result; parameters = parameters })
       → IsTarget s (targets.Function function result) parameters result
   service : {service id : ℕ} {offered : HostSignature}
       → Contains (s.host.functions service id) offered
-      → IsTarget s (targets.Service service id (option_map type_of_primitive offered.result)) (map type_of_primitive offered.parameters) (option_map type_of_primitive offered.result)
+      → IsTarget s (targets.Service service id (option_map type_of_primitive offered.result))
+      (map type_of_primitive offered.parameters) (option_map type_of_primitive offered.result)
   class : {class : ℕ} {c : ClassSignature}
       → slice_get s.classes class ≡ Some c
       → IsTarget s (targets.Class class) c.parameters (Some (vars.Handle (objects.Class class)))
@@ -96,13 +102,13 @@ pub data IsTarget (s : Signatures) : Target → List VarType → Option VarType 
 
 -- operators
 
--- the count of a shift is of any integer type
+-- The operator is a shift, whose count is of any integer type.
 pub data IsShift : Calculator → Type 0 where
   left : IsShift calculators.ShiftLeft
   right : IsShift calculators.ShiftRight
   right_arithmetic : IsShift calculators.ShiftRightArithmetic
 
--- an operator that compares two of these operands
+-- The operator compares two of these operands.
 pub data Compares : Comparator → Operands → Type 0 where
   less : {kind : Kind} → Compares comparators.Less (operands.Integers kind)
   less_or_equal : {kind : Kind} → Compares comparators.LessOrEqual (operands.Integers kind)
@@ -116,30 +122,31 @@ pub data Compares : Comparator → Operands → Type 0 where
   same_object : Compares comparators.Is operands.Handles
   other_object : Compares comparators.NotIs operands.Handles
 
--- what each of them gives
+-- Each of these operands gives this.
 pub data IsOperand : Operands → ValueType → Type 0 where
   integer : {kind : Kind} → IsOperand (operands.Integers kind) (value (vars.Integer kind))
   truth : IsOperand operands.Bools (value vars.Bool)
   object : {o : ObjectType} → IsOperand operands.Handles (value (vars.Handle o))
   no_object : IsOperand operands.Handles null_value
 
--- minus gives a signed type
+-- Minus gives a signed type.
 pub data IsSigned : Kind → Type 0 where
   int : IsSigned kinds.Int
   int64 : IsSigned kinds.Int64
 
--- what an operator before its operand takes and gives
+-- An operator before its operand takes the first type and gives the second.
 pub data IsChange : Change → VarType → Type 0 where
   negate : {kind : Kind} → IsSigned kind → IsChange (changes.Negate kind) (vars.Integer kind)
   complement : {kind : Kind} → IsChange (changes.Complement kind) (vars.Integer kind)
   not : IsChange changes.Not vars.Bool
 
--- an object is cast to a class or to an interface
+-- An object is cast to a class or to an interface.
 pub data IsCastType (s : Signatures) : ObjectType → Type 0 where
   to_class : {class : ℕ} → IsObjectType s (objects.Class class) → IsCastType s (objects.Class class)
-  to_interface : {interface : ℕ} → IsObjectType s (objects.Interface interface) → IsCastType s (objects.Interface interface)
+  to_interface : {interface : ℕ} → IsObjectType s (objects.Interface interface)
+      → IsCastType s (objects.Interface interface)
 
--- a place of the type is assigned to: one of primitives or of handles, since objects are not assigned
+-- A place of the type is assigned to: it is one of primitives or of handles, since objects are not assigned.
 pub data IsAssigned : VarType → Type 0 where
   truth : IsAssigned vars.Bool
   integer : {kind : Kind} → IsAssigned (vars.Integer kind)

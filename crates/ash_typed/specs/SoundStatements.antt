@@ -1,9 +1,10 @@
--- Sound statements, by the typed tree alone: each of their expressions gives what is asked for, each local is declared in
--- the slot that follows those in scope, and a jump stands in what it leaves. One case for each node.
+-- Sound statements, by the typed tree alone: each of their expressions gives what is asked for, each local is declared
+-- in the slot that follows those in scope, and a jump is within what it leaves. One case for each node.
 --
--- `IsStmt scope s`: the statement `s` is sound in this scope, and declares no variable that is seen behind it.
+-- `IsStmt scope s`: the statement `s` is sound in this scope, and declares no variable that is seen after it.
 -- `AreStmts scope ss`: so are the statements of a block, each of which sees the variables that those before it declare.
-use Rattle.std.specs.Prelude.{◌≡◌, ◌≢◌, ◌<◌, ◌≤◌, ◌^◌, ℕ, zero, suc, ℤ, pos, negsuc, Bool, true, false, List, [], ◌∷◌, ◌++◌, Option, Some, None}
+use Rattle.std.specs.Prelude.{◌≡◌, ◌≢◌, ◌<◌, ◌≤◌, ◌^◌, ℕ, zero, suc, ℤ, pos, negsuc, Bool, true, false, List, [], ◌∷◌}
+use Rattle.std.specs.Prelude.{◌++◌, Option, Some, None}
 use Rattle.std.specs.List.{AllByRecursion}
 use Rattle.ash_tree.specs.declared.tree.statements.Label.{Label}
 use Rattle.ash_tree.specs.declared.tree.statements.Label.TheVariants as labels
@@ -18,14 +19,17 @@ use Rattle.ash_typed.specs.declared.tree.operations.Target.{Target}
 use Rattle.ash_typed.specs.declared.tree.operations.Target.TheVariants as targets
 use Rattle.ash_typed.specs.declared.tree.statements.Test.{Test}
 use Rattle.ash_typed.specs.Tree.{Expr, Call, Exprs}
-use Rattle.ash_typed.specs.StatementTree.{Initialization, Stmt, Empty, Declare, Evaluate, Block, If, no_branch, branch, Head, no_head, declared_head, evaluated_head, Repeat, For, Loop, repeated, Switch, Break, Continue, Return, Stmts, no_stmt, stmt, labelled, Cases, no_case, next_case}
+use Rattle.ash_typed.specs.StatementTree.{Initialization, Stmt, Empty, Declare, Evaluate, Block, If, no_branch, branch}
+use Rattle.ash_typed.specs.StatementTree.{Head, no_head, declared_head, evaluated_head, Repeat, For, Loop, repeated}
+use Rattle.ash_typed.specs.StatementTree.{Switch, Break, Continue, Return, Stmts, no_stmt, stmt, labelled, Cases}
+use Rattle.ash_typed.specs.StatementTree.{no_case, next_case}
 use Rattle.ash_typed.specs.TypeOf.{ValueType, value}
 use Rattle.ash_typed.specs.Signatures.{IsVariableType}
 use Rattle.ash_typed.specs.SoundOperations.{IsWithin}
 use Rattle.ash_typed.specs.SoundExpressions.{Environment, IsWellTyped, Fits}
 
--- what a statement sees: what its function gives, and whether it may break out of a loop or a `switch`, and go on with the
--- next turn of a loop
+-- A statement sees what its function gives, and whether it may break out of a loop or a `switch`, and go on with the
+-- next turn of a loop.
 pub record Scope : Type 0 where
   pub env : Environment
   pub gives : Option VarType
@@ -36,7 +40,12 @@ abbrev pub with_locals : Environment → List VarType → Environment
 with_locals env types = record { signatures = env.signatures; this = env.this; locals = env.locals ++ types }
 
 abbrev pub declaring : Scope → List VarType → Scope
-declaring scope types = record { env = with_locals scope.env types; gives = scope.gives; may_break = scope.may_break; may_continue = scope.may_continue }
+declaring scope types = record {
+  env = with_locals scope.env types;
+  gives = scope.gives;
+  may_break = scope.may_break;
+  may_continue = scope.may_continue;
+}
 
 abbrev pub in_loop : Scope → Scope
 in_loop scope = record { env = scope.env; gives = scope.gives; may_break = true; may_continue = true }
@@ -46,7 +55,7 @@ in_switch scope = record { env = scope.env; gives = scope.gives; may_break = tru
 
 -- variables
 
--- what is constructed for a variable of this type
+-- The expression constructs an object for a variable of this type.
 pub data Constructs : Target → ObjectType → Type 0 where
   class : {class : ℕ} → Constructs (targets.Class class) (objects.Class class)
   host : {kind : ℕ} → Constructs (targets.Host kind) (objects.Host kind)
@@ -56,7 +65,7 @@ abbrev pub IsNoObject : VarType → Type 0
 IsNoObject (vars.Object _) = ⊥
 IsNoObject _ = Unit {0}
 
--- what a variable begins with: an object of its own where it has an object
+-- A variable begins with this: with an object of its own where it has an object.
 pub data BeginsWith (env : Environment) : VarType → Option Expr → Type 0 where
   default : {of : VarType} → IsNoObject of → BeginsWith env of None
   stored : {of : VarType} {e : Expr} → IsNoObject of → Fits env of e → BeginsWith env of (Some e)
@@ -69,7 +78,7 @@ pub record IsInitialized (env : Environment) (v : Initialization) : Type 0 where
   pub type : IsVariableType env.signatures v.of
   pub value : BeginsWith env v.of v.value
 
--- variables of these types, each seen from the end of its own on
+-- These variables have these types, and each is seen from the end of its own on.
 pub data AreDeclared : Environment → List Initialization → List VarType → Type 0 where
   none_declared : {env : Environment} → AreDeclared env [] []
   and_declared : {env : Environment} {v : Initialization} {vs : List Initialization} {types : List VarType}
@@ -89,19 +98,19 @@ abbrev pub MayBeCondition : Environment → Option Expr → Type 0
 MayBeCondition env None = Unit {0}
 MayBeCondition env (Some e) = IsCondition env e
 
--- the head of a `for`, which declares variables of these types
+-- The head of a `for` declares variables of these types.
 pub data IsHead (env : Environment) : Head → List VarType → Type 0 where
-  heads_nothing : IsHead env no_head []
-  heads_variables : {vs : List Initialization} {types : List VarType}
+  head_is_empty : IsHead env no_head []
+  head_declares : {vs : List Initialization} {types : List VarType}
       → AreDeclared env vs types
       → IsHead env (declared_head vs) types
-  heads_expression : {e : Expr}
+  head_evaluates : {e : Expr}
       → IsEvaluated env e
       → IsHead env (evaluated_head e) []
 
 -- labels
 
--- what a type holds, of numbers that are this much below zero
+-- The type holds the number that is this much below zero.
 abbrev pub IsWithinMinus : Kind → ℕ → Type 0
 IsWithinMinus kinds.Int n = n ≤ 2 ^ 31
 IsWithinMinus kinds.Uint n = n ≡ 0
@@ -125,7 +134,8 @@ IsConstant kind labels.Default = ⊥
 abbrev pub Differs : Label → Label → Type 0
 Differs l other = constant_of l ≢ constant_of other
 
--- a label before these: its constant is of the type, and no label before it has the constant; `default` is the last one
+-- The constant of a label after these is of the type, and no label before it has the constant; `default` is the last
+-- one.
 pub data IsLabel (kind : Kind) : List Label → Label → Cases → Type 0 where
   constant : {before : List Label} {l : Label} {behind : Cases}
       → IsConstant kind l
@@ -186,7 +196,7 @@ mutual
         → IsStmt (in_loop scope) s
         → IsLoop scope (repeated test c steps s)
 
-  -- the statements of a block
+  -- These are the statements of a block.
   pub data AreStmts : Scope → Stmts → Type 0 where
     no_stmts : {scope : Scope} → AreStmts scope no_stmt
     declare : {scope : Scope} {line : ℕ} {vs : List Initialization} {types : List VarType} {ss : Stmts}
@@ -198,7 +208,7 @@ mutual
         → AreStmts scope ss
         → AreStmts scope (stmt s ss)
 
-  -- labels, behind those before them, with the statements behind each, none of which declares variables
+  -- Labels come after those before them, with the statements after each, none of which declares variables.
   pub data AreCases : Scope → Kind → List Label → Cases → Type 0 where
     no_cases : {scope : Scope} {kind : Kind} {before : List Label} → AreCases scope kind before no_case
     more_cases : {scope : Scope} {kind : Kind} {before : List Label} {l : Label} {ss : Stmts} {cs : Cases}

@@ -1,4 +1,5 @@
--- The typed tree of a statement, without where its parts lie in memory. Each statement has the line of its first token.
+-- The typed tree of a statement is given here without where its parts lie in memory; each statement has the line of its
+-- first token.
 use Rattle.std.specs.Prelude.{ℕ, List, [], ◌∷◌, Option}
 use Rattle.ash_tree.specs.declared.tree.statements.Label.{Label}
 use Rattle.ash_typed.specs.declared.types.Kind.{Kind}
@@ -6,14 +7,14 @@ use Rattle.ash_typed.specs.declared.types.VarType.{VarType}
 use Rattle.ash_typed.specs.declared.tree.statements.Test.{Test}
 use Rattle.ash_typed.specs.Tree.{Expr}
 
--- a variable that is declared: its name, its type, and what it begins with; where nothing is written, with zero, `false`
--- or null
+-- A variable that is declared has a name, a type, and what it begins with; where nothing is written, it begins with
+-- zero, `false` or null.
 pub record Initialization : Type 0 where
   pub name : List ℕ
   pub of : VarType
   pub value : Option Expr
 
--- the head of a `for`: nothing, variables, or an expression
+-- The head of a `for` is nothing, variables, or an expression.
 pub data Head : Type 0 where
   no_head : Head
   declared_head : List Initialization → Head
@@ -33,12 +34,12 @@ mutual
     Continue : ℕ → Stmt
     Return : ℕ → Option Expr → Stmt
 
-  -- what follows `else`, where it is written
+  -- A branch follows `else`, where it is written.
   pub data Branch : Type 0 where
     no_branch : Branch
     branch : Stmt → Branch
 
-  -- what is repeated: when its condition is evaluated, the condition, the steps and the body
+  -- A loop says when its condition is evaluated, and has the condition, the steps and the body.
   pub data Loop : Type 0 where
     repeated : Test → Option Expr → List Expr → Stmt → Loop
 
@@ -46,7 +47,7 @@ mutual
     no_stmt : Stmts
     stmt : Stmt → Stmts → Stmts
 
-  -- a label of a switch, with the statements behind it
+  -- A label of a `switch` has the statements after it.
   pub data Case : Type 0 where
     labelled : Label → Stmts → Case
 
@@ -54,7 +55,7 @@ mutual
     no_case : Cases
     next_case : Case → Cases → Cases
 
--- the statements of a body
+-- A body has these statements.
 abbrev pub Body : Type 0
 Body = Stmts
 

@@ -1,5 +1,5 @@
--- The typed tree of an expression, without where its parts lie in memory. Operators group to the left, and a suffix is
--- applied to what stands before it.
+-- The typed tree of an expression is given here without where its parts lie in memory. Operators group to the left, and
+-- a suffix is applied to what is before it.
 use Rattle.std.specs.Prelude.{ℕ, List, [], ◌∷◌, Bool, Option, Some, None}
 use Rattle.ash_typed.specs.declared.types.Kind.{Kind}
 use Rattle.ash_typed.specs.declared.types.Element.{Element}
@@ -37,7 +37,7 @@ mutual
     Count : Place → Kind → Step → Expr
     Call : Target → List VarType → Exprs → Expr
 
-  -- what can be written to
+  -- A place can be written to.
   pub data Place : Type 0 where
     Stored : Variable → Place
     Held : Expr → Member → Place
@@ -52,12 +52,12 @@ abbrev pub exprs : List Expr → Exprs
 exprs [] = no_expr
 exprs (e ∷ es) = expr e (exprs es)
 
--- the place that an expression reads
+-- `place_in e` is the place that an expression reads.
 abbrev pub place_in : Expr → Option Place
 place_in (Read place) = Some place
 place_in _ = None
 
--- converted, where a conversion is named
+-- `converted conversion e` is the expression, converted where a conversion is named.
 abbrev pub converted : Option Conversion → Expr → Expr
 converted None e = e
 converted (Some conversion) e = Convert conversion e

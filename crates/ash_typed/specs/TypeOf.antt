@@ -1,4 +1,4 @@
--- What a typed expression gives, which its tree alone says.
+-- These definitions say what a typed expression gives, which its tree alone says.
 use Rattle.std.specs.Prelude.{Option, Some, None}
 use Rattle.ash_typed.specs.declared.types.Kind.TheVariants as kinds
 use Rattle.ash_typed.specs.declared.types.Element.{Element}
@@ -20,7 +20,8 @@ use Rattle.ash_typed.specs.declared.tree.operations.Operation.{Operation}
 use Rattle.ash_typed.specs.declared.tree.operations.Operation.TheVariants as operations
 use Rattle.ash_typed.specs.declared.tree.operations.Change.{Change}
 use Rattle.ash_typed.specs.declared.tree.operations.Change.TheVariants as changes
-use Rattle.ash_typed.specs.Tree.{Expr, Number, Truth, Null, This, Read, Invoke, Convert, Cast, Alter, Operate, Lazily, Conditional, Assign, Update, Count, Call, Place, Stored, Held, Indexed}
+use Rattle.ash_typed.specs.Tree.{Expr, Number, Truth, Null, This, Read, Invoke, Convert, Cast, Alter, Operate, Lazily}
+use Rattle.ash_typed.specs.Tree.{Conditional, Assign, Update, Count, Call, Place, Stored, Held, Indexed}
 
 abbrev pub type_of_variable : Variable → VarType
 type_of_variable (variables.Local slot of) = of
@@ -42,7 +43,7 @@ type_of_place (Stored variable) = type_of_variable variable
 type_of_place (Held object member) = type_of_member member
 type_of_place (Indexed array index of) = type_of_element of
 
--- what a method of arrays gives
+-- `result_of_array_method method` is what a method of arrays gives.
 abbrev pub result_of_array_method : ArrayMethod → Option VarType
 result_of_array_method arrays.Length = Some (vars.Integer kinds.Uint)
 result_of_array_method arrays.Resize = None
@@ -50,14 +51,14 @@ result_of_array_method arrays.InsertLast = None
 result_of_array_method arrays.RemoveLast = None
 result_of_array_method arrays.IsEmpty = Some vars.Bool
 
--- what a method gives
+-- `result_of_method method` is what a method gives.
 abbrev pub result_of_method : Method → Option VarType
 result_of_method (methods.Script class method result) = result
 result_of_method (methods.Interface interface method result) = result
 result_of_method (methods.Host id result) = result
 result_of_method (methods.Array method) = result_of_array_method method
 
--- what a call gives: a construction gives a handle
+-- `result_of_target target` is what a call gives: a construction gives a handle.
 abbrev pub result_of_target : Target → Option VarType
 result_of_target (targets.Function function result) = result
 result_of_target (targets.Service service id result) = result
@@ -65,33 +66,33 @@ result_of_target (targets.Class class) = Some (vars.Handle (objects.Class class)
 result_of_target (targets.Host kind) = Some (vars.Handle (objects.Host kind))
 result_of_target (targets.Array of) = Some (vars.Handle (objects.Array of))
 
--- an integer of the type that is calculated with, or a truth value
+-- An operation gives an integer of the type that is calculated with, or a truth value.
 abbrev pub result_of_operation : Operation → VarType
 result_of_operation (operations.Calculate calculation) = vars.Integer calculation.of
 result_of_operation (operations.Compare operator operands) = vars.Bool
 
--- what an expression gives: nothing, null, or a value of a type
+-- An expression gives nothing, null, or a value of a type.
 pub data ValueType : Type 0 where
   no_value : ValueType
   null_value : ValueType
   value : VarType → ValueType
 
--- the type of what is given of a type: an object is given by its handle
-abbrev pub kept : VarType → VarType
-kept (vars.Object o) = vars.Handle o
-kept of = of
+-- `as_value of` is the type of what is given of a type: an object is given by its handle.
+abbrev pub as_value : VarType → VarType
+as_value (vars.Object o) = vars.Handle o
+as_value of = of
 
--- what a function gives
-abbrev pub given : Option VarType → ValueType
-given None = no_value
-given (Some of) = value (kept of)
+-- `value_of_result result` is what a function gives.
+abbrev pub value_of_result : Option VarType → ValueType
+value_of_result None = no_value
+value_of_result (Some of) = value (as_value of)
 
 abbrev pub altered_type : Change → VarType
 altered_type (changes.Negate kind) = vars.Integer kind
 altered_type (changes.Complement kind) = vars.Integer kind
 altered_type changes.Not = vars.Bool
 
--- what `c ? a : b` gives, by its branches, which are of one type: one may be null
+-- `chosen_type t u` is what `c ? a : b` gives, by its branches, which are of one type: one may be null.
 abbrev pub chosen_type : ValueType → ValueType → ValueType
 chosen_type null_value of = of
 chosen_type of other = of
@@ -101,15 +102,15 @@ type_of (Number kind n) = value (vars.Integer kind)
 type_of (Truth b) = value vars.Bool
 type_of Null = null_value
 type_of (This class) = value (vars.Handle (objects.Class class))
-type_of (Read place) = value (kept (type_of_place place))
-type_of (Invoke object method parameters es) = given (result_of_method method)
+type_of (Read place) = value (as_value (type_of_place place))
+type_of (Invoke object method parameters es) = value_of_result (result_of_method method)
 type_of (Convert conversion e) = value (vars.Integer conversion.to)
 type_of (Cast to e) = value (vars.Handle to)
 type_of (Alter change e) = value (altered_type change)
 type_of (Operate operation a b) = value (result_of_operation operation)
 type_of (Lazily operator a b) = value vars.Bool
 type_of (Conditional c a b) = chosen_type (type_of a) (type_of b)
-type_of (Assign place e) = value (kept (type_of_place place))
+type_of (Assign place e) = value (as_value (type_of_place place))
 type_of (Update place kind calculation e) = value (vars.Integer kind)
 type_of (Count place kind step) = value (vars.Integer kind)
-type_of (Call target parameters es) = given (result_of_target target)
+type_of (Call target parameters es) = value_of_result (result_of_target target)

@@ -1,4 +1,4 @@
--- What the code's typed trees stand for.
+-- These definitions say what the code's typed trees represent.
 use Rattle.std.specs.Prelude.{List, [], ◌∷◌}
 use Rattle.ash_typed.specs.declared.tree.expressions.Expr as code
 use Rattle.ash_typed.specs.declared.tree.expressions.Expr.TheVariants as variants
@@ -8,7 +8,9 @@ use Rattle.ash_typed.specs.declared.tree.expressions.Link as link
 use Rattle.ash_typed.specs.declared.tree.expressions.Link.TheVariants as links
 use Rattle.ash_typed.specs.declared.tree.expressions.Operand as operand
 use Rattle.ash_typed.specs.declared.tree.operations.Lazy.{Lazy}
-use Rattle.ash_typed.specs.Tree.{Expr, Number, Truth, Null, This, Read, Invoke, Convert, Cast, Alter, Operate, Lazily, Conditional, Assign, Update, Count, Call, Place, Stored, Held, Indexed, Exprs, no_expr, expr, converted}
+use Rattle.ash_typed.specs.Tree.{Expr, Number, Truth, Null, This, Read, Invoke, Convert, Cast, Alter, Operate, Lazily}
+use Rattle.ash_typed.specs.Tree.{Conditional, Assign, Update, Count, Call, Place, Stored, Held, Indexed, Exprs, no_expr}
+use Rattle.ash_typed.specs.Tree.{expr, converted}
 
 abbrev mutual
   pub expr_of : code.Expr → Expr
@@ -45,7 +47,8 @@ abbrev mutual
 
   pub chained_by : {n : _} → Expr → code.Row_of-Operand n → Expr
   chained_by e code.end_of-Operand = e
-  chained_by e (code.more_of-Operand before operation value rest) = chained_by (Operate operation (converted before e) (expr_of value)) rest
+  chained_by e (code.more_of-Operand before operation value rest) =
+      chained_by (Operate operation (converted before e) (expr_of value)) rest
 
   pub lazies_by : {n : _} → Lazy → Expr → code.Row_of-Expr n → Expr
   lazies_by op e code.end_of-Expr = e
@@ -55,19 +58,21 @@ abbrev mutual
   exprs_of code.end_of-Expr = no_expr
   exprs_of (code.more_of-Expr e rest) = expr (expr_of e) (exprs_of rest)
 
--- an operator with its right operand, behind what stands before it
+-- `chained e o` is an operator with its right operand, after its left operand.
 abbrev pub chained : Expr → operand.Operand → Expr
 chained e o = Operate o.operation (converted o.before e) (expr_of o.value)
 
--- links, operators and operands, where they stand in a vector
+-- `all_linked e ls` has the links of a vector after an expression.
 abbrev pub all_linked : Expr → List link.Link → Expr
 all_linked e [] = e
 all_linked e (l ∷ ls) = all_linked (linked e l) ls
 
+-- `all_chained e os` has the operators of a vector after an expression.
 abbrev pub all_chained : Expr → List operand.Operand → Expr
 all_chained e [] = e
 all_chained e (o ∷ os) = all_chained (chained e o) os
 
+-- `all_lazies op e xs` has the operands of a vector after an expression.
 abbrev pub all_lazies : Lazy → Expr → List code.Expr → Expr
 all_lazies op e [] = e
 all_lazies op e (x ∷ xs) = all_lazies op (Lazily op e (expr_of x)) xs

@@ -1,17 +1,19 @@
 //! Typed trees of scripts.
 //!
 //! A typed tree is a script with its names resolved: a local by its slot, a member, a global, a function and a class by
-//! its place, what is registered by its number, each with its type; each operator with what it takes, and each conversion
-//! a node. What walks it looks no name up and meets no word of another type than it awaits: `specs/SoundModules.antt`
-//! says which trees are so, of the tree alone. `specs/` has the same trees without where their parts lie in memory, and
-//! `nodes` makes them. The rules of typing, which say which script has which typed tree, are in `ash_typing`, above this
-//! crate, with the proof that what they type is sound: what walks typed trees alone does not load them.
-//! The crate stands on `ash_tree`, for the labels that a script writes.
+//! its place, what is registered by its number, each with its type; each operator with what it takes, and each
+//! conversion a node. What walks it looks no name up and meets no word of another type than it awaits:
+//! `specs/SoundModules.antt` says which trees are so, of the tree alone. `specs/` has the same trees without where
+//! their parts lie in memory, and `nodes` makes them. The rules of typing, which say which script has which typed tree,
+//! are in `ash_typing`, above this crate, with the proof that what they type is sound: what walks typed trees alone
+//! does not load them. The crate uses `ash_tree`, for the labels that a script writes.
 //!
-//! In reading order: `types`, `tree`: `operations`, `expressions`, `statements`, `items`; `nodes`, `soundness`.
+//! In reading order: `types`, `tree`: `operations`, `expressions`, `statements`, `items`; `nodes`, `places`,
+//! `soundness`.
 #![tactic(auto)]
 
 pub mod nodes;
+mod places;
 mod soundness;
 mod tree;
 mod types;

@@ -3,12 +3,14 @@
 ghost use Rattle.std.specs.Prelude.{◌≡◌, [], ◌∷◌, ◌++◌, map, option_map, IfOk, Box, box_value};
 ghost use Rattle.std.specs.declared.alloc.Global.{Global};
 ghost use Rattle.ash_typed.specs.declared.tree.expressions.Expr.{Expr as IndexExpr};
-ghost use Rattle.ash_typed.specs.Tree.{Read, Held, Indexed, Invoke, Cast, Alter, Lazily, Conditional, Assign, Update, Count, Call, exprs, place_in, converted};
+ghost use Rattle.ash_typed.specs.Tree.{Read, Held, Indexed, Invoke, Cast, Alter, Lazily, Conditional, Assign, Update};
+ghost use Rattle.ash_typed.specs.Tree.{Count, Call, exprs, converted};
 ghost use Rattle.ash_typed.specs.StatementTree.{Block, Repeat, For, repeated, Switch, labelled, cases};
-ghost use Rattle.ash_typed.specs.Views.{expr_of, place_of, linked, chained, all_linked, all_chained, all_lazies};
+ghost use Rattle.ash_typed.specs.Views.{expr_of, place_of, linked, chained};
 ghost use Rattle.ash_typed.specs.BodyViews.{stmt_of, head_of, loop_of, case_of, body_of};
 ghost use Rattle.ash_typed.specs.Flat.{base_of, links_of, first_of, operands_of, others_of};
 
+pub use crate::places::place;
 use crate::tree::expressions::{Expr, Link, Operand, Place};
 use crate::tree::operations::{
     Calculation, Change, Conversion, Lazy, Member, Method, Step, Target,
@@ -69,10 +71,11 @@ pub fn member(alloc: Global, object: Expr, member: Member) -> Result<Expr, Alloc
 
 /// What an array has at an index of type `uint`.
 pub fn element(alloc: Global, array: Expr, index: Expr, of: Element) -> Result<Expr, AllocError>
-    ensures value { IfOk result (λ e. expr_of e ≡ Read (Indexed (expr_of array) (expr_of index) of)) }
+    ensures value { IfOk result (λ e.
+        expr_of e ≡ Read (Indexed (expr_of array) (expr_of index) of)) }
     ensures same_base { IfOk result (λ e. base_of e ≡ base_of array) }
-    ensures one_path { IfOk result (λ e. (boxed : Box IndexExpr Global) × (box_value boxed ≡ index) ×
-        (links_of e ≡ links_of array ++ Link.Index boxed of ∷ [])) }
+    ensures one_path { IfOk result (λ e. (boxed : Box IndexExpr Global) × (box_value boxed ≡ index)
+        × (links_of e ≡ links_of array ++ Link.Index boxed of ∷ [])) }
 {
     let index = Box::new(alloc, index)?;
     link(alloc, array, Link::Index { index, of })
@@ -87,9 +90,12 @@ pub fn invoke(
     parameters: Vec<VarType>,
     arguments: Vec<Expr>,
 ) -> Result<Expr, AllocError>
-    ensures value { IfOk result (λ e. expr_of e ≡ Invoke (expr_of object) method parameters.items (exprs (map expr_of arguments.items))) }
+    ensures value { IfOk result (λ e.
+        expr_of e ≡ Invoke (expr_of object) method parameters.items
+        (exprs (map expr_of arguments.items))) }
     ensures same_base { IfOk result (λ e. base_of e ≡ base_of object) }
-    ensures one_path { IfOk result (λ e. links_of e ≡ links_of object ++ Link.Invoke method parameters arguments ∷ []) }
+    ensures one_path { IfOk result (λ e.
+        links_of e ≡ links_of object ++ Link.Invoke method parameters arguments ∷ []) }
 {
     let next = Link::Invoke {
         method,
@@ -131,11 +137,13 @@ fn first_operator(alloc: Global, first: Expr, next: Operand) -> Result<Expr, All
     Ok(Expr::Chain { first, operands })
 }
 
-/// `&&` or `||` between two operands. A row of operands of the same operator takes one more, so that it nests no deeper.
+/// `&&` or `||` between two operands. A row of operands of the same operator takes one more, so that it nests no
+/// deeper.
 #[tactic(auto, using(crate::proofs::Rows::lazy_is, crate::proofs::Rows::all_lazies_append))]
 pub fn lazily(alloc: Global, operator: Lazy, first: Expr, next: Expr) -> Result<Expr, AllocError>
     ensures value { IfOk result (λ e. expr_of e ≡ Lazily operator (expr_of first) (expr_of next)) }
-    ensures one_row { IfOk result (λ e. others_of operator e ≡ others_of operator first ++ next ∷ []) }
+    ensures one_row { IfOk result (λ e.
+        others_of operator e ≡ others_of operator first ++ next ∷ []) }
 {
     match first {
         Expr::Lazy {
@@ -166,7 +174,7 @@ pub fn lazily(alloc: Global, operator: Lazy, first: Expr, next: Expr) -> Result<
 #[tactic(auto, using(crate::proofs::Rows::lazy_is, crate::proofs::Rows::all_lazies_append))]
 fn first_lazily(alloc: Global, operator: Lazy, first: Expr, next: Expr) -> Result<Expr, AllocError>
     ensures value { IfOk result (λ e. expr_of e ≡ Lazily operator (expr_of first) (expr_of next)) }
-    ensures alone { IfOk result (λ e. others_of operator e ≡ next ∷ []) }
+    ensures one_other { IfOk result (λ e. others_of operator e ≡ next ∷ []) }
 {
     let mut others = Vec::with_capacity(alloc, 1)?;
     others.push(next)?;
@@ -217,7 +225,8 @@ pub fn conditional(
     then: Expr,
     otherwise: Expr,
 ) -> Result<Expr, AllocError>
-    ensures { IfOk result (λ e. expr_of e ≡ Conditional (expr_of condition) (expr_of then) (expr_of otherwise)) }
+    ensures { IfOk result (λ e.
+        expr_of e ≡ Conditional (expr_of condition) (expr_of then) (expr_of otherwise)) }
 {
     let condition = Box::new(alloc, condition)?;
     let then = Box::new(alloc, then)?;
@@ -244,7 +253,8 @@ pub fn update(
     calculation: Calculation,
     value: Expr,
 ) -> Result<Expr, AllocError>
-    ensures { IfOk result (λ e. expr_of e ≡ Update (place_of place) of calculation (expr_of value)) }
+    ensures { IfOk result (λ e.
+        expr_of e ≡ Update (place_of place) of calculation (expr_of value)) }
 {
     let value = Box::new(alloc, value)?;
     Ok(Expr::Update {
@@ -262,85 +272,6 @@ pub fn count(place: Place, of: Kind, step: Step) -> Expr
     Expr::Step { place, of, step }
 }
 
-/// The place that an expression reads.
-#[cycle(places)]
-#[tactic(auto, using(crate::proofs::Rows::path_is, crate::proofs::Rows::chain_is, crate::proofs::Rows::lazy_is))]
-pub fn place(alloc: Global, expr: Expr) -> Result<Option<Place>, AllocError>
-    ensures { IfOk result (λ found. option_map place_of found ≡ place_in (expr_of expr)) }
-{
-    match expr {
-        Expr::Variable(variable) => Ok(Some(Place::Variable(variable))),
-        Expr::Path { base, links } => member_of(alloc, base, links),
-        Expr::Number { .. } | Expr::Bool(_) | Expr::Null | Expr::This(_) => Ok(None),
-        Expr::Chain { first, operands } => chain_place(alloc, first, operands),
-        Expr::Lazy {
-            operator,
-            first,
-            others,
-        } => lazy_place(alloc, operator, first, others),
-        Expr::Convert { .. } | Expr::Cast { .. } | Expr::Change { .. } => Ok(None),
-        Expr::Conditional { .. } | Expr::Assign { .. } | Expr::Update { .. } => Ok(None),
-        Expr::Step { .. } | Expr::Call { .. } => Ok(None),
-    }
-}
-
-/// What the last link holds, of what the links before it give.
-#[cycle(places)]
-#[tactic(auto, using(crate::proofs::Rows::path_is, crate::proofs::Rows::all_linked_append))]
-fn member_of(
-    alloc: Global,
-    base: Box<Expr>,
-    mut links: Vec<Link>,
-) -> Result<Option<Place>, AllocError>
-    ensures { IfOk result (λ found. option_map place_of found ≡ place_in (all_linked (expr_of base.value) links.items)) }
-{
-    match links.pop() {
-        Some(Link::Member(member)) => {
-            let object = Box::new(alloc, Expr::Path { base, links })?;
-            Ok(Some(Place::Member { object, member }))
-        }
-        Some(Link::Index { index, of }) => {
-            let array = Box::new(alloc, Expr::Path { base, links })?;
-            Ok(Some(Place::Element { array, index, of }))
-        }
-        Some(Link::Invoke { .. }) => Ok(None),
-        None => place(alloc, Box::into_inner(base)),
-    }
-}
-
-/// A place stands alone.
-#[cycle(places)]
-#[tactic(auto, using(crate::proofs::Rows::chain_is, crate::proofs::Rows::no_place_chained))]
-fn chain_place(
-    alloc: Global,
-    first: Box<Expr>,
-    operands: Vec<Operand>,
-) -> Result<Option<Place>, AllocError>
-    ensures { IfOk result (λ found. option_map place_of found ≡ place_in (all_chained (expr_of first.value) operands.items)) }
-{
-    if operands.is_empty() {
-        return place(alloc, Box::into_inner(first));
-    }
-    Ok(None)
-}
-
-/// A place stands alone.
-#[cycle(places)]
-#[tactic(auto, using(crate::proofs::Rows::no_place_lazies))]
-fn lazy_place(
-    alloc: Global,
-    operator: Lazy,
-    first: Box<Expr>,
-    others: Vec<Expr>,
-) -> Result<Option<Place>, AllocError>
-    ensures { IfOk result (λ found. option_map place_of found ≡ place_in (all_lazies operator (expr_of first.value) others.items)) }
-{
-    if others.is_empty() {
-        return place(alloc, Box::into_inner(first));
-    }
-    Ok(None)
-}
-
 /// `{ body }`
 pub fn block(line: usize, body: Vec<Stmt>) -> Stmt
     ensures { stmt_of result ≡ Block line (body_of body.items) }
@@ -353,7 +284,9 @@ pub fn block(line: usize, body: Vec<Stmt>) -> Stmt
 
 /// What is repeated.
 pub fn repetition(test: Test, condition: Option<Expr>, steps: Vec<Expr>, body: Box<Stmt>) -> Loop
-    ensures { loop_of result ≡ repeated test (option_map expr_of condition) (map expr_of steps.items) (stmt_of body.value) }
+    ensures { loop_of result
+        ≡ repeated test (option_map expr_of condition) (map expr_of steps.items)
+        (stmt_of body.value) }
 {
     Loop {
         test,
@@ -397,7 +330,7 @@ pub fn switch(line: usize, of: Kind, value: Expr, labels: Vec<Case>) -> Stmt
     }
 }
 
-/// A label with the statements behind it.
+/// A label with the statements after it.
 pub fn case(label: Label, body: Vec<Stmt>) -> Case
     ensures { case_of result ≡ labelled label (body_of body.items) }
 {

@@ -44,7 +44,7 @@ pub enum ObjectType {
 pub enum VarType {
     Bool,
     Integer(Kind),
-    /// An object that the variable stands for: `T x`.
+    /// An object that the variable itself is: `T x`.
     Object(ObjectType),
     /// A handle of an object: `T@ x`.
     Handle(ObjectType),

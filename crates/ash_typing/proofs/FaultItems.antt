@@ -1,161 +1,110 @@
 -- The walk over the items of a module answers a fault at a token, where the rule is broken.
-use Rattle.std.proofs.Common.{◌≡◌, ℕ, ◌-◌, arith, sym, ◌∙◌, ◌+◌, Bool, true, false, List, [], ◌∷◌, ◌++◌, Option, Some, None, Ok, length, nat_eq, inl, inr, refl, ap, subst}
-use Rattle.std.specs.Prelude.{◌||◌, is_some, option_map, nat_le}
-use Rattle.std.specs.List.{AllByRecursion, list_any}
+use Rattle.std.proofs.Common.{◌≡◌, ℕ, arith, sym, ◌∙◌, ◌+◌, true, false, List, [], ◌∷◌, ◌++◌, Option, Some, None}
+use Rattle.std.proofs.Common.{length, refl, ap, subst}
+use Rattle.std.specs.Prelude.{is_some, nat_le}
+use Rattle.std.specs.List.{AllByRecursion}
 use Rattle.std.specs.Str.{bytes_eq}
-use Rattle.ash_lex.specs.Tokens.{Meaning, name, reserved}
-use Rattle.ash_lex.specs.declared.words.ReservedWord.TheVariants as words
+use Rattle.ash_lex.specs.Tokens.{name}
 use Rattle.ash_tree.specs.Tree as written
 use Rattle.ash_typed.specs.declared.types.ObjectType.{ObjectType}
 use Rattle.ash_typed.specs.declared.types.ObjectType.TheVariants as objects
 use Rattle.ash_typing.specs.declared.fault.Rule.TheVariants as rules
-use Rattle.ash_typing.specs.declared.types.Ty.{Ty}
 use Rattle.ash_typing.specs.declared.types.Ty.TheVariants as ty
 use Rattle.ash_typed.specs.Modules.{Module}
-use Rattle.ash_typing.specs.Environment.{Environment, Declared, declares, with_locals, inside, seen}
-use Rattle.ash_typing.specs.Expressions.{is_void}
-use Rattle.ash_typing.specs.Heads.{heads, ty_in}
-use Rattle.ash_typed.specs.StatementTree.{Body}
-use Rattle.ash_typing.specs.Scopes.{body_scope}
-use Rattle.ash_typing.specs.Statements.{body_typed}
-use Rattle.ash_typing.specs.Returning.{returns_in}
+use Rattle.ash_typing.specs.Environment.{Environment, inside, seen}
+use Rattle.ash_typing.specs.Heads.{heads}
 use Rattle.ash_tree.specs.Items.{constructing, Routine, routine_of, classes_of, interfaces_of}
-use Rattle.ash_typing.specs.Declarations.{at_type, at_type_name, known_ty}
-use Rattle.ash_typing.specs.Items.{Names, is_taken, untaken, one_more, placed, passed_ty, result_typed, Row, with_variable, decls_typed, no_variables, vars_typed, parameters_typed, returning, routine_typed, Signatures, signature_typed, signatures_typed, no_signatures, interface_typed, listed_at, implemented_at, Listed, listed_typed, all_listed, none_listed, Members, constructor_named, member_typed, members_typed, no_members, class_typed, Walked, room_for_type, item_typed, items_typed, nothing, module_by, module_typed}
+use Rattle.ash_typing.specs.Declarations.{at_type}
+use Rattle.ash_typing.specs.Items.{listed_at, implemented_at, Listed, listed_typed, all_listed, none_listed, Members}
+use Rattle.ash_typing.specs.Items.{constructor_named, member_typed, members_typed, no_members, class_typed, Walked}
+use Rattle.ash_typing.specs.Items.{room_for_type, item_typed, items_typed, nothing, module_by, module_typed}
 use Rattle.ash_typing.specs.Implementations.{implemented}
-use Rattle.ash_typing.proofs.FaultTokens.{HasToken, NamedIn, TypeNameIn, DeclIn, VarsIn, StmtsIn, ParameterIn, ResultIn, RoutineIn, MemberIn, ClassIn, InterfaceMethodIn, InterfaceIn, ItemIn}
+use Rattle.ash_typing.proofs.FaultTokens.{HasToken, TypeNameIn, RoutineIn, MemberIn, ClassIn, ItemIn}
 use Rattle.ash_typing.specs.Phrases as phrases
-use Rattle.ash_typing.specs.Phrases.{Phrase, names_behind, names_of_members, names_of_methods, names_listed}
+use Rattle.ash_typing.specs.Phrases.{Phrase, names_before, names_of_members, names_listed}
 use Rattle.ash_typing.specs.Mismatches as mismatches
 use Rattle.ash_typing.specs.FaultMeaning as meaning
-use Rattle.ash_typing.specs.FaultMeaning.{Naming, has_constructor, named_by, counted_by, is_declared, kept, passed, written_by}
+use Rattle.ash_typing.specs.FaultMeaning.{has_constructor, counted_by, is_declared, stored_use}
 use Rattle.std.proofs.lemmas.List.{length-append}
 use Rattle.ash_registrations.specs.Calls.{Call}
-use Rattle.ash_typing.proofs.FaultNames.{with_name, with_one, with_decls, behind_item, behind_globals, classes_counted, interfaces_counted, behind_method, behind_fields, behind_constructor, behind_signature, behind_listed}
-use Rattle.ash_typing.proofs.TakenNames.{names_with, neither}
-use Rattle.ash_typing.proofs.FaultAnswers.{Script, StandsIn, Wrong, Mismatch, Answers, fine, faulty, Fine, name_taken, bind, bind_by, bind_to, either, IsOf, type_named, same_named, Miswritten, miswritten}
+use Rattle.ash_typing.proofs.FaultNames.{with_name, with_one, with_decls, names_after_item, names_after_globals}
+use Rattle.ash_typing.proofs.FaultNames.{classes_counted, interfaces_counted, names_after_method, names_after_fields}
+use Rattle.ash_typing.proofs.FaultNames.{names_after_constructor, names_after_listed}
+use Rattle.ash_typing.proofs.FaultAnswers.{Script, OccursIn, Wrong, Mismatch, Answers, fine, faulty, Fine, name_taken}
+use Rattle.ash_typing.proofs.FaultAnswers.{bind, bind_by, bind_to, either, type_named, same_named, miswritten}
 use Rattle.ash_typing.proofs.FaultPhrases.{sees}
-use Rattle.ash_typing.proofs.FaultStatements.{IsNamedAt, IsWrittenAt, named_at, written_at, variables_ty_in, decl_in, stmts_in}
-
--- names
-
--- what a phrase declares, at its name
-abbrev pub the_name : ℕ → List ℕ → Bool → Naming
-the_name at text b = record { at = at; text = text; is_refused = b }
-
-untaken_in : (script : Script) (names : Names) (at : ℕ) (text : List ℕ) (x : Phrase) → HasToken script.tokens (name text) at → StandsIn script x → named_by x ≡ Some (the_name at text (is_taken names text)) → Answers script (λ (next : Names). next ≡ with_name names text) (untaken names at text)
-unfolding untaken
-untaken_in script names at text x h r e = either (is_taken names text) (λ b. name_taken (the_name at text (is_taken names text)) r e h b) (λ b. fine refl)
-
-one_more_in : (script : Script) (names : Names) (at : ℕ) (text : List ℕ) (x : Phrase) → HasToken script.tokens (name text) at → StandsIn script x → counted_by x ≡ Some (the_name at text (nat_eq names.room 0)) → Answers script (λ (next : Names). next ≡ names_with names names.taken (names.room - 1)) (one_more names at)
-unfolding one_more
-one_more_in script names at text x h r e = either (nat_eq names.room 0) (λ b. faulty (name text, h, refl, meaning.too_many r e b)) (λ b. fine refl)
-
-placed_in : (script : Script) (names : Names) (at : ℕ) (text : List ℕ) (x : Phrase) → HasToken script.tokens (name text) at → StandsIn script x → named_by x ≡ Some (the_name at text (is_taken names text)) → counted_by x ≡ Some (the_name at text (nat_eq names.room 0)) → Answers script (λ (next : Names). next ≡ with_one names text) (placed names at text)
-placed_in script names at text x h r e f = bind_to _ (untaken_in script names at text x h r e) (one_more_in script (with_name names text) at text x h r f)
-
--- types
-
-passed_ty_in : (script : Script) (of : written.Named) (t : Ty) → IsNamedAt script t (at_type_name of) → IsWrittenAt script t (at_type of) → ((o : ObjectType) (m : Meaning) → t ≡ ty.Object o → Wrong script rules.Misplaced (at_type of) m) → Fine script (passed_ty of t)
-unfolding passed_ty
-passed_ty_in script of ty.Unknown n w m = faulty (name n.0, n.1, refl, n.2)
-passed_ty_in script of (ty.Object (objects.Array e)) n (inl w) m = faulty (reserved words.Array, w, refl, m (objects.Array e) (reserved words.Array) refl)
-passed_ty_in script of (ty.Object (objects.Array e)) n (inr w) m = faulty (name w.0, w.1, refl, m (objects.Array e) (name w.0) refl)
-passed_ty_in script of (ty.Object (objects.Class c)) n w m = faulty (name w.0, w.1, refl, m (objects.Class c) (name w.0) refl)
-passed_ty_in script of (ty.Object (objects.Interface i)) n w m = faulty (name w.0, w.1, refl, m (objects.Interface i) (name w.0) refl)
-passed_ty_in script of (ty.Object (objects.Host kind)) n w m = faulty (name w.0, w.1, refl, m (objects.Host kind) (name w.0) refl)
-passed_ty_in script of ty.Void n w m = fine tt
-passed_ty_in script of ty.Bool n w m = fine tt
-passed_ty_in script of (ty.Integer k) n w m = fine tt
-passed_ty_in script of (ty.Handle o) n w m = fine tt
-passed_ty_in script of ty.Null n w m = fine tt
-
-passed_in : (script : Script) (env : Environment) (of : written.Named) → NamedIn script.tokens of → Miswritten script env (passed of) → Fine script (passed_ty of (ty_in env of))
-passed_in script env of h w = passed_ty_in script of (ty_in env of) (named_at script env of h w.unknown) (written_at script env of h) (λ o m e. w.misplaced o m e refl)
-
-result_in : (script : Script) (env : Environment) (x : Phrase) (of : Option written.Named) → ResultIn script.tokens of → IsOf script env → StandsIn script x → written_by x ≡ option_map passed of → Fine script (result_typed env of)
-result_in script env x None h see r e = fine tt
-result_in script env x (Some of) h see r e = passed_in script env of h (miswritten script env x (passed of) see r e)
-
--- variables
-
-decls_in : (script : Script) (env : Environment) (at : ℕ) (of : Ty) (row : Row) (ds : List written.Decl) → IsWrittenAt script of at → AllByRecursion (DeclIn script.tokens) ds → StandsIn script (phrases.Variables env at of row.names ds) → Answers script (λ (next : Row). next.names ≡ with_decls row.names ds) (decls_typed env at of row ds)
-decls_in script env at of row [] w h r = fine refl
-decls_in script env at of row (d ∷ ds) w h r = bind_to _ (placed_in script row.names d.place.at d.name (phrases.Variables env at of row.names (d ∷ ds)) (h.0).0 r refl refl) (bind (decl_in script env at of d w h.0 (phrases.variable r)) (λ value v. decls_in script env at of (record { names = with_one row.names d.name; variables = with_variable row.variables value }) ds w h.1 (phrases.other_variables r)))
-
--- where the variables of a type that is known stand
-vars_in : (script : Script) (env : Environment) (names : Names) (v : written.Vars) → VarsIn script.tokens v → Miswritten script env (kept v.of) → ((of : Ty) → known_ty v.of (ty_in env v.of) ≡ Ok of → StandsIn script (phrases.Variables env (at_type v.of) of names v.decls)) → Answers script (λ (row : Row). row.names ≡ with_decls names v.decls) (vars_typed env names v)
-unfolding vars_typed
-vars_in script env names v h w r = bind_by (variables_ty_in script env v.of h.0 w) (λ of e at. decls_in script env (at_type v.of) of (record { names = names; variables = no_variables v.of }) v.decls at h.1 (r of e))
-
--- functions
-
-parameters_in : (script : Script) (env : Environment) (before : List Declared) (ps : List written.Parameter) → AllByRecursion (ParameterIn script.tokens) ps → StandsIn script (phrases.Parameters env before ps) → Fine script (parameters_typed env before ps)
-parameters_in script env before [] h r = fine tt
-parameters_in script env before (p ∷ ps) h r = bind_by (passed_in script env p.of (h.0).0 (miswritten script env (phrases.Parameters env before (p ∷ ps)) (passed p.of) (sees r) r refl)) (λ of e u. either (list_any (declares p.name) before) (λ b. name_taken (the_name p.place.at p.name (list_any (declares p.name) before)) r refl (h.0).1 b) (λ b. parameters_in script env (before ++ record { name = p.name; of = of } ∷ []) ps h.1 (phrases.other_parameters r e)))
-
-body_in : (script : Script) (env : Environment) (of : Ty) (body : List written.Stmt) → StmtsIn script.tokens (written.stmts body) → StandsIn script (phrases.Statements (body_scope env of) (written.stmts body)) → Fine script (body_typed env of body)
-unfolding body_typed
-body_in script env of body h r = stmts_in script (body_scope env of) (written.stmts body) h r
-
-returning_in : (script : Script) (env : Environment) (of : Ty) (c : Routine) (body : Body) → HasToken script.tokens (name c.name) c.place.at → StandsIn script (phrases.ARoutine env of c) → Fine script (returning c.place.at of c.body body)
-unfolding returning
-returning_in script env of c body h r = either (is_void of || returns_in c.body) (λ b. fine tt) (λ b. neither (is_void of) (returns_in c.body) b (λ v n. faulty (name c.name, h, refl, meaning.no_return r v n)))
-
-routine_in : (script : Script) (env : Environment) (of : Ty) (c : Routine) → RoutineIn script.tokens c.place c.name c.parameters c.body → StandsIn script (phrases.ARoutine env of c) → Fine script (routine_typed env of c)
-unfolding routine_typed
-routine_in script env of c h r = bind_by (parameters_in script env [] c.parameters h.1 (phrases.parameters r)) (λ locals e u. bind (body_in script (with_locals env locals) of c.body h.2 (phrases.body r e)) (λ body v. bind (returning_in script env of c body h.0 r) (λ done w. fine tt)))
-
--- interfaces
-
-signature_in : (script : Script) (env : Environment) (before : List written.InterfaceMethod) (ss : Signatures) (m : written.InterfaceMethod) (ms : List written.InterfaceMethod) → InterfaceMethodIn script.tokens m → ss.names ≡ names_of_methods before → StandsIn script (phrases.Methods env before (m ∷ ms)) → Answers script (λ (next : Signatures). next.names ≡ names_of_methods (before ++ m ∷ [])) (signature_typed env ss m)
-unfolding signature_typed
-signature_in script env before ss m ms h n r =
-    let x = phrases.Methods env before (m ∷ ms) in
-    bind (result_in script env x m.result h.0 (sees r) r refl) (λ of u. bind_to _ (placed_in script ss.names m.place.at m.name x h.1 r (rw n refl) (rw n refl)) (bind (parameters_in script env [] m.parameters h.2 (phrases.method_parameters r)) (λ parameters w. fine (ap (λ names. with_one names m.name) n ∙ behind_signature before m))))
-
-signatures_in : (script : Script) (env : Environment) (before : List written.InterfaceMethod) (ss : Signatures) (ms : List written.InterfaceMethod) → AllByRecursion (InterfaceMethodIn script.tokens) ms → ss.names ≡ names_of_methods before → StandsIn script (phrases.Methods env before ms) → Fine script (signatures_typed env ss ms)
-signatures_in script env before ss [] h n r = fine tt
-signatures_in script env before ss (m ∷ ms) h n r = bind (signature_in script env before ss m ms h.0 n r) (λ next k. signatures_in script env (before ++ m ∷ []) next ms h.1 k (phrases.other_methods r))
-
-interface_in : (script : Script) (env : Environment) (classes : ℕ) (i : written.Interface) → InterfaceIn script.tokens i → StandsIn script (phrases.Methods env [] i.methods) → Fine script (interface_typed env classes i)
-unfolding interface_typed
-interface_in script env classes i h r = bind (signatures_in script env [] no_signatures i.methods h.1 refl r) (λ ss u. fine tt)
+use Rattle.ash_typing.proofs.FaultRoutines.{interface_in, placed_in, result_in, routine_in, the_name, untaken_in}
+use Rattle.ash_typing.proofs.FaultRoutines.{vars_in}
 
 -- the interfaces that a class lists
 
-abbrev pub AtListed : Script → Environment → ℕ → List written.TypeName → written.TypeName → List written.TypeName → Type 0
-AtListed script env place before n ns = StandsIn script (phrases.Interfaces env place before (n ∷ ns))
+abbrev pub AtListed : Script → Environment → ℕ → List written.TypeName → written.TypeName → List written.TypeName
+    → Type 0
+AtListed script env place before n ns = OccursIn script (phrases.Interfaces env place before (n ∷ ns))
 
 -- what is named there is neither a class nor an interface
-not_listed : (script : Script) (env : Environment) (place : ℕ) (before : List written.TypeName) (n : written.TypeName) (ns : List written.TypeName) → AtListed script env place before n ns → is_declared (type_named env n.name) ≡ false → Wrong script rules.UnknownType n.place.at (name n.name)
-not_listed script env place before n ns r b = meaning.no_interface r (subst (λ found. is_declared found ≡ false) (same_named script env n.name (sees r)) b)
+not_listed : (script : Script) (env : Environment) (place : ℕ) (before : List written.TypeName) (n : written.TypeName)
+    (ns : List written.TypeName) → AtListed script env place before n ns → is_declared (type_named env n.name) ≡ false
+    → Wrong script rules.UnknownType n.place.at (name n.name)
+not_listed script env place before n ns r b =
+    meaning.no_interface r (subst (λ found. is_declared found ≡ false) (same_named script env n.name (sees r)) b)
 
-listed_at_in : (script : Script) (env : Environment) (place : ℕ) (before : List written.TypeName) (n : written.TypeName) (ns : List written.TypeName) (found : Option ObjectType) → HasToken script.tokens (name n.name) n.place.at → AtListed script env place before n ns → type_named env n.name ≡ found → Answers script (λ (interface : ℕ). type_named env n.name ≡ Some (objects.Interface interface)) (listed_at n.place.at found)
+listed_at_in : (script : Script) (env : Environment) (place : ℕ) (before : List written.TypeName) (n : written.TypeName)
+    (ns : List written.TypeName) (found : Option ObjectType) → HasToken script.tokens (name n.name) n.place.at
+    → AtListed script env place before n ns → type_named env n.name ≡ found
+    → Answers script
+    (λ (interface : ℕ). type_named env n.name ≡ Some (objects.Interface interface)) (listed_at n.place.at found)
 listed_at_in script env place before n ns (Some (objects.Interface interface)) h r e = fine e
-listed_at_in script env place before n ns (Some (objects.Class class)) h r e = faulty (name n.name, h, refl, meaning.listed_class r (subst (λ found. found ≡ Some (objects.Class class)) (same_named script env n.name (sees r)) e))
-listed_at_in script env place before n ns (Some (objects.Host kind)) h r e = faulty (name n.name, h, refl, not_listed script env place before n ns r (ap is_declared e))
-listed_at_in script env place before n ns (Some (objects.Array of)) h r e = faulty (name n.name, h, refl, not_listed script env place before n ns r (ap is_declared e))
-listed_at_in script env place before n ns None h r e = faulty (name n.name, h, refl, not_listed script env place before n ns r (ap is_declared e))
+listed_at_in script env place before n ns (Some (objects.Class class)) h r e =
+    faulty (
+      name n.name,
+      h,
+      refl,
+      meaning.listed_class r
+          (subst (λ found. found ≡ Some (objects.Class class)) (same_named script env n.name (sees r)) e),
+    )
+listed_at_in script env place before n ns (Some (objects.Host kind)) h r e =
+    faulty (name n.name, h, refl, not_listed script env place before n ns r (ap is_declared e))
+listed_at_in script env place before n ns (Some (objects.Array of)) h r e =
+    faulty (name n.name, h, refl, not_listed script env place before n ns r (ap is_declared e))
+listed_at_in script env place before n ns None h r e =
+    faulty (name n.name, h, refl, not_listed script env place before n ns r (ap is_declared e))
 
-implemented_in : (script : Script) (at : ℕ) (text : List ℕ) (interface : ℕ) (methods : Option (List ℕ)) → HasToken script.tokens (name text) at → (methods ≡ None → Mismatch script at) → Fine script (implemented_at at interface methods)
+implemented_in : (script : Script) (at : ℕ) (text : List ℕ) (interface : ℕ) (methods : Option (List ℕ))
+    → HasToken script.tokens (name text) at → (methods ≡ None → Mismatch script at)
+    → Fine script (implemented_at at interface methods)
 implemented_in script at text interface None h z = faulty (name text, h, refl, meaning.mismatch (z refl))
 implemented_in script at text interface (Some methods) h z = fine tt
 
-listed_in : (script : Script) (env : Environment) (place : ℕ) (before : List written.TypeName) (listed : Listed) (n : written.TypeName) (ns : List written.TypeName) → TypeNameIn script.tokens n → listed.names ≡ names_listed before → AtListed script env place before n ns → Answers script (λ (next : Listed). next.names ≡ names_listed (before ++ n ∷ [])) (listed_typed env place listed n)
+listed_in : (script : Script) (env : Environment) (place : ℕ) (before : List written.TypeName) (listed : Listed)
+    (n : written.TypeName) (ns : List written.TypeName) → TypeNameIn script.tokens n
+    → listed.names ≡ names_listed before → AtListed script env place before n ns
+    → Answers script (λ (next : Listed). next.names ≡ names_listed (before ++ n ∷ [])) (listed_typed env place listed n)
 unfolding listed_typed
-listed_in script env place before listed n ns h k r = bind (listed_at_in script env place before n ns (type_named env n.name) h r refl) (λ interface u. bind_to _ (untaken_in script listed.names n.place.at n.name (phrases.Interfaces env place before (n ∷ ns)) h r (rw k refl)) (bind (implemented_in script n.place.at n.name interface (implemented env place interface) h (λ b. mismatches.lacks_method r (subst (λ found. found ≡ Some (objects.Interface interface)) (same_named script env n.name (sees r)) u) b)) (λ implementation w. fine (ap (λ names. with_name names n.name) k ∙ behind_listed before n))))
+listed_in script env place before listed n ns h k r =
+    bind (listed_at_in script env place before n ns (type_named env n.name) h r refl) (λ interface u.
+    bind_to _ (untaken_in script listed.names n.place.at n.name (phrases.Interfaces env place before (n ∷ ns)) h r
+    (rw k refl))
+    (bind (implemented_in script n.place.at n.name interface (implemented env place interface) h
+    (λ b. mismatches.lacks_method r
+    (subst (λ found. found ≡ Some (objects.Interface interface)) (same_named script env n.name (sees r)) u) b))
+    (λ implementation w. fine (ap (λ names. with_name names n.name) k ∙ names_after_listed before n))))
 
-all_listed_in : (script : Script) (env : Environment) (place : ℕ) (before : List written.TypeName) (listed : Listed) (ns : List written.TypeName) → AllByRecursion (TypeNameIn script.tokens) ns → listed.names ≡ names_listed before → StandsIn script (phrases.Interfaces env place before ns) → Fine script (all_listed env place listed ns)
+all_listed_in : (script : Script) (env : Environment) (place : ℕ) (before : List written.TypeName) (listed : Listed)
+    (ns : List written.TypeName) → AllByRecursion (TypeNameIn script.tokens) ns → listed.names ≡ names_listed before
+    → OccursIn script (phrases.Interfaces env place before ns) → Fine script (all_listed env place listed ns)
 all_listed_in script env place before listed [] h k r = fine tt
-all_listed_in script env place before listed (n ∷ ns) h k r = bind (listed_in script env place before listed n ns h.0 k r) (λ next l. all_listed_in script env place (before ++ n ∷ []) next ns h.1 l (phrases.other_interfaces r))
+all_listed_in script env place before listed (n ∷ ns) h k r =
+    bind (listed_in script env place before listed n ns h.0 k r) (λ next l.
+    all_listed_in script env place (before ++ n ∷ []) next ns h.1 l (phrases.other_interfaces r))
 
 -- classes
 
-abbrev pub AtMember : Script → Environment → List ℕ → List written.Member → written.Member → List written.Member → Type 0
-AtMember script env class before m ms = StandsIn script (phrases.ClassMembers env class before (m ∷ ms))
+abbrev pub AtMember : Script → Environment → List ℕ → List written.Member → written.Member → List written.Member
+    → Type 0
+AtMember script env class before m ms = OccursIn script (phrases.ClassMembers env class before (m ∷ ms))
 
--- a class so far, behind these members
+-- a class so far, after these members
 pub record HasMembers (class : List ℕ) (before : List written.Member) (ms : Members) : Type 0 where
   pub names : ms.names ≡ names_of_members before
   pub name : ms.class.name ≡ class
@@ -163,130 +112,201 @@ pub record HasMembers (class : List ℕ) (before : List written.Member) (ms : Me
 
 -- whether there is a constructor, with a member more
 
-one_constructor : (before : List written.Member) (c : written.Constructor) → true ≡ has_constructor (before ++ written.AConstructor c ∷ [])
+one_constructor : (before : List written.Member) (c : written.Constructor)
+    → true ≡ has_constructor (before ++ written.AConstructor c ∷ [])
 one_constructor [] c = refl
 one_constructor (written.AConstructor d ∷ ms) c = refl
 one_constructor (written.AMethod f ∷ ms) c = one_constructor ms c
 one_constructor (written.AField v ∷ ms) c = one_constructor ms c
 
-same_constructor : (before : List written.Member) (m : written.Member) → has_constructor (m ∷ []) ≡ false → has_constructor before ≡ has_constructor (before ++ m ∷ [])
+same_constructor : (before : List written.Member) (m : written.Member) → has_constructor (m ∷ []) ≡ false
+    → has_constructor before ≡ has_constructor (before ++ m ∷ [])
 same_constructor [] m h = sym h
 same_constructor (written.AConstructor d ∷ ms) m h = refl
 same_constructor (written.AMethod f ∷ ms) m h = same_constructor ms m h
 same_constructor (written.AField v ∷ ms) m h = same_constructor ms m h
 
-named_in : (script : Script) (env : Environment) (class : List ℕ) (before : List written.Member) (ms : Members) (c : written.Constructor) (rest : List written.Member) → RoutineIn script.tokens c.place c.name c.parameters c.body → HasMembers class before ms → AtMember script env class before (written.AConstructor c) rest → Answers script (λ (r : Routine). r ≡ constructing c) (constructor_named ms.class c)
+named_in : (script : Script) (env : Environment) (class : List ℕ) (before : List written.Member) (ms : Members)
+    (c : written.Constructor) (rest : List written.Member) → RoutineIn script.tokens c.place c.name c.parameters c.body
+    → HasMembers class before ms → AtMember script env class before (written.AConstructor c) rest
+    → Answers script (λ (r : Routine). r ≡ constructing c) (constructor_named ms.class c)
 unfolding constructor_named
 named_in script env class before ms c rest h k r = either (is_some ms.class.constructor)
     (λ b. name_taken (the_name c.place.at c.name (is_some ms.class.constructor)) r (rw k.constructor refl) h.0 b)
-    (λ b. either (bytes_eq c.name ms.class.name) (λ d. fine refl) (λ d. faulty (name c.name, h.0, refl, meaning.other_constructor r (subst (λ class. bytes_eq c.name class ≡ false) k.name d))))
+    (λ b. either (bytes_eq c.name ms.class.name) (λ d. fine refl)
+    (λ d. faulty (
+      name c.name,
+      h.0,
+      refl,
+      meaning.other_constructor r (subst (λ class. bytes_eq c.name class ≡ false) k.name d),
+    )))
 
-member_in : (script : Script) (env : Environment) (class : List ℕ) (before : List written.Member) (ms : Members) (m : written.Member) (rest : List written.Member) → MemberIn script.tokens m → HasMembers class before ms → AtMember script env class before m rest → Answers script (HasMembers class (before ++ m ∷ [])) (member_typed env ms m)
+member_in : (script : Script) (env : Environment) (class : List ℕ) (before : List written.Member) (ms : Members)
+    (m : written.Member) (rest : List written.Member) → MemberIn script.tokens m → HasMembers class before ms
+    → AtMember script env class before m rest
+    → Answers script (HasMembers class (before ++ m ∷ [])) (member_typed env ms m)
 unfolding member_typed
 member_in script env class before ms (written.AField v) rest h k r =
     let x = phrases.ClassMembers env class before (written.AField v ∷ rest) in
-    bind (vars_in script env ms.names v h (miswritten script env x (kept v.of) (sees r) r refl) (λ of e. subst (λ names. StandsIn script (phrases.Variables env (at_type v.of) of names v.decls)) (sym k.names) (phrases.fields r e))) (λ row n. fine (record {
-      names = n ∙ ap (λ names. with_decls names v.decls) k.names ∙ behind_fields before v;
+    bind (vars_in script env ms.names v h (miswritten script env x (stored_use v.of) (sees r) r refl)
+    (λ of e. subst
+    (λ names. OccursIn script (phrases.Variables env (at_type v.of) of names v.decls)) (sym k.names)
+    (phrases.fields r e)))
+    (λ row n. fine (record {
+      names = n ∙ ap (λ names. with_decls names v.decls) k.names ∙ names_after_fields before v;
       name = k.name;
       constructor = k.constructor ∙ same_constructor before (written.AField v) refl;
     }))
 member_in script env class before ms (written.AMethod f) rest h k r =
     let x = phrases.ClassMembers env class before (written.AMethod f ∷ rest) in
-    bind_by (result_in script env x f.result h.0 (sees r) r refl) (λ of e u. bind_to _ (placed_in script ms.names f.place.at f.name x (h.1).0 r (rw k.names refl) (rw k.names refl)) (bind (routine_in script env of (routine_of f) h.1 (phrases.method r e)) (λ t w. fine (record {
-      names = ap (λ names. with_one names f.name) k.names ∙ behind_method before f;
+    bind_by (result_in script env x f.result h.0 (sees r) r refl)
+    (λ of e u. bind_to _
+    (placed_in script ms.names f.place.at f.name x (h.1).0 r (rw k.names refl) (rw k.names refl))
+    (bind (routine_in script env of (routine_of f) h.1 (phrases.method r e)) (λ t w. fine (record {
+      names = ap (λ names. with_one names f.name) k.names ∙ names_after_method before f;
       name = k.name;
       constructor = k.constructor ∙ same_constructor before (written.AMethod f) refl;
     }))))
-member_in script env class before ms (written.AConstructor c) rest h k r = bind_to _ (named_in script env class before ms c rest h k r) (bind (routine_in script env ty.Void (constructing c) h (phrases.constructor r)) (λ t u. fine (record {
-  names = k.names ∙ behind_constructor before c;
-  name = k.name;
-  constructor = one_constructor before c;
-})))
+member_in script env class before ms (written.AConstructor c) rest h k r =
+    bind_to _ (named_in script env class before ms c rest h k r)
+    (bind (routine_in script env ty.Void (constructing c) h (phrases.constructor r)) (λ t u. fine (record {
+      names = k.names ∙ names_after_constructor before c;
+      name = k.name;
+      constructor = one_constructor before c;
+    })))
 
-members_in : (script : Script) (env : Environment) (class : List ℕ) (before : List written.Member) (ms : Members) (rest : List written.Member) → AllByRecursion (MemberIn script.tokens) rest → HasMembers class before ms → StandsIn script (phrases.ClassMembers env class before rest) → Fine script (members_typed env ms rest)
+members_in : (script : Script) (env : Environment) (class : List ℕ) (before : List written.Member) (ms : Members)
+    (rest : List written.Member) → AllByRecursion (MemberIn script.tokens) rest → HasMembers class before ms
+    → OccursIn script (phrases.ClassMembers env class before rest) → Fine script (members_typed env ms rest)
 members_in script env class before ms [] h k r = fine tt
-members_in script env class before ms (m ∷ rest) h k r = bind (member_in script env class before ms m rest h.0 k r) (λ next l. members_in script env class (before ++ m ∷ []) next rest h.1 l (phrases.other_members r))
+members_in script env class before ms (m ∷ rest) h k r =
+    bind (member_in script env class before ms m rest h.0 k r) (λ next l.
+    members_in script env class (before ++ m ∷ []) next rest h.1 l (phrases.other_members r))
 
-class_in : (script : Script) (env : Environment) (before : List written.Item) (c : written.Class) (is : List written.Item) → ClassIn script.tokens c → StandsIn script (phrases.Items env before (written.AClass c ∷ is)) → Fine script (class_typed env (length (classes_of before)) c)
+class_in : (script : Script) (env : Environment) (before : List written.Item) (c : written.Class)
+    (is : List written.Item) → ClassIn script.tokens c
+    → OccursIn script (phrases.Items env before (written.AClass c ∷ is))
+    → Fine script (class_typed env (length (classes_of before)) c)
 unfolding class_typed
 class_in script env before c is h r =
     let place = length (classes_of before) in
-    bind (all_listed_in script env place [] none_listed c.interfaces h.1 refl (phrases.interfaces r)) (λ listed u. bind (members_in script (inside env place) c.name [] (no_members c listed.interfaces) c.members h.2 (record { names = refl; name = refl; constructor = refl }) (phrases.members r)) (λ ms v. fine tt))
+    bind (all_listed_in script env place [] none_listed c.interfaces h.1 refl (phrases.interfaces r)) (λ listed u.
+    bind (members_in script (inside env place) c.name [] (no_members c listed.interfaces) c.members h.2
+    (record { names = refl; name = refl; constructor = refl }) (phrases.members r))
+    (λ ms v. fine tt))
 
 -- modules
 
--- a module so far, behind these items
+-- a module so far, after these items
 pub record HasItems (calls : List Call) (before : List written.Item) (w : Walked) : Type 0 where
-  pub names : w.names ≡ names_behind calls before
+  pub names : w.names ≡ names_before calls before
   pub classes : length w.typed.classes ≡ length (classes_of before)
   pub interfaces : length w.typed.interfaces ≡ length (interfaces_of before)
 
-room_in : (script : Script) (at : ℕ) (text : List ℕ) (x : Phrase) (m : Module) → HasToken script.tokens (name text) at → StandsIn script x → counted_by x ≡ Some (the_name at text (nat_le 256 (length m.classes + length m.interfaces))) → Answers script (λ (place : ℕ). place ≡ length m.classes) (room_for_type at m)
+room_in : (script : Script) (at : ℕ) (text : List ℕ) (x : Phrase) (m : Module) → HasToken script.tokens (name text) at
+    → OccursIn script x → counted_by x ≡ Some (the_name at text (nat_le 256 (length m.classes + length m.interfaces)))
+    → Answers script (λ (place : ℕ). place ≡ length m.classes) (room_for_type at m)
 unfolding room_for_type
-room_in script at text x m h r e = either (nat_le 256 (length m.classes + length m.interfaces)) (λ b. faulty (name text, h, refl, meaning.too_many r e b)) (λ b. fine refl)
+room_in script at text x m h r e =
+    either (nat_le 256 (length m.classes + length m.interfaces))
+    (λ b. faulty (name text, h, refl, meaning.too_many r e b)) (λ b. fine refl)
 
 -- as many as before
 
-same_classes : (before : List written.Item) (i : written.Item) (k : ℕ) → length (classes_of (i ∷ [])) ≡ 0 → k ≡ length (classes_of before) → k ≡ length (classes_of (before ++ i ∷ []))
+same_classes : (before : List written.Item) (i : written.Item) (k : ℕ) → length (classes_of (i ∷ [])) ≡ 0
+    → k ≡ length (classes_of before) → k ≡ length (classes_of (before ++ i ∷ []))
 same_classes before i k none e = let counted = classes_counted before i in omega arith
 
-same_interfaces : (before : List written.Item) (i : written.Item) (k : ℕ) → length (interfaces_of (i ∷ [])) ≡ 0 → k ≡ length (interfaces_of before) → k ≡ length (interfaces_of (before ++ i ∷ []))
+same_interfaces : (before : List written.Item) (i : written.Item) (k : ℕ) → length (interfaces_of (i ∷ [])) ≡ 0
+    → k ≡ length (interfaces_of before) → k ≡ length (interfaces_of (before ++ i ∷ []))
 same_interfaces before i k none e = let counted = interfaces_counted before i in omega arith
 
 -- and one more
 
-more_classes : {A : Type 0} (before : List written.Item) (i : written.Item) (xs : List A) (x : A) → length (classes_of (i ∷ [])) ≡ 1 → length xs ≡ length (classes_of before) → length (xs ++ x ∷ []) ≡ length (classes_of (before ++ i ∷ []))
+more_classes : {A : Type 0} (before : List written.Item) (i : written.Item) (xs : List A) (x : A)
+    → length (classes_of (i ∷ [])) ≡ 1 → length xs ≡ length (classes_of before)
+    → length (xs ++ x ∷ []) ≡ length (classes_of (before ++ i ∷ []))
 more_classes before i xs x one e =
     let counted = classes_counted before i in
     let longer = length-append xs (x ∷ []) in
     omega arith
 
-more_interfaces : {A : Type 0} (before : List written.Item) (i : written.Item) (xs : List A) (x : A) → length (interfaces_of (i ∷ [])) ≡ 1 → length xs ≡ length (interfaces_of before) → length (xs ++ x ∷ []) ≡ length (interfaces_of (before ++ i ∷ []))
+more_interfaces : {A : Type 0} (before : List written.Item) (i : written.Item) (xs : List A) (x : A)
+    → length (interfaces_of (i ∷ [])) ≡ 1 → length xs ≡ length (interfaces_of before)
+    → length (xs ++ x ∷ []) ≡ length (interfaces_of (before ++ i ∷ []))
 more_interfaces before i xs x one e =
     let counted = interfaces_counted before i in
     let longer = length-append xs (x ∷ []) in
     omega arith
 
-item_in : (script : Script) (env : Environment) (before : List written.Item) (w : Walked) (i : written.Item) (is : List written.Item) → ItemIn script.tokens i → HasItems env.registered before w → StandsIn script (phrases.Items env before (i ∷ is)) → Answers script (HasItems env.registered (before ++ i ∷ [])) (item_typed env w i)
+item_in : (script : Script) (env : Environment) (before : List written.Item) (w : Walked) (i : written.Item)
+    (is : List written.Item) → ItemIn script.tokens i → HasItems env.registered before w
+    → OccursIn script (phrases.Items env before (i ∷ is))
+    → Answers script (HasItems env.registered (before ++ i ∷ [])) (item_typed env w i)
 unfolding item_typed
 item_in script env before w (written.AClass c) is h k r =
     let x = phrases.Items env before (written.AClass c ∷ is) in
-    bind_to _ (untaken_in script w.names c.place.at c.name x h.0 r (rw k.names refl)) (bind_to _ (room_in script c.place.at c.name x w.typed h.0 r (rw (k.classes, k.interfaces) refl)) (bind (subst (λ place. Fine script (class_typed env place c)) (sym k.classes) (class_in script env before c is h r)) (λ t y. fine (record {
-      names = ap (λ names. with_name names c.name) k.names ∙ behind_item env.registered before (written.AClass c) c.name refl refl;
+    bind_to _ (untaken_in script w.names c.place.at c.name x h.0 r (rw k.names refl))
+    (bind_to _ (room_in script c.place.at c.name x w.typed h.0 r (rw (k.classes, k.interfaces) refl))
+    (bind (subst
+    (λ place. Fine script (class_typed env place c)) (sym k.classes) (class_in script env before c is h r))
+    (λ t y. fine (record {
+      names = ap (λ names. with_name names c.name) k.names
+          ∙ names_after_item env.registered before (written.AClass c) c.name refl refl;
       classes = more_classes before (written.AClass c) w.typed.classes t refl k.classes;
       interfaces = same_interfaces before (written.AClass c) (length w.typed.interfaces) refl k.interfaces;
     }))))
 item_in script env before w (written.AnInterface i) is h k r =
     let x = phrases.Items env before (written.AnInterface i ∷ is) in
-    bind_to _ (untaken_in script w.names i.place.at i.name x h.0 r (rw k.names refl)) (bind (room_in script i.place.at i.name x w.typed h.0 r (rw (k.classes, k.interfaces) refl)) (λ classes v. bind (interface_in script env classes i h (phrases.methods r)) (λ t y. fine (record {
-      names = ap (λ names. with_name names i.name) k.names ∙ behind_item env.registered before (written.AnInterface i) i.name refl refl;
+    bind_to _ (untaken_in script w.names i.place.at i.name x h.0 r (rw k.names refl))
+    (bind (room_in script i.place.at i.name x w.typed h.0 r (rw (k.classes, k.interfaces) refl))
+    (λ classes v. bind (interface_in script env classes i h (phrases.methods r)) (λ t y. fine (record {
+      names = ap (λ names. with_name names i.name) k.names
+          ∙ names_after_item env.registered before (written.AnInterface i) i.name refl refl;
       classes = same_classes before (written.AnInterface i) (length w.typed.classes) refl k.classes;
       interfaces = more_interfaces before (written.AnInterface i) w.typed.interfaces t refl k.interfaces;
     }))))
 item_in script env before w (written.AFunction f) is h k r =
     let x = phrases.Items env before (written.AFunction f ∷ is) in
-    bind_by (result_in script env x f.result h.0 (sees r) r refl) (λ of e u. bind_to _ (untaken_in script w.names f.place.at f.name x (h.1).0 r (rw k.names refl)) (bind (routine_in script env of (routine_of f) h.1 (phrases.function r e)) (λ t y. fine (record {
-      names = ap (λ names. with_name names f.name) k.names ∙ behind_item env.registered before (written.AFunction f) f.name refl refl;
+    bind_by (result_in script env x f.result h.0 (sees r) r refl)
+    (λ of e u. bind_to _ (untaken_in script w.names f.place.at f.name x (h.1).0 r (rw k.names refl))
+    (bind (routine_in script env of (routine_of f) h.1 (phrases.function r e)) (λ t y. fine (record {
+      names = ap (λ names. with_name names f.name) k.names
+          ∙ names_after_item env.registered before (written.AFunction f) f.name refl refl;
       classes = same_classes before (written.AFunction f) (length w.typed.classes) refl k.classes;
       interfaces = same_interfaces before (written.AFunction f) (length w.typed.interfaces) refl k.interfaces;
     }))))
 item_in script env before w (written.AGlobal v) is h k r =
     let x = phrases.Items env before (written.AGlobal v ∷ is) in
     let registered = (sees r).1 in
-    let here : w.names ≡ names_behind script.calls before = k.names ∙ ap (λ calls. names_behind calls before) registered in
-    bind (vars_in script env w.names v h (miswritten script env x (kept v.of) (sees r) r refl) (λ of e. subst (λ names. StandsIn script (phrases.Variables env (at_type v.of) of names v.decls)) (sym here) (phrases.globals r e))) (λ row n. fine (record {
-      names = n ∙ ap (λ names. with_decls names v.decls) k.names ∙ behind_globals env.registered before v;
+    let here : w.names ≡ names_before script.calls before =
+    k.names ∙ ap (λ calls. names_before calls before) registered in
+    bind (vars_in script env w.names v h (miswritten script env x (stored_use v.of) (sees r) r refl)
+    (λ of e. subst
+    (λ names. OccursIn script (phrases.Variables env (at_type v.of) of names v.decls)) (sym here)
+    (phrases.globals r e)))
+    (λ row n. fine (record {
+      names = n ∙ ap (λ names. with_decls names v.decls) k.names ∙ names_after_globals env.registered before v;
       classes = same_classes before (written.AGlobal v) (length w.typed.classes) refl k.classes;
       interfaces = same_interfaces before (written.AGlobal v) (length w.typed.interfaces) refl k.interfaces;
     }))
 
-items_in : (script : Script) (env : Environment) (before : List written.Item) (w : Walked) (is : List written.Item) → AllByRecursion (ItemIn script.tokens) is → HasItems env.registered before w → StandsIn script (phrases.Items env before is) → Fine script (items_typed env w is)
+items_in : (script : Script) (env : Environment) (before : List written.Item) (w : Walked) (is : List written.Item)
+    → AllByRecursion (ItemIn script.tokens) is → HasItems env.registered before w
+    → OccursIn script (phrases.Items env before is) → Fine script (items_typed env w is)
 items_in script env before w [] h k r = fine tt
-items_in script env before w (i ∷ is) h k r = bind (item_in script env before w i is h.0 k r) (λ next l. items_in script env (before ++ i ∷ []) next is h.1 l (phrases.other_items r))
+items_in script env before w (i ∷ is) h k r =
+    bind (item_in script env before w i is h.0 k r) (λ next l.
+    items_in script env (before ++ i ∷ []) next is h.1 l (phrases.other_items r))
 
-module_by_in : (script : Script) → AllByRecursion (ItemIn script.tokens) script.items → Fine script (module_by script.calls (heads script.calls script.items) script.items)
-module_by_in script h = bind (items_in script (seen script.calls (heads script.calls script.items)) [] (nothing script.calls) script.items h (record { names = refl; classes = refl; interfaces = refl }) phrases.items) (λ w u. fine tt)
+module_by_in : (script : Script) → AllByRecursion (ItemIn script.tokens) script.items
+    → Fine script (module_by script.calls (heads script.calls script.items) script.items)
+module_by_in script h =
+    bind (items_in script (seen script.calls (heads script.calls script.items)) [] (nothing script.calls) script.items h
+    (record { names = refl; classes = refl; interfaces = refl }) phrases.items)
+    (λ w u. fine tt)
 
-pub module_in : (script : Script) → AllByRecursion (ItemIn script.tokens) script.items → Fine script (module_typed script.calls script.items)
+pub module_in : (script : Script) → AllByRecursion (ItemIn script.tokens) script.items
+    → Fine script (module_typed script.calls script.items)
 unfolding module_typed
 module_in script h = module_by_in script h

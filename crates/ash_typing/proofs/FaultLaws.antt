@@ -41,18 +41,37 @@ all_further t ts (u ∷ us) h = (further t u ts h.0, all_further t ts us h.1)
 
 all_in : (ts : Tokens) → AreIn ts ts
 all_in [] = tt
-all_in (t ∷ ts) = (record { token = any_here (λ (x : Meaning × Place). (x.0 ≡ t.0) × (x.1.at ≡ t.1.at)) t ts (refl, refl) }, all_further t ts ts (all_in ts))
+all_in (t ∷ ts) = (
+  record { token = any_here (λ (x : Meaning × Place). (x.0 ≡ t.0) × (x.1.at ≡ t.1.at)) t ts (refl, refl) },
+  all_further t ts ts (all_in ts),
+)
 
 -- the fault
 
-pub fault_broken : (calls : List Call) (free : ℕ) (tokens : Tokens) (is : List Item) (fault : Fault) → Derives free tokens is → module_typed calls is ≡ Err fault → IsBrokenAt calls is tokens fault
+pub fault_broken : (calls : List Call) (free : ℕ) (tokens : Tokens) (is : List Item) (fault : Fault)
+    → Derives free tokens is → module_typed calls is ≡ Err fault → IsBrokenAt calls is tokens fault
 fault_broken calls free tokens is fault d h =
     let script : Script = record { tokens = tokens; calls = calls; items = is } in
     let found : IsIn script fault = is_in (module_in script (items_in tokens d (all_in tokens))) fault h in
-    any_map (λ (t : Meaning × Place). (t.0 ≡ found.0) × (t.1.at ≡ fault.at)) (λ (t : Meaning × Place). (t.1.at ≡ fault.at) × (breaks_at fault.rule t.0 ≡ true) × IsWrong calls is fault.rule fault.at t.0) tokens (λ t k. (k.1, subst (λ m. breaks_at fault.rule m ≡ true) (sym k.0) found.2, subst (λ m. IsWrong calls is fault.rule fault.at m) (sym k.0) found.3)) (found.1).token
+    any_map (λ (t : Meaning × Place). (t.0 ≡ found.0) × (t.1.at ≡ fault.at))
+    (λ (t : Meaning × Place). (t.1.at ≡ fault.at) × (breaks_at fault.rule t.0 ≡ true)
+    × IsWrong calls is fault.rule fault.at t.0) tokens
+    (λ t k. (
+      k.1,
+      subst (λ m. breaks_at fault.rule m ≡ true) (sym k.0) found.2,
+      subst (λ m. IsWrong calls is fault.rule fault.at m) (sym k.0) found.3,
+    )) (found.1).token
 
-pub fault_at : (calls : List Call) (free : ℕ) (tokens : Tokens) (is : List Item) (fault : Fault) → Derives free tokens is → module_typed calls is ≡ Err fault → IsFaultOf tokens fault
-fault_at calls free tokens is fault d h = any_map (λ (t : Meaning × Place). (t.1.at ≡ fault.at) × (breaks_at fault.rule t.0 ≡ true) × IsWrong calls is fault.rule fault.at t.0) (λ (t : Meaning × Place). (t.1.at ≡ fault.at) × (breaks_at fault.rule t.0 ≡ true)) tokens (λ t k. (k.0, k.1)) (fault_broken calls free tokens is fault d h)
+pub fault_at : (calls : List Call) (free : ℕ) (tokens : Tokens) (is : List Item) (fault : Fault)
+    → Derives free tokens is → module_typed calls is ≡ Err fault → IsFaultOf tokens fault
+fault_at calls free tokens is fault d h =
+    any_map (λ (t : Meaning × Place). (t.1.at ≡ fault.at) × (breaks_at fault.rule t.0 ≡ true)
+    × IsWrong calls is fault.rule fault.at t.0)
+    (λ (t : Meaning × Place). (t.1.at ≡ fault.at) × (breaks_at fault.rule t.0 ≡ true)) tokens
+    (λ t k. (k.0, k.1)) (fault_broken calls free tokens is fault d h)
 
-pub fault_token : (calls : List Call) (free : ℕ) (tokens : Tokens) (is : List Item) (fault : Fault) → Derives free tokens is → module_typed calls is ≡ Err fault → IsTokenOf tokens fault.at
-fault_token calls free tokens is fault d h = any_map (λ (t : Meaning × Place). (t.1.at ≡ fault.at) × (breaks_at fault.rule t.0 ≡ true)) (λ (t : Meaning × Place). t.1.at ≡ fault.at) tokens (λ t k. k.0) (fault_at calls free tokens is fault d h)
+pub fault_token : (calls : List Call) (free : ℕ) (tokens : Tokens) (is : List Item) (fault : Fault)
+    → Derives free tokens is → module_typed calls is ≡ Err fault → IsTokenOf tokens fault.at
+fault_token calls free tokens is fault d h =
+    any_map (λ (t : Meaning × Place). (t.1.at ≡ fault.at) × (breaks_at fault.rule t.0 ≡ true))
+    (λ (t : Meaning × Place). t.1.at ≡ fault.at) tokens (λ t k. k.0) (fault_at calls free tokens is fault d h)

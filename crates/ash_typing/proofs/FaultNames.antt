@@ -1,13 +1,14 @@
--- The names that are taken where a phrase stands, and those behind it.
+-- The names that are taken where a phrase is, and those after it.
 use Rattle.std.proofs.Common.{◌≡◌, ℕ, suc, ◌+◌, ◌-◌, List, [], ◌∷◌, ◌++◌, map, length, refl, sym, ◌∙◌, ap, arith}
 use Rattle.std.proofs.lemmas.List.{append_assoc, append-nil, length-append, length-map}
 use Rattle.ash_registrations.specs.Calls.{Call}
 use Rattle.ash_tree.specs.Tree as written
 use Rattle.ash_typing.specs.Items.{Names}
-use Rattle.ash_tree.specs.Items.{classes_of, interfaces_of, globals_of, decl_name, names_of, variable_names, member_names, item_names}
+use Rattle.ash_tree.specs.Items.{classes_of, interfaces_of, globals_of, decl_name, names_of, variable_names}
+use Rattle.ash_tree.specs.Items.{member_names, item_names}
 use Rattle.ash_typing.specs.TypedModules.{signature_name, listed_name}
 use Rattle.ash_typing.proofs.TakenNames.{names_with, same_names}
-use Rattle.ash_typing.specs.Phrases.{names_behind, names_of_members, names_of_methods, names_listed, with_decl}
+use Rattle.ash_typing.specs.Phrases.{names_before, names_of_members, names_of_methods, names_listed, with_decl}
 
 -- a name more, that takes no room, and one that does
 
@@ -23,23 +24,32 @@ abbrev pub with_decls : Names → List written.Decl → Names
 with_decls n [] = n
 with_decls n (d ∷ ds) = with_decls (with_decl n d) ds
 
-decls_are : (n : Names) (ds : List written.Decl) → with_decls n ds ≡ names_with n (n.taken ++ map decl_name ds) (n.room - length ds)
+decls_are : (n : Names) (ds : List written.Decl)
+    → with_decls n ds ≡ names_with n (n.taken ++ map decl_name ds) (n.room - length ds)
 decls_are n [] = same_names n n.taken (n.taken ++ []) n.room (n.room - 0) (sym (append-nil n.taken)) (omega arith)
-decls_are n (d ∷ ds) = decls_are (with_decl n d) ds ∙ same_names n ((n.taken ++ d.name ∷ []) ++ map decl_name ds) (n.taken ++ (d.name ∷ map decl_name ds)) (n.room - 1 - length ds) (n.room - suc (length ds)) (append_assoc n.taken (d.name ∷ []) (map decl_name ds)) (omega arith)
+decls_are n (d ∷ ds) =
+    decls_are (with_decl n d) ds
+    ∙ same_names n ((n.taken ++ d.name ∷ []) ++ map decl_name ds) (n.taken ++ (d.name ∷ map decl_name ds))
+    (n.room - 1 - length ds) (n.room - suc (length ds)) (append_assoc n.taken (d.name ∷ []) (map decl_name ds))
+    (omega arith)
 
 -- items
 
-items_named : (before : List written.Item) (i : written.Item) → item_names (before ++ i ∷ []) ≡ item_names before ++ item_names (i ∷ [])
+items_named : (before : List written.Item) (i : written.Item)
+    → item_names (before ++ i ∷ []) ≡ item_names before ++ item_names (i ∷ [])
 items_named [] i = refl
 items_named (written.AClass c ∷ is) i = ap (λ ns. c.name ∷ ns) (items_named is i)
 items_named (written.AnInterface x ∷ is) i = ap (λ ns. x.name ∷ ns) (items_named is i)
 items_named (written.AFunction f ∷ is) i = ap (λ ns. f.name ∷ ns) (items_named is i)
-items_named (written.AGlobal v ∷ is) i = ap (λ ns. names_of v ++ ns) (items_named is i) ∙ sym (append_assoc (names_of v) (item_names is) (item_names (i ∷ [])))
+items_named (written.AGlobal v ∷ is) i =
+    ap (λ ns. names_of v ++ ns) (items_named is i)
+    ∙ sym (append_assoc (names_of v) (item_names is) (item_names (i ∷ [])))
 
 abbrev pub globals_in : List written.Item → ℕ
 globals_in is = length (variable_names (globals_of is))
 
-globals_counted : (before : List written.Item) (i : written.Item) → globals_in (before ++ i ∷ []) ≡ globals_in before + globals_in (i ∷ [])
+globals_counted : (before : List written.Item) (i : written.Item)
+    → globals_in (before ++ i ∷ []) ≡ globals_in before + globals_in (i ∷ [])
 globals_counted [] i = omega arith
 globals_counted (written.AClass c ∷ is) i = globals_counted is i
 globals_counted (written.AnInterface x ∷ is) i = globals_counted is i
@@ -50,29 +60,45 @@ globals_counted (written.AGlobal v ∷ is) i =
     let rest = globals_counted is i in
     omega arith
 
--- what is taken behind an item of these names, of which so many are variables
-behind : (calls : List Call) (before : List written.Item) (i : written.Item) (names : List (List ℕ)) (count : ℕ) → item_names (i ∷ []) ≡ names → globals_in (i ∷ []) ≡ count → names_with (names_behind calls before) (item_names before ++ names) (256 - globals_in before - count) ≡ names_behind calls (before ++ i ∷ [])
-behind calls before i names count e k =
+-- what is taken after an item of these names, of which so many are variables
+after_item : (calls : List Call) (before : List written.Item) (i : written.Item) (names : List (List ℕ)) (count : ℕ)
+    → item_names (i ∷ []) ≡ names → globals_in (i ∷ []) ≡ count
+    → names_with (names_before calls before) (item_names before ++ names) (256 - globals_in before - count)
+    ≡ names_before calls (before ++ i ∷ [])
+after_item calls before i names count e k =
     let counted = globals_counted before i in
-    same_names (names_behind calls before) (item_names before ++ names) (item_names (before ++ i ∷ [])) (256 - globals_in before - count) (256 - globals_in (before ++ i ∷ [])) (ap (λ ns. item_names before ++ ns) (sym e) ∙ sym (items_named before i)) (omega arith)
+    same_names (names_before calls before) (item_names before ++ names) (item_names (before ++ i ∷ []))
+    (256 - globals_in before - count) (256 - globals_in (before ++ i ∷ []))
+    (ap (λ ns. item_names before ++ ns) (sym e) ∙ sym (items_named before i)) (omega arith)
 
--- behind an item that declares one name, and no variable
-pub behind_item : (calls : List Call) (before : List written.Item) (i : written.Item) (text : List ℕ) → item_names (i ∷ []) ≡ text ∷ [] → globals_in (i ∷ []) ≡ 0 → with_name (names_behind calls before) text ≡ names_behind calls (before ++ i ∷ [])
-behind_item calls before i text e k = same_names (names_behind calls before) (item_names before ++ text ∷ []) (item_names before ++ text ∷ []) (256 - globals_in before) (256 - globals_in before - 0) refl (omega arith) ∙ behind calls before i (text ∷ []) 0 e k
+-- after an item that declares one name, and no variable
+pub names_after_item : (calls : List Call) (before : List written.Item) (i : written.Item) (text : List ℕ)
+    → item_names (i ∷ []) ≡ text ∷ [] → globals_in (i ∷ []) ≡ 0
+    → with_name (names_before calls before) text ≡ names_before calls (before ++ i ∷ [])
+names_after_item calls before i text e k =
+    same_names (names_before calls before) (item_names before ++ text ∷ []) (item_names before ++ text ∷ [])
+    (256 - globals_in before) (256 - globals_in before - 0) refl (omega arith)
+    ∙ after_item calls before i (text ∷ []) 0 e k
 
-pub behind_globals : (calls : List Call) (before : List written.Item) (v : written.Vars) → with_decls (names_behind calls before) v.decls ≡ names_behind calls (before ++ written.AGlobal v ∷ [])
-behind_globals calls before v = decls_are (names_behind calls before) v.decls ∙ behind calls before (written.AGlobal v) (names_of v) (length v.decls) (append-nil (names_of v)) (ap length (append-nil (names_of v)) ∙ length-map v.decls decl_name)
+pub names_after_globals : (calls : List Call) (before : List written.Item) (v : written.Vars)
+    → with_decls (names_before calls before) v.decls ≡ names_before calls (before ++ written.AGlobal v ∷ [])
+names_after_globals calls before v =
+    decls_are (names_before calls before) v.decls
+    ∙ after_item calls before (written.AGlobal v) (names_of v) (length v.decls) (append-nil (names_of v))
+    (ap length (append-nil (names_of v)) ∙ length-map v.decls decl_name)
 
 -- classes and interfaces
 
-pub classes_counted : (before : List written.Item) (i : written.Item) → length (classes_of (before ++ i ∷ [])) ≡ length (classes_of before) + length (classes_of (i ∷ []))
+pub classes_counted : (before : List written.Item) (i : written.Item)
+    → length (classes_of (before ++ i ∷ [])) ≡ length (classes_of before) + length (classes_of (i ∷ []))
 classes_counted [] i = omega arith
 classes_counted (written.AClass c ∷ is) i = let rest = classes_counted is i in omega arith
 classes_counted (written.AnInterface x ∷ is) i = classes_counted is i
 classes_counted (written.AFunction f ∷ is) i = classes_counted is i
 classes_counted (written.AGlobal v ∷ is) i = classes_counted is i
 
-pub interfaces_counted : (before : List written.Item) (i : written.Item) → length (interfaces_of (before ++ i ∷ [])) ≡ length (interfaces_of before) + length (interfaces_of (i ∷ []))
+pub interfaces_counted : (before : List written.Item) (i : written.Item)
+    → length (interfaces_of (before ++ i ∷ [])) ≡ length (interfaces_of before) + length (interfaces_of (i ∷ []))
 interfaces_counted [] i = omega arith
 interfaces_counted (written.AnInterface x ∷ is) i = let rest = interfaces_counted is i in omega arith
 interfaces_counted (written.AClass c ∷ is) i = interfaces_counted is i
@@ -81,31 +107,49 @@ interfaces_counted (written.AGlobal v ∷ is) i = interfaces_counted is i
 
 -- members
 
-members_named : (before : List written.Member) (m : written.Member) → member_names (before ++ m ∷ []) ≡ member_names before ++ member_names (m ∷ [])
+members_named : (before : List written.Member) (m : written.Member)
+    → member_names (before ++ m ∷ []) ≡ member_names before ++ member_names (m ∷ [])
 members_named [] m = refl
 members_named (written.AMethod f ∷ ms) m = ap (λ ns. f.name ∷ ns) (members_named ms m)
 members_named (written.AConstructor c ∷ ms) m = members_named ms m
-members_named (written.AField v ∷ ms) m = ap (λ ns. names_of v ++ ns) (members_named ms m) ∙ sym (append_assoc (names_of v) (member_names ms) (member_names (m ∷ [])))
+members_named (written.AField v ∷ ms) m =
+    ap (λ ns. names_of v ++ ns) (members_named ms m)
+    ∙ sym (append_assoc (names_of v) (member_names ms) (member_names (m ∷ [])))
 
-behind_names : (before : List written.Member) (m : written.Member) (names : List (List ℕ)) → member_names (m ∷ []) ≡ names → names_with (names_of_members before) (member_names before ++ names) (32 - length (member_names before) - length names) ≡ names_of_members (before ++ m ∷ [])
-behind_names before m names e =
-    let same : member_names before ++ names ≡ member_names (before ++ m ∷ []) = ap (λ ns. member_names before ++ ns) (sym e) ∙ sym (members_named before m) in
+names_after_member : (before : List written.Member) (m : written.Member) (names : List (List ℕ))
+    → member_names (m ∷ []) ≡ names
+    → names_with (names_of_members before) (member_names before ++ names)
+    (32 - length (member_names before) - length names) ≡ names_of_members (before ++ m ∷ [])
+names_after_member before m names e =
+    let same : member_names before ++ names ≡ member_names (before ++ m ∷ []) =
+    ap (λ ns. member_names before ++ ns) (sym e) ∙ sym (members_named before m) in
     let counted = length-append (member_names before) names in
     let count : length (member_names before ++ names) ≡ length (member_names (before ++ m ∷ [])) = ap length same in
-    same_names (names_of_members before) (member_names before ++ names) (member_names (before ++ m ∷ [])) (32 - length (member_names before) - length names) (32 - length (member_names (before ++ m ∷ []))) same (omega arith)
+    same_names (names_of_members before) (member_names before ++ names) (member_names (before ++ m ∷ []))
+    (32 - length (member_names before) - length names) (32 - length (member_names (before ++ m ∷ []))) same
+    (omega arith)
 
-pub behind_method : (before : List written.Member) (f : written.Function) → with_one (names_of_members before) f.name ≡ names_of_members (before ++ written.AMethod f ∷ [])
-behind_method before f = behind_names before (written.AMethod f) (f.name ∷ []) refl
+pub names_after_method : (before : List written.Member) (f : written.Function)
+    → with_one (names_of_members before) f.name ≡ names_of_members (before ++ written.AMethod f ∷ [])
+names_after_method before f = names_after_member before (written.AMethod f) (f.name ∷ []) refl
 
-pub behind_fields : (before : List written.Member) (v : written.Vars) → with_decls (names_of_members before) v.decls ≡ names_of_members (before ++ written.AField v ∷ [])
-behind_fields before v =
+pub names_after_fields : (before : List written.Member) (v : written.Vars)
+    → with_decls (names_of_members before) v.decls ≡ names_of_members (before ++ written.AField v ∷ [])
+names_after_fields before v =
     let count = length-map v.decls decl_name in
-    decls_are (names_of_members before) v.decls ∙ same_names (names_of_members before) (member_names before ++ names_of v) (member_names before ++ names_of v) (32 - length (member_names before) - length v.decls) (32 - length (member_names before) - length (names_of v)) refl (omega arith) ∙ behind_names before (written.AField v) (names_of v) (append-nil (names_of v))
+    decls_are (names_of_members before) v.decls
+    ∙ same_names (names_of_members before) (member_names before ++ names_of v) (member_names before ++ names_of v)
+    (32 - length (member_names before) - length v.decls) (32 - length (member_names before) - length (names_of v))
+    refl (omega arith) ∙ names_after_member before (written.AField v) (names_of v) (append-nil (names_of v))
 
-pub behind_constructor : (before : List written.Member) (c : written.Constructor) → names_of_members before ≡ names_of_members (before ++ written.AConstructor c ∷ [])
-behind_constructor before c =
-    let same : member_names before ≡ member_names (before ++ written.AConstructor c ∷ []) = sym (members_named before (written.AConstructor c) ∙ append-nil (member_names before)) in
-    same_names (names_of_members before) (member_names before) (member_names (before ++ written.AConstructor c ∷ [])) (32 - length (member_names before)) (32 - length (member_names (before ++ written.AConstructor c ∷ []))) same (ap (λ ns. 32 - length ns) same)
+pub names_after_constructor : (before : List written.Member) (c : written.Constructor)
+    → names_of_members before ≡ names_of_members (before ++ written.AConstructor c ∷ [])
+names_after_constructor before c =
+    let same : member_names before ≡ member_names (before ++ written.AConstructor c ∷ []) =
+    sym (members_named before (written.AConstructor c) ∙ append-nil (member_names before)) in
+    same_names (names_of_members before) (member_names before) (member_names (before ++ written.AConstructor c ∷ []))
+    (32 - length (member_names before)) (32 - length (member_names (before ++ written.AConstructor c ∷ []))) same
+    (ap (λ ns. 32 - length ns) same)
 
 -- methods of an interface, and interfaces that a class lists
 
@@ -113,10 +157,16 @@ mapped : {A : Type 0} (f : A → List ℕ) (xs : List A) (x : A) → map f xs ++
 mapped f [] x = refl
 mapped f (y ∷ ys) x = ap (λ ns. f y ∷ ns) (mapped f ys x)
 
-pub behind_signature : (before : List written.InterfaceMethod) (m : written.InterfaceMethod) → with_one (names_of_methods before) m.name ≡ names_of_methods (before ++ m ∷ [])
-behind_signature before m =
+pub names_after_signature : (before : List written.InterfaceMethod) (m : written.InterfaceMethod)
+    → with_one (names_of_methods before) m.name ≡ names_of_methods (before ++ m ∷ [])
+names_after_signature before m =
     let counted = length-append before (m ∷ []) in
-    same_names (names_of_methods before) (map signature_name before ++ m.name ∷ []) (map signature_name (before ++ m ∷ [])) (32 - length before - 1) (32 - length (before ++ m ∷ [])) (mapped signature_name before m) (omega arith)
+    same_names (names_of_methods before) (map signature_name before ++ m.name ∷ [])
+    (map signature_name (before ++ m ∷ [])) (32 - length before - 1) (32 - length (before ++ m ∷ []))
+    (mapped signature_name before m) (omega arith)
 
-pub behind_listed : (before : List written.TypeName) (n : written.TypeName) → with_name (names_listed before) n.name ≡ names_listed (before ++ n ∷ [])
-behind_listed before n = same_names (names_listed before) (map listed_name before ++ n.name ∷ []) (map listed_name (before ++ n ∷ [])) 0 0 (mapped listed_name before n) refl
+pub names_after_listed : (before : List written.TypeName) (n : written.TypeName)
+    → with_name (names_listed before) n.name ≡ names_listed (before ++ n ∷ [])
+names_after_listed before n =
+    same_names (names_listed before) (map listed_name before ++ n.name ∷ []) (map listed_name (before ++ n ∷ [])) 0 0
+    (mapped listed_name before n) refl

@@ -5,17 +5,29 @@ use Rattle.ash_tree.specs.Tree as written
 use Rattle.ash_typing.specs.Environment.{Environment}
 use Rattle.ash_typing.specs.Heads.{heads}
 use Rattle.ash_typing.specs.Scopes.{Scope, block_of, behind}
-use Rattle.ash_typing.specs.Phrases.{Phrase, environment_of, Stands, call_arguments, converted, array_arguments, cast, before_suffixes, first_operand, condition, otherwise, value, argument, other_arguments, linked, other_links, method_arguments, index, other_suffixes, initial_value, initial_arguments, local, other_locals, locals, evaluated, block, if_condition, if_body, else_condition, then_body, else_body, while_condition, while_body, do_condition, do_body, for_head, for_condition, for_steps, for_body, switch_value, statement, other_statements, labelled, other_cases, parameters, other_parameters, other_variables, method_parameters, other_methods, other_interfaces, fields, other_members, items, other_items, interfaces, methods, function, globals, in_brackets, suffixes, operand, links, chosen, target, cases, returned, body, variable, method, constructor, members}
+use Rattle.ash_typing.specs.Phrases.{Phrase, environment_of, Occurs, call_arguments, converted, array_arguments, cast}
+use Rattle.ash_typing.specs.Phrases.{before_suffixes, first_operand, condition, otherwise, value, argument}
+use Rattle.ash_typing.specs.Phrases.{other_arguments, linked, other_links, method_arguments, index, other_suffixes}
+use Rattle.ash_typing.specs.Phrases.{initial_value, initial_arguments, local, other_locals, locals, evaluated, block}
+use Rattle.ash_typing.specs.Phrases.{if_condition, if_body, else_condition, then_body, else_body, while_condition}
+use Rattle.ash_typing.specs.Phrases.{while_body, do_condition, do_body, for_head, for_condition, for_steps, for_body}
+use Rattle.ash_typing.specs.Phrases.{switch_value, statement, other_statements, labelled, other_cases, parameters}
+use Rattle.ash_typing.specs.Phrases.{other_parameters, other_variables, method_parameters, other_methods}
+use Rattle.ash_typing.specs.Phrases.{other_interfaces, fields, other_members, items, other_items, interfaces, methods}
+use Rattle.ash_typing.specs.Phrases.{function, globals, in_brackets, suffixes, operand, links, chosen, target, cases}
+use Rattle.ash_typing.specs.Phrases.{returned, body, variable, method, constructor, members}
 
 abbrev pub Sees : List Call → List written.Item → Environment → Type 0
 Sees calls is env = (env.heads ≡ heads calls is) × (env.registered ≡ calls)
 
--- a statement changes only the locals that are seen behind it
-behind_sees : (calls : List Call) (is : List written.Item) (scope : Scope) (s : written.Stmt) → Sees calls is scope.env → Sees calls is (behind scope s).env
-behind_sees calls is scope (written.Declare p v) h = h
-behind_sees calls is scope _ h = h
+-- a statement changes only the locals that are seen after it
+seen_after : (calls : List Call) (is : List written.Item) (scope : Scope) (s : written.Stmt) → Sees calls is scope.env
+    → Sees calls is (behind scope s).env
+seen_after calls is scope (written.Declare p v) h = h
+seen_after calls is scope _ h = h
 
-pub sees : {calls : List Call} {is : List written.Item} {x : Phrase} → Stands calls is x → Sees calls is (environment_of x)
+pub sees : {calls : List Call} {is : List written.Item} {x : Phrase} → Occurs calls is x
+    → Sees calls is (environment_of x)
 sees (call_arguments r) = sees r
 sees (in_brackets r) = sees r
 sees (converted r) = sees r
@@ -55,14 +67,14 @@ sees (while_body r) = sees r
 sees (do_condition r) = sees r
 sees (do_body r) = sees r
 sees (for_head r) = sees r
-sees {calls} {is} (for_condition {scope = scope} {f = f} r) = behind_sees calls is (block_of scope) f (sees r)
-sees {calls} {is} (for_steps {scope = scope} {f = f} r) = behind_sees calls is (block_of scope) f (sees r)
-sees {calls} {is} (for_body {scope = scope} {f = f} r) = behind_sees calls is (block_of scope) f (sees r)
+sees {calls} {is} (for_condition {scope = scope} {f = f} r) = seen_after calls is (block_of scope) f (sees r)
+sees {calls} {is} (for_steps {scope = scope} {f = f} r) = seen_after calls is (block_of scope) f (sees r)
+sees {calls} {is} (for_body {scope = scope} {f = f} r) = seen_after calls is (block_of scope) f (sees r)
 sees (switch_value r) = sees r
 sees (cases r e) = sees r
 sees (returned r) = sees r
 sees (statement r) = sees r
-sees {calls} {is} (other_statements {scope = scope} {s = s} r) = behind_sees calls is scope s (sees r)
+sees {calls} {is} (other_statements {scope = scope} {s = s} r) = seen_after calls is scope s (sees r)
 sees (labelled r) = sees r
 sees (other_cases r) = sees r
 sees (parameters r) = sees r

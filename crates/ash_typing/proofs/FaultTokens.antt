@@ -55,12 +55,14 @@ abbrev mutual
   ExprIn script (written.Call p text es) = HasToken script (name text) p.at × ExprsIn script es
   ExprIn script (written.Brackets p e) = HasStart script p.at × ExprIn script e
   ExprIn script (written.Convert p to e) = HasStart script p.at × ExprIn script e
-  ExprIn script (written.NewArray p of es) = HasToken script (reserved words.Array) p.at × ElementIn script of × ExprsIn script es
+  ExprIn script (written.NewArray p of es) =
+      HasToken script (reserved words.Array) p.at × ElementIn script of × ExprsIn script es
   ExprIn script (written.Cast p to e) = HasStart script p.at × TypeNameIn script to × ExprIn script e
   ExprIn script (written.Postfix p e ss) = HasStart script p.at × ExprIn script e × SuffixesIn script ss
   ExprIn script (written.Unary p op e) = HasStart script p.at × ExprIn script e
   ExprIn script (written.Binary p e ls) = HasStart script p.at × ExprIn script e × LinksIn script ls
-  ExprIn script (written.Conditional p c a b) = HasStart script p.at × ExprIn script c × ExprIn script a × ExprIn script b
+  ExprIn script (written.Conditional p c a b) =
+      HasStart script p.at × ExprIn script c × ExprIn script a × ExprIn script b
   ExprIn script (written.Assign p e op v) = HasStart script p.at × ExprIn script e × ExprIn script v
 
   pub ExprsIn : Tokens → written.Exprs → Type 0
@@ -152,7 +154,9 @@ abbrev mutual
   StmtIn script (written.IfElse p c s t) = HasAny script p.at × ExprIn script c × StmtIn script s × StmtIn script t
   StmtIn script (written.While p c s) = HasAny script p.at × ExprIn script c × StmtIn script s
   StmtIn script (written.DoWhile p s c) = HasAny script p.at × StmtIn script s × ExprIn script c
-  StmtIn script (written.For p f c es s) = HasAny script p.at × IsHeadForm f × StmtIn script f × MaybeIn script c × ExprsIn script (written.exprs es) × StmtIn script s
+  StmtIn script (written.For p f c es s) =
+      HasAny script p.at × IsHeadForm f × StmtIn script f × MaybeIn script c × ExprsIn script (written.exprs es)
+      × StmtIn script s
   StmtIn script (written.Switch p e cs) = HasAny script p.at × ExprIn script e × CasesIn script cs
   StmtIn script (written.Break p) = HasToken script (reserved words.Break) p.at
   StmtIn script (written.Continue p) = HasToken script (reserved words.Continue) p.at
@@ -180,7 +184,9 @@ ResultIn script (Some of) = NamedIn script of
 
 -- what is written after a result
 abbrev pub RoutineIn : Tokens → Place → List ℕ → List written.Parameter → List written.Stmt → Type 0
-RoutineIn script p text parameters body = HasToken script (name text) p.at × AllByRecursion (ParameterIn script) parameters × StmtsIn script (written.stmts body)
+RoutineIn script p text parameters body =
+    HasToken script (name text) p.at × AllByRecursion (ParameterIn script) parameters
+    × StmtsIn script (written.stmts body)
 
 abbrev pub FunctionIn : Tokens → written.Function → Type 0
 FunctionIn script f = ResultIn script f.result × RoutineIn script f.place f.name f.parameters f.body
@@ -191,10 +197,14 @@ MemberIn script (written.AField v) = VarsIn script v
 MemberIn script (written.AConstructor c) = RoutineIn script c.place c.name c.parameters c.body
 
 abbrev pub ClassIn : Tokens → written.Class → Type 0
-ClassIn script c = HasToken script (name c.name) c.place.at × AllByRecursion (TypeNameIn script) c.interfaces × AllByRecursion (MemberIn script) c.members
+ClassIn script c =
+    HasToken script (name c.name) c.place.at × AllByRecursion (TypeNameIn script) c.interfaces
+    × AllByRecursion (MemberIn script) c.members
 
 abbrev pub InterfaceMethodIn : Tokens → written.InterfaceMethod → Type 0
-InterfaceMethodIn script m = ResultIn script m.result × HasToken script (name m.name) m.place.at × AllByRecursion (ParameterIn script) m.parameters
+InterfaceMethodIn script m =
+    ResultIn script m.result × HasToken script (name m.name) m.place.at
+    × AllByRecursion (ParameterIn script) m.parameters
 
 abbrev pub InterfaceIn : Tokens → written.Interface → Type 0
 InterfaceIn script i = HasToken script (name i.name) i.place.at × AllByRecursion (InterfaceMethodIn script) i.methods

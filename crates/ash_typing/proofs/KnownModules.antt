@@ -1,21 +1,33 @@
 -- The types that a typed module names are known, so that what each of its items sees is known.
-use Rattle.std.proofs.Common.{◌≡◌, ◌+◌, ℕ, Bool, true, false, cond, List, [], ◌∷◌, map, Option, Some, None, option_map, option_and_then, Ok, refl, ap, subst}
+use Rattle.std.proofs.Common.{◌≡◌, ◌+◌, ℕ, Bool, true, false, cond, List, [], ◌∷◌, map, Option, Some, None, option_map}
+use Rattle.std.proofs.Common.{option_and_then, Ok, refl, ap, subst}
 use mathlib.Core.Path.{fun_ext}
 use Rattle.std.specs.Str.{bytes_eq}
 use Rattle.std.specs.List.{AllByRecursion, AllZip, IsDistinct}
 use Rattle.ash_registrations.specs.Calls as host
 use Rattle.ash_tree.specs.Tree as written
 use Rattle.ash_typed.specs.declared.types.ObjectType.{ObjectType}
-use Rattle.ash_typed.specs.declared.types.ObjectType.TheVariants.{Class as OfClass, Interface as OfInterface, Array as OfArray}
+use Rattle.ash_typed.specs.declared.types.ObjectType.TheVariants.{Class as OfClass, Interface as OfInterface}
+use Rattle.ash_typed.specs.declared.types.ObjectType.TheVariants.{Array as OfArray}
 use Rattle.ash_typing.specs.declared.types.Ty.{Ty}
 use Rattle.ash_typing.specs.declared.types.Ty.TheVariants as ty
-use Rattle.ash_typing.specs.Environment.{Environment, Heads, Interface, Class, first_from, is_class, is_interface_named, inside}
-use Rattle.ash_typing.specs.Heads.{object_named, element_by, element_named, array_named, object_ty, handle_ty, ty_named, result_named, variables, parameter_ty, function_head, signature_head, names_in, heads, ty_in, interface_head, class_head, named_interface, named_class, all_variables, constructed_by}
+use Rattle.ash_typing.specs.Environment.{Environment, Heads, Interface, Class, first_from, is_class, is_interface_named}
+use Rattle.ash_typing.specs.Environment.{inside}
+use Rattle.ash_typing.specs.Heads.{object_named, element_by, element_named, array_named, object_ty, handle_ty, ty_named}
+use Rattle.ash_typing.specs.Heads.{result_named, variables, parameter_ty, function_head, signature_head, names_in}
+use Rattle.ash_typing.specs.Heads.{heads, ty_in, interface_head, class_head, named_interface, named_class}
+use Rattle.ash_typing.specs.Heads.{all_variables, constructed_by}
 use Rattle.ash_typing.specs.Declarations.{Initialization, known_ty}
-use Rattle.ash_typing.specs.Typing.{IsKnown, IsVariableType, IsResultType, IsKnownVariable, IsKnownFunction, IsKnownInterface, IsKnownClass}
+use Rattle.ash_typing.specs.Typing.{IsKnown, IsVariableType, IsResultType, IsKnownVariable, IsKnownFunction}
+use Rattle.ash_typing.specs.Typing.{IsKnownInterface, IsKnownClass}
 use Rattle.ash_typed.specs.Modules as modules
-use Rattle.ash_typing.specs.Items.{Names, Row, vars_typed, result_typed, parameters_typed, routine_typed, placed, untaken, Members, constructor_named, member_typed, members_typed, no_members, all_listed, none_listed, class_typed, interface_typed, room_for_type, Walked, item_typed, items_typed}
-use Rattle.ash_typing.specs.TypedModules.{IsPassedParameter, IsResult, AreVariables, AreFields, IsRoutine, IsFunction, IsSignature, IsInterface, AreInterfaces, HasConstructor, IsClass, AreClasses, environment}
+use Rattle.ash_typing.specs.Items.{Names, Row, vars_typed, result_typed, parameters_typed, routine_typed, placed}
+use Rattle.ash_typing.specs.Items.{untaken, Members, constructor_named, member_typed, members_typed, no_members}
+use Rattle.ash_typing.specs.Items.{all_listed, none_listed, class_typed, interface_typed, room_for_type, Walked}
+use Rattle.ash_typing.specs.Items.{item_typed, items_typed}
+use Rattle.ash_typing.specs.TypedModules.{IsPassedParameter, IsResult, AreVariables, AreFields, IsRoutine, IsFunction}
+use Rattle.ash_typing.specs.TypedModules.{IsSignature, IsInterface, AreInterfaces, HasConstructor, IsClass, AreClasses}
+use Rattle.ash_typing.specs.TypedModules.{environment}
 use Rattle.ash_typing.proofs.Bindings.{bind_ok}
 use Rattle.ash_typing.proofs.TakenNames.{all_append}
 use Rattle.ash_typing.proofs.StatementsSound.{decls_known}
@@ -24,7 +36,8 @@ use Rattle.ash_typing.proofs.TypedVariables.{known_sound}
 use Rattle.ash_typing.proofs.TypedRoutines.{passed_variable, parameters_sound, result_sound}
 use Rattle.ash_typing.proofs.TypedInterfaces.{interface_sound}
 use Rattle.ash_typing.proofs.TypedClasses.{named_sound}
-use Rattle.ash_tree.specs.Items.{Routine, routine_of, constructing, classes_of, interfaces_of, classes_before, functions_of, globals_of, fields_of, methods_of, constructors_of}
+use Rattle.ash_tree.specs.Items.{Routine, routine_of, constructing, classes_of, interfaces_of, classes_before}
+use Rattle.ash_tree.specs.Items.{functions_of, globals_of, fields_of, methods_of, constructors_of}
 
 -- the types that are named, by what is looked up
 
@@ -45,7 +58,9 @@ abbrev KnownConstructor : (written.Named → Ty) → written.Constructor → Typ
 KnownConstructor look c = AllByRecursion (KnownParameter look) c.parameters
 
 abbrev KnownMembers : (written.Named → Ty) → List written.Member → Type 0
-KnownMembers look ms = AllByRecursion (KnownVars look) (fields_of ms) × AllByRecursion (KnownFunction look) (methods_of ms) × AllByRecursion (KnownConstructor look) (constructors_of ms)
+KnownMembers look ms =
+    AllByRecursion (KnownVars look) (fields_of ms) × AllByRecursion (KnownFunction look) (methods_of ms)
+    × AllByRecursion (KnownConstructor look) (constructors_of ms)
 
 abbrev KnownSignature : (written.Named → Ty) → written.InterfaceMethod → Type 0
 KnownSignature look m = KnownResult look m.result × AllByRecursion (KnownParameter look) m.parameters
@@ -57,22 +72,27 @@ abbrev KnownClass : (written.Named → Ty) → written.Class → Type 0
 KnownClass look c = KnownMembers look c.members
 
 abbrev pub KnownItems : (written.Named → Ty) → List written.Item → Type 0
-KnownItems look is = AllByRecursion (KnownInterface look) (interfaces_of is) × AllByRecursion (KnownClass look) (classes_of is) × AllByRecursion (KnownFunction look) (functions_of is) × AllByRecursion (KnownVars look) (globals_of is)
+KnownItems look is =
+    AllByRecursion (KnownInterface look) (interfaces_of is) × AllByRecursion (KnownClass look) (classes_of is)
+    × AllByRecursion (KnownFunction look) (functions_of is) × AllByRecursion (KnownVars look) (globals_of is)
 
 -- of what the walk takes, and of what has a typed tree by the rules
 
-zip_known : {A B : Type 0} (R : A → B → Type 0) (P : A → Type 0) → ((x : A) (y : B) → R x y → P x) → (xs : List A) (ys : List B) → AllZip R xs ys → AllByRecursion P xs
+zip_known : {A B : Type 0} (R : A → B → Type 0) (P : A → Type 0) → ((x : A) (y : B) → R x y → P x)
+    → (xs : List A) (ys : List B) → AllZip R xs ys → AllByRecursion P xs
 zip_known R P one [] ys h = tt
 zip_known R P one (x ∷ xs) [] h = absurd h
 zip_known R P one (x ∷ xs) (y ∷ ys) h = (one x y h.0, zip_known R P one xs ys h.1)
 
-vars_known : (env : Environment) (names : Names) (v : written.Vars) (after : Row) → vars_typed env names v ≡ Ok after → KnownVars (ty_in env) v
+vars_known : (env : Environment) (names : Names) (v : written.Vars) (after : Row) → vars_typed env names v ≡ Ok after
+    → KnownVars (ty_in env) v
 unfolding vars_typed
 vars_known env names v after h =
     let k = bind_ok (known_ty v.of (ty_in env v.of)) _ after h in
     (known_sound env v.of v.of k.0 k.1).0
 
-passed_are_known : (env : Environment) (ps : List written.Parameter) → AllByRecursion (IsPassedParameter env) ps → AllByRecursion (KnownParameter (ty_in env)) ps
+passed_are_known : (env : Environment) (ps : List written.Parameter) → AllByRecursion (IsPassedParameter env) ps
+    → AllByRecursion (KnownParameter (ty_in env)) ps
 passed_are_known env [] h = tt
 passed_are_known env (p ∷ ps) h = (passed_variable (ty_in env p.of) h.0, passed_are_known env ps h.1)
 
@@ -80,17 +100,21 @@ result_is_known : (env : Environment) (of : Option written.Named) → IsResult e
 result_is_known env None h = tt
 result_is_known env (Some of) h = passed_variable (ty_in env of) h
 
-routine_known : (env : Environment) (of : Ty) (r : Routine) (t : modules.Function) → routine_typed env of r ≡ Ok t → AllByRecursion (KnownParameter (ty_in env)) r.parameters
+routine_known : (env : Environment) (of : Ty) (r : Routine) (t : modules.Function) → routine_typed env of r ≡ Ok t
+    → AllByRecursion (KnownParameter (ty_in env)) r.parameters
 unfolding routine_typed IsDistinct
 routine_known env of r t h =
     let p = bind_ok (parameters_typed env [] r.parameters) _ t h in
     let s = parameters_sound env r.parameters [] p.0 tt p.1 in
     passed_are_known env r.parameters s.passed
 
-function_known : (env : Environment) (f : written.Function) (of : Ty) (t : modules.Function) → result_typed env f.result ≡ Ok of → routine_typed env of (routine_of f) ≡ Ok t → KnownFunction (ty_in env) f
-function_known env f of t h k = (result_is_known env f.result (result_sound env f.result of h).0, routine_known env of (routine_of f) t k)
+function_known : (env : Environment) (f : written.Function) (of : Ty) (t : modules.Function)
+    → result_typed env f.result ≡ Ok of → routine_typed env of (routine_of f) ≡ Ok t → KnownFunction (ty_in env) f
+function_known env f of t h k =
+    (result_is_known env f.result (result_sound env f.result of h).0, routine_known env of (routine_of f) t k)
 
-members_known : (env : Environment) (xs : List written.Member) (ms after : Members) → members_typed env ms xs ≡ Ok after → KnownMembers (ty_in env) xs
+members_known : (env : Environment) (xs : List written.Member) (ms after : Members) → members_typed env ms xs ≡ Ok after
+    → KnownMembers (ty_in env) xs
 unfolding member_typed
 members_known env [] ms after h = (tt, tt, tt)
 members_known env (written.AField v ∷ xs) ms after h =
@@ -110,23 +134,36 @@ members_known env (written.AConstructor c ∷ xs) ms after h =
     let n = bind_ok (constructor_named ms.class c) _ m.0 m.1 in
     let t = bind_ok (routine_typed env ty.Void n.0) _ m.0 n.2 in
     let g = named_sound ms.class c n.0 n.1 in
-    let go = members_known env xs m.0 after m.2 in
-    (go.0, go.1, (routine_known env ty.Void (constructing c) t.0 (subst (λ (r : Routine). routine_typed env ty.Void r ≡ Ok t.0) g.2 t.1), go.2))
+    let go = members_known env xs m.0 after m.2 in (
+      go.0,
+      go.1,
+      (
+        routine_known env ty.Void (constructing c) t.0
+            (subst (λ (r : Routine). routine_typed env ty.Void r ≡ Ok t.0) g.2 t.1),
+        go.2,
+      ),
+    )
 
-class_known : (env : Environment) (place : ℕ) (c : written.Class) (t : modules.Class) → class_typed env place c ≡ Ok t → KnownClass (ty_in env) c
+class_known : (env : Environment) (place : ℕ) (c : written.Class) (t : modules.Class) → class_typed env place c ≡ Ok t
+    → KnownClass (ty_in env) c
 unfolding class_typed
 class_known env place c t h =
     let l = bind_ok (all_listed env place none_listed c.interfaces) _ t h in
     let m = bind_ok (members_typed (inside env place) (no_members c l.0.interfaces) c.members) _ t l.2 in
     members_known (inside env place) c.members (no_members c l.0.interfaces) m.0 m.1
 
-signatures_known : (env : Environment) (ms : List written.InterfaceMethod) (ts : List modules.Signature) → AllZip (IsSignature env) ms ts → AllByRecursion (KnownSignature (ty_in env)) ms
-signatures_known env ms ts h = zip_known (IsSignature env) (KnownSignature (ty_in env)) (λ m t is. (result_is_known env m.result is.passed_result, passed_are_known env m.parameters is.passed)) ms ts h
+signatures_known : (env : Environment) (ms : List written.InterfaceMethod) (ts : List modules.Signature)
+    → AllZip (IsSignature env) ms ts → AllByRecursion (KnownSignature (ty_in env)) ms
+signatures_known env ms ts h =
+    zip_known (IsSignature env) (KnownSignature (ty_in env))
+    (λ m t is. (result_is_known env m.result is.passed_result, passed_are_known env m.parameters is.passed)) ms ts h
 
-interface_known : (env : Environment) (classes : ℕ) (i : written.Interface) (t : modules.Interface) → IsInterface env i classes t → KnownInterface (ty_in env) i
+interface_known : (env : Environment) (classes : ℕ) (i : written.Interface) (t : modules.Interface)
+    → IsInterface env i classes t → KnownInterface (ty_in env) i
 interface_known env classes i t is = signatures_known env i.methods t.methods is.methods
 
-pub items_known : (env : Environment) (is : List written.Item) (w after : Walked) → items_typed env w is ≡ Ok after → KnownItems (ty_in env) is
+pub items_known : (env : Environment) (is : List written.Item) (w after : Walked) → items_typed env w is ≡ Ok after
+    → KnownItems (ty_in env) is
 unfolding item_typed
 items_known env [] w after h = (tt, tt, tt, tt)
 items_known env (written.AClass c ∷ is) w after h =
@@ -158,78 +195,133 @@ items_known env (written.AGlobal v ∷ is) w after h =
 
 -- of all that has a typed tree by the rules
 
-rule_vars : (env : Environment) (vs : List written.Vars) (ts : List modules.Variables) → AllZip (AreVariables env) vs ts → AllByRecursion (KnownVars (ty_in env)) vs
+rule_vars : (env : Environment) (vs : List written.Vars) (ts : List modules.Variables) → AllZip (AreVariables env) vs ts
+    → AllByRecursion (KnownVars (ty_in env)) vs
 rule_vars env vs ts h = zip_known (AreVariables env) (KnownVars (ty_in env)) (λ v t is. is.variable) vs ts h
 
-rule_fields : (env : Environment) (vs : List written.Vars) (ts : List Initialization) → AreFields env vs ts → AllByRecursion (KnownVars (ty_in env)) vs
+rule_fields : (env : Environment) (vs : List written.Vars) (ts : List Initialization) → AreFields env vs ts
+    → AllByRecursion (KnownVars (ty_in env)) vs
 rule_fields env [] ts h = tt
 rule_fields env (v ∷ vs) ts h = (h.2, rule_fields env vs h.1 h.4)
 
-rule_routine : (env : Environment) (of : Ty) (r : Routine) (t : modules.Function) → IsRoutine env of r t → AllByRecursion (KnownParameter (ty_in env)) r.parameters
+rule_routine : (env : Environment) (of : Ty) (r : Routine) (t : modules.Function) → IsRoutine env of r t
+    → AllByRecursion (KnownParameter (ty_in env)) r.parameters
 rule_routine env of r t is = passed_are_known env r.parameters is.passed
 
-rule_functions : (env : Environment) (fs : List written.Function) (ts : List modules.Function) → AllZip (IsFunction env) fs ts → AllByRecursion (KnownFunction (ty_in env)) fs
-rule_functions env fs ts h = zip_known (IsFunction env) (KnownFunction (ty_in env)) (λ f t is. (result_is_known env f.result is.passed, rule_routine env _ (routine_of f) t is.routine)) fs ts h
+rule_functions : (env : Environment) (fs : List written.Function) (ts : List modules.Function)
+    → AllZip (IsFunction env) fs ts → AllByRecursion (KnownFunction (ty_in env)) fs
+rule_functions env fs ts h =
+    zip_known (IsFunction env) (KnownFunction (ty_in env))
+    (λ f t is. (result_is_known env f.result is.passed, rule_routine env _ (routine_of f) t is.routine)) fs ts h
 
-rule_constructors : (env : Environment) (class : List ℕ) (cs : List written.Constructor) (t : Option modules.Function) → HasConstructor env class cs t → AllByRecursion (KnownConstructor (ty_in env)) cs
+rule_constructors : (env : Environment) (class : List ℕ) (cs : List written.Constructor) (t : Option modules.Function)
+    → HasConstructor env class cs t → AllByRecursion (KnownConstructor (ty_in env)) cs
 rule_constructors env class [] t h = tt
 rule_constructors env class (c ∷ []) (Some t) h = (rule_routine env ty.Void (constructing c) t h.routine, tt)
 rule_constructors env class (c ∷ []) None h = absurd h
 rule_constructors env class (c ∷ (d ∷ cs)) t h = absurd h
 
-rule_class : (env : Environment) (place : ℕ) (c : written.Class) (t : modules.Class) → IsClass env place c t → KnownClass (ty_in env) c
-rule_class env place c t is = (rule_fields (inside env place) (fields_of c.members) t.fields is.fields, rule_functions (inside env place) (methods_of c.members) t.methods is.methods, rule_constructors (inside env place) c.name (constructors_of c.members) t.constructor is.constructor)
+rule_class : (env : Environment) (place : ℕ) (c : written.Class) (t : modules.Class) → IsClass env place c t
+    → KnownClass (ty_in env) c
+rule_class env place c t is = (
+  rule_fields (inside env place) (fields_of c.members) t.fields is.fields,
+  rule_functions (inside env place) (methods_of c.members) t.methods is.methods,
+  rule_constructors (inside env place) c.name (constructors_of c.members) t.constructor is.constructor,
+)
 
-rule_classes : (env : Environment) (place : ℕ) (cs : List written.Class) (ts : List modules.Class) → AreClasses env place cs ts → AllByRecursion (KnownClass (ty_in env)) cs
+rule_classes : (env : Environment) (place : ℕ) (cs : List written.Class) (ts : List modules.Class)
+    → AreClasses env place cs ts → AllByRecursion (KnownClass (ty_in env)) cs
 rule_classes env place [] ts h = tt
 rule_classes env place (c ∷ cs) [] h = absurd h
 rule_classes env place (c ∷ cs) (t ∷ ts) h = (rule_class env place c t h.0, rule_classes env (place + 1) cs ts h.1)
 
-rule_interfaces : (env : Environment) (is : List written.Interface) (ns : List ℕ) (ts : List modules.Interface) → AreInterfaces env is ns ts → AllByRecursion (KnownInterface (ty_in env)) is
+rule_interfaces : (env : Environment) (is : List written.Interface) (ns : List ℕ) (ts : List modules.Interface)
+    → AreInterfaces env is ns ts → AllByRecursion (KnownInterface (ty_in env)) is
 rule_interfaces env [] ns ts h = tt
 rule_interfaces env (i ∷ is) [] ts h = absurd h
 rule_interfaces env (i ∷ is) (n ∷ ns) [] h = absurd h
 rule_interfaces env (i ∷ is) (n ∷ ns) (t ∷ ts) h = (interface_known env n i t h.0, rule_interfaces env is ns ts h.1)
 
-pub rules_known : (env : Environment) (is : List written.Item) (m : modules.Module) → AreInterfaces env (interfaces_of is) (classes_before 0 is) m.interfaces → AreClasses env 0 (classes_of is) m.classes → AllZip (IsFunction env) (functions_of is) m.functions → AllZip (AreVariables env) (globals_of is) m.globals → KnownItems (ty_in env) is
-rules_known env is m ts cs fs vs = (rule_interfaces env (interfaces_of is) (classes_before 0 is) m.interfaces ts, rule_classes env 0 (classes_of is) m.classes cs, rule_functions env (functions_of is) m.functions fs, rule_vars env (globals_of is) m.globals vs)
+pub rules_known : (env : Environment) (is : List written.Item) (m : modules.Module)
+    → AreInterfaces env (interfaces_of is) (classes_before 0 is) m.interfaces
+    → AreClasses env 0 (classes_of is) m.classes → AllZip (IsFunction env) (functions_of is) m.functions
+    → AllZip (AreVariables env) (globals_of is) m.globals → KnownItems (ty_in env) is
+rules_known env is m ts cs fs vs = (
+  rule_interfaces env (interfaces_of is) (classes_before 0 is) m.interfaces ts,
+  rule_classes env 0 (classes_of is) m.classes cs,
+  rule_functions env (functions_of is) m.functions fs,
+  rule_vars env (globals_of is) m.globals vs,
+)
 
 -- what the items of a module see
 
-types_known : (calls : List host.Call) (named : Heads) (ps : List written.Parameter) → AllByRecursion (KnownParameter (ty_named calls named)) ps → AllByRecursion IsVariableType (map (parameter_ty calls named) ps)
+types_known : (calls : List host.Call) (named : Heads) (ps : List written.Parameter)
+    → AllByRecursion (KnownParameter (ty_named calls named)) ps
+    → AllByRecursion IsVariableType (map (parameter_ty calls named) ps)
 types_known calls named [] h = tt
 types_known calls named (p ∷ ps) h = (h.0, types_known calls named ps h.1)
 
-result_known : (calls : List host.Call) (named : Heads) (of : Option written.Named) → KnownResult (ty_named calls named) of → IsResultType (result_named calls named of)
+result_known : (calls : List host.Call) (named : Heads) (of : Option written.Named)
+    → KnownResult (ty_named calls named) of → IsResultType (result_named calls named of)
 result_known calls named None h = refl
 result_known calls named (Some of) h = variable_is_result (ty_named calls named of) h
 
-head_known : (calls : List host.Call) (named : Heads) (f : written.Function) → KnownFunction (ty_named calls named) f → IsKnownFunction (function_head calls named f)
-head_known calls named f h = record { result = result_known calls named f.result h.0; parameters = types_known calls named f.parameters h.1 }
+head_known : (calls : List host.Call) (named : Heads) (f : written.Function) → KnownFunction (ty_named calls named) f
+    → IsKnownFunction (function_head calls named f)
+head_known calls named f h =
+    record { result = result_known calls named f.result h.0; parameters = types_known calls named f.parameters h.1 }
 
-signatures_seen : (calls : List host.Call) (named : Heads) (ms : List written.InterfaceMethod) → AllByRecursion (KnownSignature (ty_named calls named)) ms → AllByRecursion IsKnownFunction (map (signature_head calls named) ms)
+signatures_seen : (calls : List host.Call) (named : Heads) (ms : List written.InterfaceMethod)
+    → AllByRecursion (KnownSignature (ty_named calls named)) ms
+    → AllByRecursion IsKnownFunction (map (signature_head calls named) ms)
 signatures_seen calls named [] h = tt
-signatures_seen calls named (m ∷ ms) h = (record { result = result_known calls named m.result h.0.0; parameters = types_known calls named m.parameters h.0.1 }, signatures_seen calls named ms h.1)
+signatures_seen calls named (m ∷ ms) h = (
+  record {
+    result = result_known calls named m.result h.0.0;
+    parameters = types_known calls named m.parameters h.0.1;
+  },
+  signatures_seen calls named ms h.1,
+)
 
-interfaces_seen : (calls : List host.Call) (named : Heads) (is : List written.Interface) → AllByRecursion (KnownInterface (ty_named calls named)) is → AllByRecursion IsKnownInterface (map (interface_head calls named) is)
+interfaces_seen : (calls : List host.Call) (named : Heads) (is : List written.Interface)
+    → AllByRecursion (KnownInterface (ty_named calls named)) is
+    → AllByRecursion IsKnownInterface (map (interface_head calls named) is)
 interfaces_seen calls named [] h = tt
-interfaces_seen calls named (i ∷ is) h = (record { methods = signatures_seen calls named i.methods h.0 }, interfaces_seen calls named is h.1)
+interfaces_seen calls named (i ∷ is) h =
+    (record { methods = signatures_seen calls named i.methods h.0 }, interfaces_seen calls named is h.1)
 
-variables_known : (calls : List host.Call) (named : Heads) (vs : List written.Vars) → AllByRecursion (KnownVars (ty_named calls named)) vs → AllByRecursion IsKnownVariable (all_variables calls named vs)
+variables_known : (calls : List host.Call) (named : Heads) (vs : List written.Vars)
+    → AllByRecursion (KnownVars (ty_named calls named)) vs
+    → AllByRecursion IsKnownVariable (all_variables calls named vs)
 variables_known calls named [] h = tt
-variables_known calls named (v ∷ vs) h = all_append IsKnownVariable (variables calls named v) (all_variables calls named vs) (decls_known (ty_named calls named v.of) v.decls h.0) (variables_known calls named vs h.1)
+variables_known calls named (v ∷ vs) h =
+    all_append IsKnownVariable (variables calls named v) (all_variables calls named vs)
+    (decls_known (ty_named calls named v.of) v.decls h.0) (variables_known calls named vs h.1)
 
-functions_known : (calls : List host.Call) (named : Heads) (fs : List written.Function) → AllByRecursion (KnownFunction (ty_named calls named)) fs → AllByRecursion IsKnownFunction (map (function_head calls named) fs)
+functions_known : (calls : List host.Call) (named : Heads) (fs : List written.Function)
+    → AllByRecursion (KnownFunction (ty_named calls named)) fs
+    → AllByRecursion IsKnownFunction (map (function_head calls named) fs)
 functions_known calls named [] h = tt
 functions_known calls named (f ∷ fs) h = (head_known calls named f h.0, functions_known calls named fs h.1)
 
-construction_known : (calls : List host.Call) (named : Heads) (cs : List written.Constructor) → AllByRecursion (KnownConstructor (ty_named calls named)) cs → AllByRecursion IsVariableType (constructed_by calls named cs)
+construction_known : (calls : List host.Call) (named : Heads) (cs : List written.Constructor)
+    → AllByRecursion (KnownConstructor (ty_named calls named)) cs
+    → AllByRecursion IsVariableType (constructed_by calls named cs)
 construction_known calls named [] h = tt
 construction_known calls named (c ∷ cs) h = types_known calls named c.parameters h.0
 
-classes_known : (calls : List host.Call) (named : Heads) (cs : List written.Class) → AllByRecursion (KnownClass (ty_named calls named)) cs → AllByRecursion IsKnownClass (map (class_head calls named) cs)
+classes_known : (calls : List host.Call) (named : Heads) (cs : List written.Class)
+    → AllByRecursion (KnownClass (ty_named calls named)) cs
+    → AllByRecursion IsKnownClass (map (class_head calls named) cs)
 classes_known calls named [] h = tt
-classes_known calls named (c ∷ cs) h = (record { fields = variables_known calls named (fields_of c.members) h.0.0; methods = functions_known calls named (methods_of c.members) h.0.1; parameters = construction_known calls named (constructors_of c.members) h.0.2 }, classes_known calls named cs h.1)
+classes_known calls named (c ∷ cs) h = (
+  record {
+    fields = variables_known calls named (fields_of c.members) h.0.0;
+    methods = functions_known calls named (methods_of c.members) h.0.1;
+    parameters = construction_known calls named (constructors_of c.members) h.0.2;
+  },
+  classes_known calls named cs h.1,
+)
 
 -- types are looked up by the names of classes and interfaces alone
 
@@ -237,7 +329,9 @@ classes_known calls named (c ∷ cs) h = (record { fields = variables_known call
 abbrev object_at : {A : Type 0} → (ℕ → ObjectType) → Option (ℕ × A) → Option ObjectType
 object_at {A} made found = option_map (λ (f : ℕ × A). made f.0) found
 
-same_first : {A : Type 0} (made : ℕ → ObjectType) (i : ℕ) (b : Bool) (c d : A) (x y : Option (ℕ × A)) → object_at made x ≡ object_at made y → object_at made (cond b (Some (i, c)) x) ≡ object_at made (cond b (Some (i, d)) y)
+same_first : {A : Type 0} (made : ℕ → ObjectType) (i : ℕ) (b : Bool) (c d : A) (x y : Option (ℕ × A))
+    → object_at made x ≡ object_at made y
+    → object_at made (cond b (Some (i, c)) x) ≡ object_at made (cond b (Some (i, d)) y)
 same_first made i true c d x y h = refl
 same_first made i false c d x y h = h
 
@@ -247,27 +341,43 @@ class_from name i cs = object_at OfClass (first_from (is_class name) i cs)
 abbrev interface_from : List ℕ → ℕ → List Interface → Option ObjectType
 interface_from name i ts = object_at OfInterface (first_from (is_interface_named name) i ts)
 
-same_class : (calls : List host.Call) (named : Heads) (name : List ℕ) (i : ℕ) (cs : List written.Class) → class_from name i (map (class_head calls named) cs) ≡ class_from name i (map named_class cs)
+same_class : (calls : List host.Call) (named : Heads) (name : List ℕ) (i : ℕ) (cs : List written.Class)
+    → class_from name i (map (class_head calls named) cs) ≡ class_from name i (map named_class cs)
 same_class calls named name i [] = refl
-same_class calls named name i (c ∷ cs) = same_first OfClass i (bytes_eq name c.name) _ _ (first_from (is_class name) (i + 1) (map (class_head calls named) cs)) (first_from (is_class name) (i + 1) (map named_class cs)) (same_class calls named name (i + 1) cs)
+same_class calls named name i (c ∷ cs) =
+    same_first OfClass i (bytes_eq name c.name) _ _
+    (first_from (is_class name) (i + 1) (map (class_head calls named) cs))
+    (first_from (is_class name) (i + 1) (map named_class cs)) (same_class calls named name (i + 1) cs)
 
-same_interface : (calls : List host.Call) (named : Heads) (name : List ℕ) (i : ℕ) (is : List written.Interface) → interface_from name i (map (interface_head calls named) is) ≡ interface_from name i (map named_interface is)
+same_interface : (calls : List host.Call) (named : Heads) (name : List ℕ) (i : ℕ) (is : List written.Interface)
+    → interface_from name i (map (interface_head calls named) is) ≡ interface_from name i (map named_interface is)
 same_interface calls named name i [] = refl
-same_interface calls named name i (x ∷ is) = same_first OfInterface i (bytes_eq name x.name) _ _ (first_from (is_interface_named name) (i + 1) (map (interface_head calls named) is)) (first_from (is_interface_named name) (i + 1) (map named_interface is)) (same_interface calls named name (i + 1) is)
+same_interface calls named name i (x ∷ is) =
+    same_first OfInterface i (bytes_eq name x.name) _ _
+    (first_from (is_interface_named name) (i + 1) (map (interface_head calls named) is))
+    (first_from (is_interface_named name) (i + 1) (map named_interface is)) (same_interface calls named name (i + 1) is)
 
-pub same_object : (calls : List host.Call) (is : List written.Item) (name : List ℕ) → object_named calls (heads calls is) name ≡ object_named calls (names_in is) name
+pub same_object : (calls : List host.Call) (is : List written.Item) (name : List ℕ)
+    → object_named calls (heads calls is) name ≡ object_named calls (names_in is) name
 unfolding object_named heads
-same_object calls is name = rw (same_class calls (names_in is) name 0 (classes_of is), same_interface calls (names_in is) name 0 (interfaces_of is)) refl
+same_object calls is name =
+    rw (
+      same_class calls (names_in is) name 0 (classes_of is),
+      same_interface calls (names_in is) name 0 (interfaces_of is),
+    ) refl
 
-same_element : (calls : List host.Call) (is : List written.Item) (of : written.Element) → element_named calls (heads calls is) of ≡ element_named calls (names_in is) of
+same_element : (calls : List host.Call) (is : List written.Item) (of : written.Element)
+    → element_named calls (heads calls is) of ≡ element_named calls (names_in is) of
 unfolding element_named
 same_element calls is (written.PrimElement p k) = refl
 same_element calls is (written.HandleElement p name) = ap (option_and_then element_by) (same_object calls is name)
 
-same_array : (calls : List host.Call) (is : List written.Item) (of : written.Element) → array_named calls (heads calls is) of ≡ array_named calls (names_in is) of
+same_array : (calls : List host.Call) (is : List written.Item) (of : written.Element)
+    → array_named calls (heads calls is) of ≡ array_named calls (names_in is) of
 same_array calls is of = ap (option_map OfArray) (same_element calls is of)
 
-pub same_type : (calls : List host.Call) (is : List written.Item) (of : written.Named) → ty_in (environment calls is) of ≡ ty_named calls (names_in is) of
+pub same_type : (calls : List host.Call) (is : List written.Item) (of : written.Named)
+    → ty_in (environment calls is) of ≡ ty_named calls (names_in is) of
 unfolding ty_named
 same_type calls is (written.Prim p k) = refl
 same_type calls is (written.Object p name) = ap object_ty (same_object calls is name)
@@ -275,9 +385,16 @@ same_type calls is (written.Handle p name) = ap handle_ty (same_object calls is 
 same_type calls is (written.Array p of) = ap object_ty (same_array calls is of)
 same_type calls is (written.ArrayHandle p of) = ap handle_ty (same_array calls is of)
 
-pub module_known : (calls : List host.Call) (is : List written.Item) → KnownItems (ty_in (environment calls is)) is → IsKnown (environment calls is)
+pub module_known : (calls : List host.Call) (is : List written.Item) → KnownItems (ty_in (environment calls is)) is
+    → IsKnown (environment calls is)
 unfolding heads
 module_known calls is h =
     let named = names_in is in
     let k = subst (λ (look : written.Named → Ty). KnownItems look is) (fun_ext (same_type calls is)) h in
-    record { interfaces = interfaces_seen calls named (interfaces_of is) k.0; classes = classes_known calls named (classes_of is) k.1; functions = functions_known calls named (functions_of is) k.2; globals = variables_known calls named (globals_of is) k.3; locals = tt }
+    record {
+      interfaces = interfaces_seen calls named (interfaces_of is) k.0;
+      classes = classes_known calls named (classes_of is) k.1;
+      functions = functions_known calls named (functions_of is) k.2;
+      globals = variables_known calls named (globals_of is) k.3;
+      locals = tt;
+    }

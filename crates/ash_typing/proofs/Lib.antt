@@ -1,7 +1,10 @@
 pub mod TypingWords
 pub mod TypingComplete
 pub mod TypingKnown
+pub mod TypingCallees
 pub mod TypingTypes
+pub mod TypingSoundCalls
+pub mod TypingSoundOperators
 pub mod TypingSound
 pub mod TypingVariables
 pub mod Bindings
@@ -15,6 +18,7 @@ pub mod TypedClasses
 pub mod TypedItems
 pub mod KnownModules
 pub mod ModuleLaws
+pub mod SoundnessLookUps
 pub mod SoundnessNames
 pub mod SoundnessTypes
 pub mod SoundnessExpressions
@@ -32,8 +36,11 @@ pub mod DerivedPlaces
 pub mod DerivedItems
 pub mod FaultAnswers
 pub mod FaultPhrases
+pub mod FaultOperations
 pub mod FaultExpressions
+pub mod FaultVariables
 pub mod FaultStatements
 pub mod FaultNames
+pub mod FaultRoutines
 pub mod FaultItems
 pub mod FaultLaws

@@ -13,14 +13,17 @@ use Rattle.ash_typing.proofs.TypedItems.{walked_with, items_sound, items_complet
 use Rattle.ash_typing.proofs.KnownModules.{items_known, rules_known, module_known}
 use Rattle.ash_tree.specs.Items.{item_names, globals_of, variable_names}
 
-sound : (calls : List Call) (is : List Item) (typed : Module) → module_typed calls is ≡ Ok typed → IsTyped calls is typed
+sound : (calls : List Call) (is : List Item) (typed : Module) → module_typed calls is ≡ Ok typed
+    → IsTyped calls is typed
 unfolding module_typed IsDistinct
 sound calls is typed h =
     let env = environment calls is in
     let w = bind_ok (items_typed env (nothing calls) is) _ typed h in
     let known = module_known calls is (items_known env is (nothing calls) w.0 w.1) in
     let go = items_sound env known is (nothing calls) w.0 tt (omega arith) w.1 in
-    let made : typed ≡ (walked_with (nothing calls) (item_names is) (length (variable_names (globals_of is))) go.interfaces go.classes go.functions go.globals).typed = sym (ok_is _ typed w.2) ∙ ap module_walked go.made in
+    let made : typed
+    ≡ (walked_with (nothing calls) (item_names is) (length (variable_names (globals_of is))) go.interfaces
+    go.classes go.functions go.globals).typed = sym (ok_is _ typed w.2) ∙ ap module_walked go.made in
     let few = go.few in
     subst (IsTyped calls is) (sym made) (record {
       differ = go.can.distinct;
@@ -33,18 +36,24 @@ sound calls is typed h =
       globals = go.are_globals;
     })
 
-pub typed_known : (calls : List Call) (is : List Item) (typed : Module) → IsTyped calls is typed → IsKnown (environment calls is)
-typed_known calls is typed h = module_known calls is (rules_known (environment calls is) is typed h.interfaces h.classes h.functions h.globals)
+pub typed_known : (calls : List Call) (is : List Item) (typed : Module) → IsTyped calls is typed
+    → IsKnown (environment calls is)
+typed_known calls is typed h =
+    module_known calls is (rules_known (environment calls is) is typed h.interfaces h.classes h.functions h.globals)
 
-complete : (calls : List Call) (is : List Item) (typed : Module) → IsTyped calls is typed → module_typed calls is ≡ Ok typed
+complete : (calls : List Call) (is : List Item) (typed : Module) → IsTyped calls is typed
+    → module_typed calls is ≡ Ok typed
 unfolding module_typed
 complete calls is typed h =
     let env = environment calls is in
     let known = typed_known calls is typed h in
-    let can : CanTake (nothing calls).names (item_names is) (length (variable_names (globals_of is))) = record { free = h.free; distinct = h.differ; room = h.few_globals } in
+    let can : CanTake (nothing calls).names (item_names is) (length (variable_names (globals_of is))) =
+    record { free = h.free; distinct = h.differ; room = h.few_globals } in
     let few = h.few_types in
     bind_is (items_typed env (nothing calls) is) _ _ typed
-    (items_complete env known is (nothing calls) typed.interfaces typed.classes typed.functions typed.globals can (omega arith) h.interfaces h.classes h.functions h.globals) refl
+    (items_complete env known is (nothing calls) typed.interfaces typed.classes typed.functions typed.globals can
+    (omega arith) h.interfaces h.classes h.functions h.globals) refl
 
-pub module_typed-exact : (calls : List Call) (is : List Item) (typed : Module) → (module_typed calls is ≡ Ok typed) ↔ IsTyped calls is typed
+pub module_typed-exact : (calls : List Call) (is : List Item) (typed : Module)
+    → (module_typed calls is ≡ Ok typed) ↔ IsTyped calls is typed
 module_typed-exact calls is typed = (sound calls is typed, complete calls is typed)

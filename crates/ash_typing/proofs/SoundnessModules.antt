@@ -1,6 +1,7 @@
 -- What the rules of typing type is a sound module, where the grammar derives it.
 use Rattle.std.specs.List.{AllByRecursion, AllZip}
-use Rattle.std.proofs.Common.{◌≡◌, ◌≤◌, ◌+◌, ℕ, suc, length, length-append, List, [], ◌∷◌, map, Some, slice_get, refl, sym, ap, ap₂, subst, ◌∙◌, arith}
+use Rattle.std.proofs.Common.{◌≡◌, ◌≤◌, ◌+◌, ℕ, suc, length, length-append, List, [], ◌∷◌, map, Some, slice_get, refl}
+use Rattle.std.proofs.Common.{sym, ap, ap₂, subst, ◌∙◌, arith}
 use Rattle.ash_registrations.specs.Calls as host
 use Rattle.ash_tree.specs.Tree as written
 use Rattle.ash_typed.specs.Modules as modules
@@ -16,9 +17,10 @@ use Rattle.ash_typing.specs.Offered.{offered}
 use Rattle.ash_typing.specs.Soundness.{signatures_in}
 use Rattle.ash_typing.proofs.TypedClasses.{count_names}
 use Rattle.ash_typing.proofs.ModuleLaws.{typed_known}
-use Rattle.ash_typing.proofs.SoundnessNames.{mapped}
+use Rattle.ash_typing.proofs.SoundnessLookUps.{mapped}
 use Rattle.ash_typing.proofs.SoundnessSignatures.{same_signatures}
-use Rattle.ash_typing.proofs.SoundnessItems.{functions_sound, interfaces_sound, interfaces_length, before_within, interfaces_in_order, globals_sound, zip_length}
+use Rattle.ash_typing.proofs.SoundnessItems.{functions_sound, interfaces_sound, interfaces_length, before_within, interfaces_in_order}
+use Rattle.ash_typing.proofs.SoundnessItems.{globals_sound, zip_length}
 use Rattle.ash_typing.proofs.SoundnessNaming.{functions_differ, globals_differ}
 use Rattle.ash_typing.proofs.SoundnessClasses.{classes_sound, classes_length}
 
@@ -26,18 +28,25 @@ length-mapped : {A B : Type 0} (f : A → B) (xs : List A) → length (map f xs)
 length-mapped f [] = refl
 length-mapped f (x ∷ xs) = ap suc (length-mapped f xs)
 
-globals_length : (env : Environment) (vs : List written.Vars) (ts : List modules.Variables) → AllZip (AreVariables env) vs ts → length (signatures.types_of_globals ts) ≡ length (variable_names vs)
+globals_length : (env : Environment) (vs : List written.Vars) (ts : List modules.Variables)
+    → AllZip (AreVariables env) vs ts → length (signatures.types_of_globals ts) ≡ length (variable_names vs)
 globals_length env [] [] h = refl
 globals_length env [] (t ∷ ts) h = absurd h
 globals_length env (v ∷ vs) [] h = absurd h
 globals_length env (v ∷ vs) (t ∷ ts) h =
-    length-append (map signatures.type_declared t.values) (signatures.types_of_globals ts) ∙ ap₂ (λ a b. a + b) (length-mapped signatures.type_declared t.values ∙ zip_length (IsDeclared env (ty_in env v.of)) v.decls t.values h.0.values) (globals_length env vs ts h.1) ∙ sym (count_names v (variable_names vs))
+    length-append (map signatures.type_declared t.values) (signatures.types_of_globals ts)
+    ∙ ap₂ (λ a b. a + b)
+    (length-mapped signatures.type_declared t.values
+    ∙ zip_length (IsDeclared env (ty_in env v.of)) v.decls t.values h.0.values) (globals_length env vs ts h.1)
+    ∙ sym (count_names v (variable_names vs))
 
-pub module_sound : (calls : List host.Call) (is : List written.Item) (m : modules.Module) → ItemsDeclareInBlocks is → IsTyped calls is m → sound.IsSound (offered calls) m
+pub module_sound : (calls : List host.Call) (is : List written.Item) (m : modules.Module) → ItemsDeclareInBlocks is
+    → IsTyped calls is m → sound.IsSound (offered calls) m
 module_sound calls is m nest typed =
     let env = environment calls is in
     let known = typed_known calls is m typed in
-    let same : signatures_in calls (heads calls is) ≡ signatures.signatures_of (offered calls) m = sym (same_signatures calls is m typed) in
+    let same : signatures_in calls (heads calls is) ≡ signatures.signatures_of (offered calls) m =
+    sym (same_signatures calls is m typed) in
     let count = classes_length env 0 (classes_of is) m.classes typed.classes in
     let interfaces = interfaces_length env (interfaces_of is) (classes_before 0 is) m.interfaces typed.interfaces in
     let few = typed.few_types in
@@ -45,18 +54,32 @@ module_sound calls is m nest typed =
     let most : 0 + length (classes_of is) ≡ length m.classes = omega arith in
     record {
       few_types = omega arith;
-      few_globals = subst (λ n. n ≤ 256) (sym (globals_length env (globals_of is) m.globals typed.globals)) typed.few_globals;
+      few_globals =
+          subst (λ n. n ≤ 256) (sym (globals_length env (globals_of is) m.globals typed.globals)) typed.few_globals;
       functions_differ = functions_differ env is m.functions typed.differ typed.functions;
       globals_differ = globals_differ env is m.globals typed.differ typed.globals;
-      interfaces = subst (λ s. AllByRecursion (sound.IsInterface s (length m.classes)) m.interfaces) same (interfaces_sound env (interfaces_of is) (classes_before 0 is) (length m.classes) m.interfaces (subst (λ k. AllByRecursion (λ n. n ≤ k) (classes_before 0 is)) most within) typed.interfaces);
+      interfaces =
+          subst (λ s. AllByRecursion (sound.IsInterface s (length m.classes)) m.interfaces) same
+          (interfaces_sound env (interfaces_of is) (classes_before 0 is) (length m.classes) m.interfaces
+          (subst (λ k. AllByRecursion (λ n. n ≤ k) (classes_before 0 is)) most within) typed.interfaces);
       interfaces_in_order = interfaces_in_order env 0 0 is m.interfaces (omega arith) typed.interfaces;
-      classes = subst (λ s. sound.AreClasses s 0 m.classes) same (classes_sound env 0 (classes_of is) m.classes known (at m same) nest.classes typed.classes);
-      functions = subst (λ s. AllByRecursion (sound.IsFunction (sound.outside s)) m.functions) same (functions_sound env (functions_of is) m.functions known nest.functions typed.functions);
-      globals = subst (λ s. AllByRecursion (sound.AreVariables (sound.outside s)) m.globals) same (globals_sound env (globals_of is) m.globals known typed.globals);
+      classes = subst
+          (λ s. sound.AreClasses s 0 m.classes) same
+          (classes_sound env 0 (classes_of is) m.classes known (at m same) nest.classes typed.classes);
+      functions = subst
+          (λ s. AllByRecursion (sound.IsFunction (sound.outside s)) m.functions) same
+          (functions_sound env (functions_of is) m.functions known nest.functions typed.functions);
+      globals = subst
+          (λ s. AllByRecursion (sound.AreVariables (sound.outside s)) m.globals) same
+          (globals_sound env (globals_of is) m.globals known typed.globals);
     }
   where
-    at : (m : modules.Module) → signatures_in calls (heads calls is) ≡ signatures.signatures_of (offered calls) m → (k : ℕ) (t : modules.Class) → slice_get m.classes k ≡ Some t → slice_get (signatures_in calls (heads calls is)).classes (0 + k) ≡ Some (signatures.signature_of_class t)
+    at : (m : modules.Module) → signatures_in calls (heads calls is) ≡ signatures.signatures_of (offered calls) m
+        → (k : ℕ) (t : modules.Class) → slice_get m.classes k ≡ Some t
+        → slice_get (signatures_in calls (heads calls is)).classes (0 + k) ≡ Some (signatures.signature_of_class t)
     at m same k t h =
         let here : k ≡ 0 + k = omega arith in
-        subst (λ n. slice_get (signatures_in calls (heads calls is)).classes n ≡ Some (signatures.signature_of_class t)) here
-        (subst (λ (s : signatures.Signatures). slice_get s.classes k ≡ Some (signatures.signature_of_class t)) (sym same) (mapped signatures.signature_of_class m.classes k t h))
+        subst (λ n. slice_get (signatures_in calls (heads calls is)).classes n ≡ Some (signatures.signature_of_class t))
+        here
+        (subst (λ (s : signatures.Signatures). slice_get s.classes k ≡ Some (signatures.signature_of_class t))
+        (sym same) (mapped signatures.signature_of_class m.classes k t h))

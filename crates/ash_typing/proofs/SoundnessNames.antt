@@ -1,325 +1,326 @@
--- What names stand for is in range, and has the types that a sound typed tree says.
-use Rattle.std.specs.List.{AllByRecursion, cons_option}
+-- What names are is in range, and has the types that a sound typed tree says.
+use Rattle.std.specs.List.{AllByRecursion}
 use Rattle.std.specs.Option.{option_and_then, option_map, option_or}
-use Rattle.std.proofs.lemmas.Bool.{eq-eqb}
-use Rattle.std.proofs.lemmas.Option.{slice_get-map, slice_get_within}
-use Rattle.std.proofs.lemmas.List.Elements.{Contains-append_right}
-use Rattle.std.proofs.Common.{◌≡◌, ◌+◌, ℕ, zero, suc, List, [], ◌∷◌, Bool, true, false, ◌&&◌, cond, map, Option, Some, None, IfSome, find, filter_map, Contains, slice_get, bytes_eq, nat_eq, refl, sym, ap, subst, subst₂, ◌∙◌, arith}
+use Rattle.std.proofs.lemmas.Option.{slice_get_within}
+use Rattle.std.proofs.Common.{◌≡◌, ℕ, List, [], ◌∷◌, Bool, true, map, Option, Some, None, IfSome, find, filter_map}
+use Rattle.std.proofs.Common.{Contains, slice_get, bytes_eq, refl, sym, subst, subst₂}
 use Rattle.ash_tree.specs.declared.tree.types.Primitive.{Primitive}
 use Rattle.ash_tree.specs.declared.tree.types.Primitive.TheVariants as primitives
 use Rattle.ash_tree.specs.Tree as written
 use Rattle.ash_registrations.specs.Calls as host
 use Rattle.ash_typed.specs.declared.types.ObjectType.{ObjectType}
-use Rattle.ash_typed.specs.declared.types.ObjectType.TheVariants.{Class as OfClass, Interface as OfInterface, Host as OfHost, Array as OfArray}
-use Rattle.ash_typed.specs.declared.types.Element.{Element}
-use Rattle.ash_typed.specs.declared.types.Element.TheVariants as elements
+use Rattle.ash_typed.specs.declared.types.ObjectType.TheVariants.{Class as OfClass, Interface as OfInterface}
+use Rattle.ash_typed.specs.declared.types.ObjectType.TheVariants.{Host as OfHost, Array as OfArray}
 use Rattle.ash_typed.specs.declared.types.VarType.{VarType}
-use Rattle.ash_typed.specs.declared.tree.operations.Variable.TheVariants as variables
-use Rattle.ash_typed.specs.declared.tree.operations.Member.{Member}
-use Rattle.ash_typed.specs.declared.tree.operations.Member.TheVariants.{Field, Property}
-use Rattle.ash_typed.specs.declared.tree.operations.ArrayMethod.{ArrayMethod}
 use Rattle.ash_typed.specs.declared.tree.operations.ArrayMethod.TheVariants as arrays
 use Rattle.ash_typed.specs.declared.tree.operations.Method.TheVariants as methods
 use Rattle.ash_typed.specs.declared.tree.operations.Target.TheVariants as targets
-use Rattle.ash_typed.specs.Tree.{Expr, This, Read, Place, Stored, Held}
-use Rattle.ash_typed.specs.TypeOf.{type_of_element}
-use Rattle.ash_typed.specs.Signatures.{HostSignature, Signatures, type_of_primitive, IsElement, truths, integers, of_class as element_class, of_interface as element_interface, of_host as element_host, IsObjectType, class as object_class, interface as object_interface, host as object_host}
+use Rattle.ash_typed.specs.Signatures.{HostSignature, Signatures, IsElement, truths, integers}
+use Rattle.ash_typed.specs.Signatures.{of_class as element_class, of_interface as element_interface}
+use Rattle.ash_typed.specs.Signatures.{of_host as element_host, IsObjectType, class as object_class}
+use Rattle.ash_typed.specs.Signatures.{interface as object_interface, host as object_host}
 use Rattle.ash_typed.specs.SoundOperations as operations
-use Rattle.ash_typed.specs.SoundExpressions as sound
 use Rattle.ash_typing.specs.declared.types.Ty.{Ty}
 use Rattle.ash_typing.specs.declared.types.Ty.TheVariants as ty
 use Rattle.ash_typing.specs.declared.forms.Callable.{Callable}
 use Rattle.ash_typing.specs.declared.forms.Callable.TheVariants as callables
-use Rattle.ash_typing.specs.Types.{var_type, result_type, ty_of, ty_of_element}
-use Rattle.ash_typing.specs.Environment.{Environment, Declared, Function, Interface, Class, Heads, Known, Callee, Invoked, first_from, last_named, declares, is_called, is_class, is_interface_named, this_class, result_of, service_function, host_type, factory_in, factory_parameters, host_method, property, named_in, own_method_in, class_in, function_in, field_in, local_in, own_field_in, global_in, callee_beside, variable_in, callee_in, member_in, method_in, class_method, interface_method, method_of_class, method_of_interface, method_of_array, method_of_kind, array_method_of, is_array_method, host_member_in, name_of_kind, type_declared}
-use Rattle.ash_typing.specs.Heads.{object_named, class_type, interface_type, host_object, element_of, element_by, element_named}
+use Rattle.ash_typing.specs.Types.{var_type, result_type}
+use Rattle.ash_typing.specs.Environment.{Environment, Function, Interface, Class, Heads, Callee, first_from, is_called}
+use Rattle.ash_typing.specs.Environment.{is_class, is_interface_named, this_class, service_function, host_type}
+use Rattle.ash_typing.specs.Environment.{factory_in, factory_parameters, host_method, named_in, own_method_in, class_in}
+use Rattle.ash_typing.specs.Environment.{function_in, callee_beside, callee_in, method_in, class_method}
+use Rattle.ash_typing.specs.Environment.{interface_method, method_of_class, method_of_interface, method_of_array}
+use Rattle.ash_typing.specs.Environment.{method_of_kind, array_method_of, is_array_method, host_member_in, name_of_kind}
+use Rattle.ash_typing.specs.Heads.{object_named, class_type, interface_type, host_object, element_of, element_by}
+use Rattle.ash_typing.specs.Heads.{element_named}
 use Rattle.ash_typing.specs.Typing.{IsKnown, IsKnownFunction, IsKnownInterface, IsKnownClass, IsVariableType}
-use Rattle.ash_typing.specs.Offered.{host_signature, kind_in, factory_at, method_at, property_at, function_at}
-use Rattle.ash_typing.specs.Soundness.{signature_of, signatures_of_interface, signature_of_class, signatures_in, seen_in}
-use Rattle.ash_typing.proofs.TypingKnown.{primitive_known, element_known, at_some, if_map, if_or, if_then, if_weaker, if_all, if_first, if_get}
-
--- places
-
-first_at : {A : Type 0} (test : A → Bool) (i : ℕ) (xs : List A) → IfSome (first_from test i xs) (λ found. (k : ℕ) × (found.0 ≡ i + k) × (slice_get xs k ≡ Some found.1))
-first_at test i [] = tt
-first_at {A} test i (x ∷ xs) = go (test x) (first_at test (i + 1) xs)
-  where
-    Is : ℕ × A → Type 0
-    Is found = (k : ℕ) × (found.0 ≡ i + k) × (slice_get (x ∷ xs) k ≡ Some found.1)
-
-    go : (b : Bool) → IfSome (first_from test (i + 1) xs) (λ (found : ℕ × A). (k : ℕ) × (found.0 ≡ i + 1 + k) × (slice_get xs k ≡ Some found.1)) → IfSome (cond b (Some (i, x)) (first_from test (i + 1) xs)) (λ (found : ℕ × A). (k : ℕ) × (found.0 ≡ i + k) × (slice_get (x ∷ xs) k ≡ Some found.1))
-    go true rest = (zero, omega arith, refl)
-    go false rest = if_weaker (first_from test (i + 1) xs) (λ found h. let e = h.1 in (suc h.0, omega arith, h.2)) rest
-
--- the first that passes has its place
-pub first_place : {A : Type 0} (test : A → Bool) (xs : List A) → IfSome (first_from test 0 xs) (λ found. slice_get xs found.0 ≡ Some found.1)
-first_place test xs = if_weaker (first_from test 0 xs) (λ found h. let e = h.1 in let same : h.0 ≡ found.0 = omega arith in subst (λ k. slice_get xs k ≡ Some found.1) same h.2) (first_at test 0 xs)
-
--- so has the last variable of a name
-last_place : (P : ℕ × Ty → Type 0) (text : List ℕ) (i : ℕ) (found : Option (ℕ × Ty)) (vs : List Declared) → IfSome found P → ((k : ℕ) (v : Declared) → slice_get vs k ≡ Some v → P (i + k, v.of)) → IfSome (last_named text i found vs) P
-last_place P text i found [] h each = h
-last_place P text i found (v ∷ vs) h each = last_place P text (i + 1) (cond (bytes_eq text v.name) (Some (i, v.of)) found) vs (go (bytes_eq text v.name)) (λ k w e. let same : i + suc k ≡ i + 1 + k = omega arith in subst (λ n. P (n, w.of)) same (each (suc k) w e))
-  where
-    go : (b : Bool) → IfSome (cond b (Some (i, v.of)) found) P
-    go true = let same : i + zero ≡ i = omega arith in subst (λ n. P (n, v.of)) same (each zero v refl)
-    go false = h
-
--- what is at a place, after each is changed
-pub mapped : {A B : Type 0} (f : A → B) (xs : List A) (k : ℕ) (x : A) → slice_get xs k ≡ Some x → slice_get (map f xs) k ≡ Some (f x)
-mapped f xs k x h = slice_get-map f xs k ∙ ap (option_map f) h
-
--- lists
-
-here : {A : Type 0} (x : A) (xs : List A) → Contains (x ∷ xs) x
-here x xs = (zero, omega arith, refl)
-
-there : {A : Type 0} (o : Option A) (xs : List A) (y : A) → Contains xs y → Contains (cons_option o xs) y
-there None xs y h = h
-there (Some x) xs y h = Contains-append_right (x ∷ []) xs y h
-
--- What a function gives of the first that passes is among all that it gives, whatever the numbers by which it looks.
-pub found_with : {A B K : Type 0} (test : A → Bool) (h : K → A → Option B) (xs : List A) → IfSome (find test xs) (λ x. (test x ≡ true) × ((key : K) (y : B) → h key x ≡ Some y → Contains (filter_map (h key) xs) y))
-found_with test h [] = tt
-found_with {A} {B} {K} test h (x ∷ xs) = go (test x) refl (found_with test h xs)
-  where
-    go : (b : Bool) → test x ≡ b → IfSome (find test xs) (λ (z : A). (test z ≡ true) × ((key : K) (y : B) → h key z ≡ Some y → Contains (filter_map (h key) xs) y)) → IfSome (cond b (Some x) (find test xs)) (λ (z : A). (test z ≡ true) × ((key : K) (y : B) → h key z ≡ Some y → Contains (filter_map (h key) (x ∷ xs)) y))
-    go true e rest = (e, λ key y k. subst (λ o. Contains (cons_option o (filter_map (h key) xs)) y) (sym k) (here y (filter_map (h key) xs)))
-    go false e rest = if_weaker (find test xs) (λ z k. (k.0, λ key y l. there (h key x) (filter_map (h key) xs) y (k.1 key y l))) rest
-
--- primitives
-
-primitive_type : (of : Primitive) → var_type (ty_of of) ≡ type_of_primitive of
-primitive_type primitives.Bool = refl
-primitive_type primitives.Int = refl
-primitive_type primitives.Int64 = refl
-primitive_type primitives.Uint = refl
-primitive_type primitives.Uint64 = refl
-
-primitive_types : (ps : List Primitive) → map var_type (map ty_of ps) ≡ map type_of_primitive ps
-primitive_types [] = refl
-primitive_types (p ∷ ps) = λ i. primitive_type p i ∷ primitive_types ps i
-
-primitive_result : (of : Option Primitive) → result_type (result_of of) ≡ option_map type_of_primitive of
-primitive_result None = refl
-primitive_result (Some primitives.Bool) = refl
-primitive_result (Some primitives.Int) = refl
-primitive_result (Some primitives.Int64) = refl
-primitive_result (Some primitives.Uint) = refl
-primitive_result (Some primitives.Uint64) = refl
-
-primitives_known : (ps : List Primitive) → AllByRecursion IsVariableType (map ty_of ps)
-primitives_known [] = tt
-primitives_known (p ∷ ps) = (primitive_known p, primitives_known ps)
-
-pub element_type : (of : Element) → var_type (ty_of_element of) ≡ type_of_element of
-element_type elements.Bool = refl
-element_type (elements.Integer kind) = refl
-element_type (elements.Class class) = refl
-element_type (elements.Interface interface) = refl
-element_type (elements.Host kind) = refl
-
--- tests
-
-both : (a b : Bool) → (a && b) ≡ true → (a ≡ true) × (b ≡ true)
-both true b h = (refl, h)
-both false b h = absurd (cc)
-
-chosen : {A : Type 0} (a b : Bool) (x : A) → (a && b) ≡ true → cond a (Some x) None ≡ Some x
-chosen a b x h = rw (both a b h).0 refl
-
-same_number : (n : ℕ) → nat_eq n n ≡ true
-same_number n = eq-eqb n n refl
-
--- variables and fields
-
--- the expression reads a place, which has this type
-abbrev pub IsPlaceOf : Environment → Expr → Ty → Type 0
-IsPlaceOf env tree of = (place : Place) × (tree ≡ Read place) × sound.HasPlace (seen_in env) place (var_type of)
-
-abbrev with_class : List Class → ℕ → Option (ℕ × Class)
-with_class classes i = option_map (λ (c : Class). (i, c)) (slice_get classes i)
-
-this_is : (classes : List Class) (o : Option ℕ) → IfSome (option_and_then (with_class classes) o) (λ c. (o ≡ Some c.0) × (slice_get classes c.0 ≡ Some c.1))
-this_is classes None = tt
-this_is classes (Some i) = go (slice_get classes i) refl
-  where
-    go : (found : Option Class) → slice_get classes i ≡ found → IfSome (option_map (λ (c : Class). (i, c)) found) (λ (c : ℕ × Class). (Some i ≡ Some c.0) × (slice_get classes c.0 ≡ Some c.1))
-    go None e = tt
-    go (Some c) e = (refl, e)
-
-abbrev IsSoundMember : Environment → ObjectType → Member × Ty → Type 0
-IsSoundMember env o found = operations.IsMember (seen_in env).signatures o found.0 (var_type found.1)
-
-field_sound : (env : Environment) (class : ℕ) (c : Class) (text : List ℕ) → slice_get env.heads.classes class ≡ Some c → IfSome (field_in class c text) (IsSoundMember env (OfClass class))
-field_sound env class c text h = if_map (IsSoundMember env (OfClass class)) (λ (found : ℕ × Declared). (Field class found.0 (var_type found.1.of), found.1.of)) (first_from (declares text) 0 c.fields) (if_weaker (first_from (declares text) 0 c.fields) (λ found k. operations.field {c = signature_of_class c} (mapped signature_of_class env.heads.classes class c h) (mapped type_declared c.fields found.0 found.1 k)) (first_place (declares text) c.fields))
-
-pub variable_sound : (env : Environment) (text : List ℕ) → IfSome (variable_in env text) (λ known. IsPlaceOf env known.0 known.1)
-unfolding variable_in
-variable_sound env text =
-    let Q : Known → Type 0 = λ known. IsPlaceOf env known.0 known.1 in
-    let At : ℕ × Ty → Type 0 = λ found. slice_get (map type_declared env.locals) found.0 ≡ Some (var_type found.1) in
-    let locals : IfSome (last_named text 0 None env.locals) At = last_place At text 0 None env.locals tt (λ k v e. let same : k ≡ 0 + k = omega arith in subst (λ n. slice_get (map type_declared env.locals) n ≡ Some (var_type v.of)) same (mapped type_declared env.locals k v e)) in
-    let local = if_map Q (λ (found : ℕ × Ty). (Read (Stored (variables.Local found.0 (var_type found.1))), found.1)) (last_named text 0 None env.locals) (if_weaker (last_named text 0 None env.locals) (λ found h. (_, refl, sound.local h)) locals) in
-    let own = if_then (λ (c : ℕ × Class). (env.this ≡ Some c.0) × (slice_get env.heads.classes c.0 ≡ Some c.1)) Q (λ (c : ℕ × Class). option_map (λ (found : Member × Ty). (Read (Held (This c.0) found.0), found.1)) (field_in c.0 c.1 text)) (this_class env) (λ c h. if_map Q (λ (found : Member × Ty). (Read (Held (This c.0) found.0), found.1)) (field_in c.0 c.1 text) (if_weaker (field_in c.0 c.1 text) (λ found k. (_, refl, sound.member (sound.this h.0) k)) (field_sound env c.0 c.1 text h.1))) (this_is env.heads.classes env.this) in
-    let global = if_map Q (λ (found : ℕ × Declared). (Read (Stored (variables.Global found.0 (var_type found.1.of))), found.1.of)) (first_from (declares text) 0 env.heads.globals) (if_weaker (first_from (declares text) 0 env.heads.globals) (λ found h. (_, refl, sound.global (mapped type_declared env.heads.globals found.0 found.1 h))) (first_place (declares text) env.heads.globals)) in
-    if_or Q (local_in env.locals text) (option_or (own_field_in env text) (global_in env.heads.globals text)) local (if_or Q (own_field_in env text) (global_in env.heads.globals text) own global)
-
-property_found : (env : Environment) (kind : ℕ) (text : List ℕ) (call : host.Call) → host.takes_member (name_of_kind env.registered kind) text call ≡ true → ((id : ℕ) (of : Primitive) → property_at (name_of_kind env.registered kind) id call ≡ Some of → Contains ((seen_in env).signatures.host.properties kind id) of) → IfSome (property call) (IsSoundMember env (OfHost kind))
-property_found env kind text (host.AProperty other id of name) e among =
-    let of_type = both (bytes_eq (name_of_kind env.registered kind) other) (bytes_eq text name) e in
-    let at : property_at (name_of_kind env.registered kind) id (host.AProperty other id of name) ≡ Some of = rw (of_type.0, same_number id) refl in
-    subst (λ type. operations.IsMember (seen_in env).signatures (OfHost kind) (Property id type) type) (sym (primitive_type of)) (operations.property (among id of at))
-property_found env kind text _ e among = tt
-
-pub member_sound : (env : Environment) (o : ObjectType) (text : List ℕ) → IfSome (member_in env o text) (λ found. operations.IsMember (seen_in env).signatures o found.0 (var_type found.1))
-unfolding member_in host_member_in
-member_sound env (OfClass i) text = go (slice_get env.heads.classes i) refl
-  where
-    go : (c : Option Class) → slice_get env.heads.classes i ≡ c → IfSome (option_and_then (λ (c : Class). field_in i c text) c) (IsSoundMember env (OfClass i))
-    go None e = tt
-    go (Some c) e = field_sound env i c text e
-member_sound env (OfInterface i) text = tt
-member_sound env (OfHost kind) text =
-    let name = name_of_kind env.registered kind in
-    if_then (λ (call : host.Call). (host.takes_member name text call ≡ true) × ((id : ℕ) (of : Primitive) → property_at name id call ≡ Some of → Contains (filter_map (property_at name id) env.registered) of)) (IsSoundMember env (OfHost kind)) property (find (host.takes_member name text) env.registered) (λ call h. property_found env kind text call h.0 h.1) (found_with (host.takes_member name text) (property_at name) env.registered)
-member_sound env (OfArray of) text = tt
-
--- methods
-
--- an object of the type has the method, which takes and gives what is said
-abbrev pub IsSoundMethod : Environment → ObjectType → Invoked → Type 0
-IsSoundMethod env o m = operations.IsMethod (seen_in env).signatures o m.method (map var_type m.parameters) (result_type m.result) × AllByRecursion IsVariableType m.parameters
-
-array_parameters : (of : Element) (m : ArrayMethod) → map var_type (array_method_of of m).parameters ≡ operations.parameters_of_array_method of m
-array_parameters of arrays.Length = refl
-array_parameters of arrays.Resize = refl
-array_parameters of arrays.InsertLast = ap (λ type. type ∷ []) (element_type of)
-array_parameters of arrays.RemoveLast = refl
-array_parameters of arrays.IsEmpty = refl
-
-array_known : (of : Element) (m : ArrayMethod) → AllByRecursion IsVariableType (array_method_of of m).parameters
-array_known of arrays.Length = tt
-array_known of arrays.Resize = (refl, tt)
-array_known of arrays.InsertLast = (element_known of, tt)
-array_known of arrays.RemoveLast = tt
-array_known of arrays.IsEmpty = tt
-
-array_method_is : (s : Signatures) (of : Element) (m : ArrayMethod) → operations.IsMethod s (OfArray of) (array_method_of of m).method (operations.parameters_of_array_method of m) (result_type (array_method_of of m).result)
-array_method_is s of arrays.Length = operations.of_array
-array_method_is s of arrays.Resize = operations.of_array
-array_method_is s of arrays.InsertLast = operations.of_array
-array_method_is s of arrays.RemoveLast = operations.of_array
-array_method_is s of arrays.IsEmpty = operations.of_array
-
-array_method_sound : (env : Environment) (of : Element) (m : ArrayMethod) → IsSoundMethod env (OfArray of) (array_method_of of m)
-array_method_sound env of m = (subst (λ parameters. operations.IsMethod (seen_in env).signatures (OfArray of) (array_method_of of m).method parameters (result_type (array_method_of of m).result)) (sym (array_parameters of m)) (array_method_is (seen_in env).signatures of m), array_known of m)
+use Rattle.ash_typing.specs.Offered.{host_signature, kind_in, factory_at, method_at, function_at}
+use Rattle.ash_typing.specs.Soundness.{signature_of, signatures_of_interface, signature_of_class, signatures_in}
+use Rattle.ash_typing.specs.Soundness.{seen_in}
+use Rattle.ash_typing.proofs.TypingKnown.{at_some, if_map, if_or, if_then, if_weaker, if_all, if_first, if_get}
+use Rattle.ash_typing.proofs.SoundnessLookUps.{IsSoundMethod, array_method_sound, both, first_place, found_with, mapped}
+use Rattle.ash_typing.proofs.SoundnessLookUps.{primitive_result, primitive_types, primitives_known, same_number}
+use Rattle.ash_typing.proofs.SoundnessLookUps.{this_is}
 
 -- a method of the first list that passes, and the places of the list's owner and its own
-functions_found : (test : Function → Bool) (fs : List Function) → AllByRecursion IsKnownFunction fs → IfSome (first_from test 0 fs) (λ found. (slice_get (map signature_of fs) found.0 ≡ Some (signature_of found.1)) × AllByRecursion IsVariableType found.1.parameters)
-functions_found test fs known = go (first_from test 0 fs) (first_place test fs) (if_first IsKnownFunction test 0 fs known)
+functions_found : (test : Function → Bool) (fs : List Function) → AllByRecursion IsKnownFunction fs
+    → IfSome (first_from test 0 fs) (λ found. (slice_get (map signature_of fs) found.0 ≡ Some (signature_of found.1))
+    × AllByRecursion IsVariableType found.1.parameters)
+functions_found test fs known =
+    go (first_from test 0 fs) (first_place test fs) (if_first IsKnownFunction test 0 fs known)
   where
-    go : (found : Option (ℕ × Function)) → IfSome found (λ f. slice_get fs f.0 ≡ Some f.1) → IfSome found (λ f. IsKnownFunction f.1) → IfSome found (λ f. (slice_get (map signature_of fs) f.0 ≡ Some (signature_of f.1)) × AllByRecursion IsVariableType f.1.parameters)
+    go : (found : Option (ℕ × Function)) → IfSome found (λ f. slice_get fs f.0 ≡ Some f.1)
+        → IfSome found (λ f. IsKnownFunction f.1)
+        → IfSome found (λ f. (slice_get (map signature_of fs) f.0 ≡ Some (signature_of f.1))
+        × AllByRecursion IsVariableType f.1.parameters)
     go None h k = tt
     go (Some f) h k = (mapped signature_of fs f.0 f.1 h, k.parameters)
 
-host_method_found : (env : Environment) (kind : ℕ) (text : List ℕ) (call : host.Call) → host.takes_member (name_of_kind env.registered kind) text call ≡ true → ((id : ℕ) (of : HostSignature) → method_at (name_of_kind env.registered kind) id call ≡ Some of → Contains ((seen_in env).signatures.host.methods kind id) of) → IfSome (host_method call) (IsSoundMethod env (OfHost kind))
+host_method_found : (env : Environment) (kind : ℕ) (text : List ℕ) (call : host.Call)
+    → host.takes_member (name_of_kind env.registered kind) text call ≡ true
+    → ((id : ℕ) (of : HostSignature) → method_at (name_of_kind env.registered kind) id call ≡ Some of
+    → Contains ((seen_in env).signatures.host.methods kind id) of)
+    → IfSome (host_method call) (IsSoundMethod env (OfHost kind))
 host_method_found env kind text (host.AMethod other id operation) e among =
     let of_type = both (bytes_eq (name_of_kind env.registered kind) other) (bytes_eq text operation.name) e in
-    let at : method_at (name_of_kind env.registered kind) id (host.AMethod other id operation) ≡ Some (host_signature operation) = rw (of_type.0, same_number id) refl in
-    let is = among id (host_signature operation) at in
-    (subst₂ (λ parameters result. operations.IsMethod (seen_in env).signatures (OfHost kind) (methods.Host id result) parameters result) (sym (primitive_types operation.parameters)) (sym (primitive_result operation.result)) (operations.of_host is), primitives_known operation.parameters)
+    let at : method_at (name_of_kind env.registered kind) id (host.AMethod other id operation)
+    ≡ Some (host_signature operation) = rw (of_type.0, same_number id) refl in
+    let is = among id (host_signature operation) at in (
+      subst₂ (λ parameters result.
+          operations.IsMethod (seen_in env).signatures (OfHost kind) (methods.Host id result) parameters result)
+          (sym (primitive_types operation.parameters)) (sym (primitive_result operation.result))
+          (operations.of_host is),
+      primitives_known operation.parameters,
+    )
 host_method_found env kind text _ e among = tt
 
-pub method_sound : (env : Environment) (o : ObjectType) (text : List ℕ) → IsKnown env → IfSome (method_in env o text) (IsSoundMethod env o)
+pub method_sound : (env : Environment) (o : ObjectType) (text : List ℕ) → IsKnown env
+    → IfSome (method_in env o text) (IsSoundMethod env o)
 unfolding method_in method_of_class method_of_interface method_of_array method_of_kind host_member_in
-method_sound env (OfClass i) text known = go (slice_get env.heads.classes i) refl (if_get IsKnownClass env.heads.classes i known.classes)
+method_sound env (OfClass i) text known =
+    go (slice_get env.heads.classes i) refl (if_get IsKnownClass env.heads.classes i known.classes)
   where
-    go : (c : Option Class) → slice_get env.heads.classes i ≡ c → IfSome c IsKnownClass → IfSome (option_and_then (class_method i text) c) (IsSoundMethod env (OfClass i))
+    go : (c : Option Class) → slice_get env.heads.classes i ≡ c → IfSome c IsKnownClass
+        → IfSome (option_and_then (class_method i text) c) (IsSoundMethod env (OfClass i))
     go None e k = tt
-    go (Some c) e k = if_map (IsSoundMethod env (OfClass i)) (λ (found : ℕ × Function). record { method = methods.Script i found.0 (result_type found.1.result); result = found.1.result; parameters = found.1.parameters }) (first_from (is_called text) 0 c.methods) (if_weaker (first_from (is_called text) 0 c.methods) (λ found h. (operations.of_class {c = signature_of_class c} (mapped signature_of_class env.heads.classes i c e) h.0, h.1)) (functions_found (is_called text) c.methods k.methods))
-method_sound env (OfInterface i) text known = go (slice_get env.heads.interfaces i) refl (if_get IsKnownInterface env.heads.interfaces i known.interfaces)
+    go (Some c) e k =
+        if_map (IsSoundMethod env (OfClass i))
+        (λ (found : ℕ × Function).
+        record {
+          method = methods.Script i found.0 (result_type found.1.result);
+          result = found.1.result;
+          parameters = found.1.parameters;
+        }) (first_from (is_called text) 0 c.methods) (if_weaker (first_from (is_called text) 0 c.methods)
+        (λ found h. (
+          operations.of_class {c = signature_of_class c} (mapped signature_of_class env.heads.classes i c e)
+              h.0,
+          h.1,
+        )) (functions_found (is_called text) c.methods k.methods))
+method_sound env (OfInterface i) text known =
+    go (slice_get env.heads.interfaces i) refl (if_get IsKnownInterface env.heads.interfaces i known.interfaces)
   where
-    go : (of : Option Interface) → slice_get env.heads.interfaces i ≡ of → IfSome of IsKnownInterface → IfSome (option_and_then (interface_method i text) of) (IsSoundMethod env (OfInterface i))
+    go : (of : Option Interface) → slice_get env.heads.interfaces i ≡ of → IfSome of IsKnownInterface
+        → IfSome (option_and_then (interface_method i text) of) (IsSoundMethod env (OfInterface i))
     go None e k = tt
-    go (Some of) e k = if_map (IsSoundMethod env (OfInterface i)) (λ (found : ℕ × Function). record { method = methods.Interface i found.0 (result_type found.1.result); result = found.1.result; parameters = found.1.parameters }) (first_from (is_called text) 0 of.methods) (if_weaker (first_from (is_called text) 0 of.methods) (λ found h. (operations.of_interface (mapped signatures_of_interface env.heads.interfaces i of e) h.0, h.1)) (functions_found (is_called text) of.methods k.methods))
+    go (Some of) e k =
+        if_map (IsSoundMethod env (OfInterface i))
+        (λ (found : ℕ × Function).
+        record {
+          method = methods.Interface i found.0 (result_type found.1.result);
+          result = found.1.result;
+          parameters = found.1.parameters;
+        }) (first_from (is_called text) 0 of.methods) (if_weaker (first_from (is_called text) 0 of.methods)
+        (λ found h. (operations.of_interface (mapped signatures_of_interface env.heads.interfaces i of e) h.0, h.1))
+        (functions_found (is_called text) of.methods k.methods))
 method_sound env (OfHost kind) text known =
     let name = name_of_kind env.registered kind in
-    if_then (λ (call : host.Call). (host.takes_member name text call ≡ true) × ((id : ℕ) (of : HostSignature) → method_at name id call ≡ Some of → Contains (filter_map (method_at name id) env.registered) of)) (IsSoundMethod env (OfHost kind)) host_method (find (host.takes_member name text) env.registered) (λ call h. host_method_found env kind text call h.0 h.1) (found_with (host.takes_member name text) (method_at name) env.registered)
-method_sound env (OfArray of) text known = let found = find (is_array_method text) (arrays.Length ∷ arrays.Resize ∷ arrays.InsertLast ∷ arrays.RemoveLast ∷ arrays.IsEmpty ∷ []) in if_map (IsSoundMethod env (OfArray of)) (array_method_of of) found (if_all found (array_method_sound env of))
+    if_then (λ (call : host.Call). (host.takes_member name text call ≡ true)
+    × ((id : ℕ) (of : HostSignature) → method_at name id call ≡ Some of
+    → Contains (filter_map (method_at name id) env.registered) of)) (IsSoundMethod env (OfHost kind)) host_method
+    (find (host.takes_member name text) env.registered)
+    (λ call h. host_method_found env kind text call h.0 h.1)
+    (found_with (host.takes_member name text) (method_at name) env.registered)
+method_sound env (OfArray of) text known = let found =
+    find (is_array_method text)
+    (arrays.Length ∷ arrays.Resize ∷ arrays.InsertLast ∷ arrays.RemoveLast ∷ arrays.IsEmpty ∷ []) in
+    if_map (IsSoundMethod env (OfArray of)) (array_method_of of) found (if_all found (array_method_sound env of))
 
--- what a name before brackets stands for
+-- what a name before brackets is
 
 -- it takes these parameters and gives this
 abbrev pub IsCalled : Environment → Callable → List VarType → Option VarType → Type 0
-IsCalled env (callables.OwnMethod class method result) parameters gives = (env.this ≡ Some class) × operations.IsMethod (seen_in env).signatures (OfClass class) (methods.Script class method result) parameters gives
-IsCalled env (callables.Target target) parameters gives = operations.IsTarget (seen_in env).signatures target parameters gives
+IsCalled env (callables.OwnMethod class method result) parameters gives =
+    (env.this ≡ Some class)
+    × operations.IsMethod (seen_in env).signatures (OfClass class) (methods.Script class method result) parameters gives
+IsCalled env (callables.Target target) parameters gives =
+    operations.IsTarget (seen_in env).signatures target parameters gives
 
-abbrev pub Takes : Environment → Callee → List Ty → Type 0
-Takes env callee parameters = IsCalled env callee.target (map var_type parameters) (result_type callee.result) × AllByRecursion IsVariableType parameters
+abbrev pub IsCalledWith : Environment → Callee → List Ty → Type 0
+IsCalledWith env callee parameters =
+    IsCalled env callee.target (map var_type parameters) (result_type callee.result)
+    × AllByRecursion IsVariableType parameters
 
 abbrev pub IsSoundCallee : Environment → Callee → Type 0
-IsSoundCallee env callee = IfSome callee.parameters (Takes env callee)
+IsSoundCallee env callee = IfSome callee.parameters (IsCalledWith env callee)
 
-pub class_takes : (env : Environment) (class : ℕ) (c : Class) → IsKnown env → slice_get env.heads.classes class ≡ Some c → operations.IsTarget (seen_in env).signatures (targets.Class class) (map var_type c.parameters) (result_type (ty.Handle (OfClass class))) × AllByRecursion IsVariableType c.parameters
-class_takes env class c known e = (operations.class {c = signature_of_class c} (mapped signature_of_class env.heads.classes class c e), (at_some IsKnownClass (slice_get env.heads.classes class) c (if_get IsKnownClass env.heads.classes class known.classes) e).parameters)
+pub class_takes : (env : Environment) (class : ℕ) (c : Class) → IsKnown env → slice_get env.heads.classes class ≡ Some c
+    → operations.IsTarget (seen_in env).signatures (targets.Class class) (map var_type c.parameters)
+    (result_type (ty.Handle (OfClass class))) × AllByRecursion IsVariableType c.parameters
+class_takes env class c known e = (
+  operations.class {c = signature_of_class c} (mapped signature_of_class env.heads.classes class c e),
+  (at_some IsKnownClass (slice_get env.heads.classes class) c
+      (if_get IsKnownClass env.heads.classes class known.classes) e).parameters,
+)
 
 abbrev function_by : ℕ × ℕ → host.Call → Option HostSignature
 function_by key call = function_at key.0 key.1 call
 
-service_found : (env : Environment) (call : host.Call) → ((key : ℕ × ℕ) (of : HostSignature) → function_by key call ≡ Some of → Contains (filter_map (function_by key) env.registered) of) → IfSome (service_function call) (IsSoundCallee env)
+service_found : (env : Environment) (call : host.Call)
+    → ((key : ℕ × ℕ) (of : HostSignature) → function_by key call ≡ Some of
+    → Contains (filter_map (function_by key) env.registered) of) → IfSome (service_function call) (IsSoundCallee env)
 service_found env (host.AFunction service id operation) among =
-    let at : function_at service id (host.AFunction service id operation) ≡ Some (host_signature operation) = rw (same_number service, same_number id) refl in
-    let is = among (service, id) (host_signature operation) at in
-    (subst₂ (λ parameters result. operations.IsTarget (seen_in env).signatures (targets.Service service id result) parameters result) (sym (primitive_types operation.parameters)) (sym (primitive_result operation.result)) (operations.service is), primitives_known operation.parameters)
+    let at : function_at service id (host.AFunction service id operation) ≡ Some (host_signature operation) =
+    rw (same_number service, same_number id) refl in
+    let is = among (service, id) (host_signature operation) at in (
+      subst₂ (λ parameters result.
+          operations.IsTarget (seen_in env).signatures (targets.Service service id result) parameters result)
+          (sym (primitive_types operation.parameters)) (sym (primitive_result operation.result))
+          (operations.service is),
+      primitives_known operation.parameters,
+    )
 service_found env _ among = tt
 
 -- the factory of a type
-factory_found : (env : Environment) (name : List ℕ) (kind : ℕ) → ((k : ℕ) (of : List Primitive) → factory_at env.registered k (host.AType name kind) ≡ Some of → Contains ((seen_in env).signatures.host.factories k) of) → IfSome (factory_in env.registered name) (λ parameters. operations.IsTarget (seen_in env).signatures (targets.Host kind) (map var_type parameters) (Some (var_type (ty.Handle (OfHost kind)))) × AllByRecursion IsVariableType parameters)
+factory_found : (env : Environment) (name : List ℕ) (kind : ℕ)
+    → ((k : ℕ) (of : List Primitive) → factory_at env.registered k (host.AType name kind) ≡ Some of
+    → Contains ((seen_in env).signatures.host.factories k) of)
+    → IfSome (factory_in env.registered name) (λ parameters.
+    operations.IsTarget (seen_in env).signatures (targets.Host kind) (map var_type parameters)
+    (Some (var_type (ty.Handle (OfHost kind)))) × AllByRecursion IsVariableType parameters)
 unfolding factory_in
 factory_found env name kind among = go (find (host.is_factory_of name) env.registered) refl
   where
-    go : (found : Option host.Call) → find (host.is_factory_of name) env.registered ≡ found → IfSome (option_and_then factory_parameters found) (λ parameters. operations.IsTarget (seen_in env).signatures (targets.Host kind) (map var_type parameters) (Some (var_type (ty.Handle (OfHost kind)))) × AllByRecursion IsVariableType parameters)
+    go : (found : Option host.Call) → find (host.is_factory_of name) env.registered ≡ found
+        → IfSome (option_and_then factory_parameters found) (λ parameters.
+        operations.IsTarget (seen_in env).signatures (targets.Host kind) (map var_type parameters)
+        (Some (var_type (ty.Handle (OfHost kind)))) × AllByRecursion IsVariableType parameters)
     go None e = tt
     go (Some (host.AFactory of parameters)) e =
-        let at : factory_at env.registered kind (host.AType name kind) ≡ Some parameters = rw (same_number kind, e) refl in
-        (subst (λ types. operations.IsTarget (seen_in env).signatures (targets.Host kind) types (Some (var_type (ty.Handle (OfHost kind))))) (sym (primitive_types parameters)) (operations.host (among kind parameters at)), primitives_known parameters)
+        let at : factory_at env.registered kind (host.AType name kind) ≡ Some parameters =
+        rw (same_number kind, e) refl in (
+          subst (λ types.
+              operations.IsTarget (seen_in env).signatures (targets.Host kind) types
+              (Some (var_type (ty.Handle (OfHost kind))))) (sym (primitive_types parameters))
+              (operations.host (among kind parameters at)),
+          primitives_known parameters,
+        )
     go (Some _) e = tt
 
-pub host_found : (env : Environment) (call : host.Call) → ((k : ℕ) (of : List Primitive) → factory_at env.registered k call ≡ Some of → Contains ((seen_in env).signatures.host.factories k) of) → IfSome (host_type env.registered call) (IsSoundCallee env)
+pub host_found : (env : Environment) (call : host.Call)
+    → ((k : ℕ) (of : List Primitive) → factory_at env.registered k call ≡ Some of
+    → Contains ((seen_in env).signatures.host.factories k) of)
+    → IfSome (host_type env.registered call) (IsSoundCallee env)
 host_found env (host.AType name kind) among = factory_found env name kind among
 host_found env _ among = tt
 
-own_found : (env : Environment) (text : List ℕ) (class : ℕ) (c : Class) → IsKnown env → env.this ≡ Some class → slice_get env.heads.classes class ≡ Some c → IfSome (first_from (is_called text) 0 c.methods) (λ found. IsSoundCallee env (record { target = callables.OwnMethod class found.0 (result_type found.1.result); result = found.1.result; parameters = Some found.1.parameters }))
+own_found : (env : Environment) (text : List ℕ) (class : ℕ) (c : Class) → IsKnown env → env.this ≡ Some class
+    → slice_get env.heads.classes class ≡ Some c
+    → IfSome (first_from (is_called text) 0 c.methods) (λ found.
+    IsSoundCallee env (record {
+      target = callables.OwnMethod class found.0 (result_type found.1.result);
+      result = found.1.result;
+      parameters = Some found.1.parameters;
+    }))
 own_found env text class c known this e =
-    let of_class = at_some IsKnownClass (slice_get env.heads.classes class) c (if_get IsKnownClass env.heads.classes class known.classes) e in
-    if_weaker (first_from (is_called text) 0 c.methods) (λ found h. ((this, operations.of_class {c = signature_of_class c} (mapped signature_of_class env.heads.classes class c e) h.0), h.1)) (functions_found (is_called text) c.methods of_class.methods)
+    let of_class =
+    at_some IsKnownClass (slice_get env.heads.classes class) c
+    (if_get IsKnownClass env.heads.classes class known.classes) e in
+    if_weaker (first_from (is_called text) 0 c.methods)
+    (λ found h. (
+      (
+        this,
+        operations.of_class {c = signature_of_class c} (mapped signature_of_class env.heads.classes class c e) h.0,
+      ),
+      h.1,
+    )) (functions_found (is_called text) c.methods of_class.methods)
 
 pub callee_sound : (env : Environment) (text : List ℕ) → IsKnown env → IfSome (callee_in env text) (IsSoundCallee env)
 unfolding callee_in
 callee_sound env text known =
     let Q = IsSoundCallee env in
-    let own = if_then (λ (c : ℕ × Class). (env.this ≡ Some c.0) × (slice_get env.heads.classes c.0 ≡ Some c.1)) Q (λ (c : ℕ × Class). option_map (λ (found : ℕ × Function). record { target = callables.OwnMethod c.0 found.0 (result_type found.1.result); result = found.1.result; parameters = Some found.1.parameters }) (first_from (is_called text) 0 c.1.methods)) (this_class env) (λ c h. if_map Q (λ (found : ℕ × Function). record { target = callables.OwnMethod c.0 found.0 (result_type found.1.result); result = found.1.result; parameters = Some found.1.parameters }) (first_from (is_called text) 0 c.1.methods) (own_found env text c.0 c.1 known h.0 h.1)) (this_is env.heads.classes env.this) in
-    let function = if_map Q (λ (found : ℕ × Function). record { target = callables.Target (targets.Function found.0 (result_type found.1.result)); result = found.1.result; parameters = Some found.1.parameters }) (first_from (is_called text) 0 env.heads.functions) (if_weaker (first_from (is_called text) 0 env.heads.functions) (λ found h. (operations.function h.0, h.1)) (functions_found (is_called text) env.heads.functions known.functions)) in
-    let service = if_then (λ (call : host.Call). (host.takes_name text call ≡ true) × ((key : ℕ × ℕ) (of : HostSignature) → function_by key call ≡ Some of → Contains (filter_map (function_by key) env.registered) of)) Q service_function (named_in env.registered text) (λ call h. service_found env call h.1) (found_with (host.takes_name text) function_by env.registered) in
-    let class = if_map Q (λ (found : ℕ × Class). record { target = callables.Target (targets.Class found.0); result = ty.Handle (OfClass found.0); parameters = Some found.1.parameters }) (first_from (is_class text) 0 env.heads.classes) (if_weaker (first_from (is_class text) 0 env.heads.classes) (λ found h. class_takes env found.0 found.1 known h) (first_place (is_class text) env.heads.classes)) in
-    let kind = if_then (λ (call : host.Call). (host.takes_name text call ≡ true) × ((k : ℕ) (of : List Primitive) → factory_at env.registered k call ≡ Some of → Contains (filter_map (factory_at env.registered k) env.registered) of)) Q (host_type env.registered) (named_in env.registered text) (λ call h. host_found env call h.1) (found_with (host.takes_name text) (factory_at env.registered) env.registered) in
-    if_or Q (own_method_in env text) (option_or (function_in env.heads.functions text) (callee_beside env text)) own (if_or Q (function_in env.heads.functions text) (callee_beside env text) function (if_or Q (option_and_then service_function (named_in env.registered text)) (option_or (class_in env.heads.classes text) (option_and_then (host_type env.registered) (named_in env.registered text))) service (if_or Q (class_in env.heads.classes text) (option_and_then (host_type env.registered) (named_in env.registered text)) class kind)))
+    let own = if_then (λ (c : ℕ × Class). (env.this ≡ Some c.0) × (slice_get env.heads.classes c.0 ≡ Some c.1)) Q
+    (λ (c : ℕ × Class).
+    option_map (λ (found : ℕ × Function).
+    record {
+      target = callables.OwnMethod c.0 found.0 (result_type found.1.result);
+      result = found.1.result;
+      parameters = Some found.1.parameters;
+    }) (first_from (is_called text) 0 c.1.methods)) (this_class env)
+    (λ c h. if_map Q
+    (λ (found : ℕ × Function).
+    record {
+      target = callables.OwnMethod c.0 found.0 (result_type found.1.result);
+      result = found.1.result;
+      parameters = Some found.1.parameters;
+    }) (first_from (is_called text) 0 c.1.methods) (own_found env text c.0 c.1 known h.0 h.1))
+    (this_is env.heads.classes env.this) in
+    let function =
+    if_map Q (λ (found : ℕ × Function).
+    record {
+      target = callables.Target (targets.Function found.0 (result_type found.1.result));
+      result = found.1.result;
+      parameters = Some found.1.parameters;
+    }) (first_from (is_called text) 0 env.heads.functions)
+    (if_weaker (first_from (is_called text) 0 env.heads.functions)
+    (λ found h. (operations.function h.0, h.1))
+    (functions_found (is_called text) env.heads.functions known.functions)) in
+    let service =
+    if_then (λ (call : host.Call). (host.takes_name text call ≡ true)
+    × ((key : ℕ × ℕ) (of : HostSignature) → function_by key call ≡ Some of
+    → Contains (filter_map (function_by key) env.registered) of)) Q service_function (named_in env.registered text)
+    (λ call h. service_found env call h.1) (found_with (host.takes_name text) function_by env.registered) in
+    let class = if_map Q
+    (λ (found : ℕ × Class).
+    record {
+      target = callables.Target (targets.Class found.0);
+      result = ty.Handle (OfClass found.0);
+      parameters = Some found.1.parameters;
+    }) (first_from (is_class text) 0 env.heads.classes) (if_weaker (first_from (is_class text) 0 env.heads.classes)
+    (λ found h. class_takes env found.0 found.1 known h) (first_place (is_class text) env.heads.classes)) in
+    let kind = if_then
+    (λ (call : host.Call). (host.takes_name text call ≡ true)
+    × ((k : ℕ) (of : List Primitive) → factory_at env.registered k call ≡ Some of
+    → Contains (filter_map (factory_at env.registered k) env.registered) of)) Q (host_type env.registered)
+    (named_in env.registered text)
+    (λ call h. host_found env call h.1)
+    (found_with (host.takes_name text) (factory_at env.registered) env.registered) in
+    if_or Q (own_method_in env text) (option_or (function_in env.heads.functions text) (callee_beside env text)) own
+    (if_or Q (function_in env.heads.functions text) (callee_beside env text) function
+    (if_or Q (option_and_then service_function (named_in env.registered text))
+    (option_or (class_in env.heads.classes text)
+    (option_and_then (host_type env.registered) (named_in env.registered text))) service
+    (if_or Q (class_in env.heads.classes text)
+    (option_and_then (host_type env.registered) (named_in env.registered text)) class kind)))
 
 -- types that are named
 
-kind_found : (calls : List host.Call) (heads : Heads) (call : host.Call) → ((kind : ℕ) → kind_in call ≡ Some kind → Contains (filter_map kind_in calls) kind) → IfSome (host_object call) (IsObjectType (signatures_in calls heads))
+kind_found : (calls : List host.Call) (heads : Heads) (call : host.Call)
+    → ((kind : ℕ) → kind_in call ≡ Some kind → Contains (filter_map kind_in calls) kind)
+    → IfSome (host_object call) (IsObjectType (signatures_in calls heads))
 kind_found calls heads (host.AType name kind) among = object_host (among kind refl)
 kind_found calls heads _ among = tt
 
-pub object_sound : (calls : List host.Call) (heads : Heads) (name : List ℕ) → IfSome (object_named calls heads name) (IsObjectType (signatures_in calls heads))
+pub object_sound : (calls : List host.Call) (heads : Heads) (name : List ℕ)
+    → IfSome (object_named calls heads name) (IsObjectType (signatures_in calls heads))
 unfolding object_named
 object_sound calls heads name =
     let s = signatures_in calls heads in
     let Q = IsObjectType s in
-    let class = if_map Q (λ (found : ℕ × Class). OfClass found.0) (first_from (is_class name) 0 heads.classes) (if_weaker (first_from (is_class name) 0 heads.classes) (λ found h. object_class (slice_get_within s.classes found.0 (signature_of_class found.1) (mapped signature_of_class heads.classes found.0 found.1 h))) (first_place (is_class name) heads.classes)) in
-    let interface = if_map Q (λ (found : ℕ × Interface). OfInterface found.0) (first_from (is_interface_named name) 0 heads.interfaces) (if_weaker (first_from (is_interface_named name) 0 heads.interfaces) (λ found h. object_interface (slice_get_within s.interfaces found.0 (signatures_of_interface found.1) (mapped signatures_of_interface heads.interfaces found.0 found.1 h))) (first_place (is_interface_named name) heads.interfaces)) in
-    let kind = if_then (λ (call : host.Call). (host.takes_name name call ≡ true) × ((key : Unit {0}) (kind : ℕ) → kind_in call ≡ Some kind → Contains (filter_map kind_in calls) kind)) Q host_object (find (host.takes_name name) calls) (λ call h. kind_found calls heads call (h.1 tt)) (found_with (host.takes_name name) (λ (key : Unit {0}). kind_in) calls) in
-    if_or Q (class_type heads.classes name) (option_or (interface_type heads.interfaces name) (option_and_then host_object (find (host.takes_name name) calls))) class (if_or Q (interface_type heads.interfaces name) (option_and_then host_object (find (host.takes_name name) calls)) interface kind)
+    let class = if_map Q
+    (λ (found : ℕ × Class). OfClass found.0) (first_from (is_class name) 0 heads.classes)
+    (if_weaker (first_from (is_class name) 0 heads.classes)
+    (λ found h. object_class
+    (slice_get_within s.classes found.0 (signature_of_class found.1)
+    (mapped signature_of_class heads.classes found.0 found.1 h))) (first_place (is_class name) heads.classes)) in
+    let interface =
+    if_map Q (λ (found : ℕ × Interface). OfInterface found.0)
+    (first_from (is_interface_named name) 0 heads.interfaces)
+    (if_weaker (first_from (is_interface_named name) 0 heads.interfaces)
+    (λ found h. object_interface
+    (slice_get_within s.interfaces found.0 (signatures_of_interface found.1)
+    (mapped signatures_of_interface heads.interfaces found.0 found.1 h)))
+    (first_place (is_interface_named name) heads.interfaces)) in
+    let kind = if_then
+    (λ (call : host.Call). (host.takes_name name call ≡ true)
+    × ((key : Unit {0}) (kind : ℕ) → kind_in call ≡ Some kind → Contains (filter_map kind_in calls) kind)) Q
+    host_object (find (host.takes_name name) calls)
+    (λ call h. kind_found calls heads call (h.1 tt))
+    (found_with (host.takes_name name) (λ (key : Unit {0}). kind_in) calls) in
+    if_or Q (class_type heads.classes name)
+    (option_or (interface_type heads.interfaces name)
+    (option_and_then host_object (find (host.takes_name name) calls))) class
+    (if_or Q (interface_type heads.interfaces name)
+    (option_and_then host_object (find (host.takes_name name) calls)) interface kind)
 
 primitive_element : (s : Signatures) (of : Primitive) → IsElement s (element_of of)
 primitive_element s primitives.Bool = truths
@@ -334,7 +335,10 @@ object_element s (OfInterface interface) (object_interface h) = element_interfac
 object_element s (OfHost kind) (object_host h) = element_host h
 object_element s (OfArray of) h = tt
 
-pub element_sound : (calls : List host.Call) (heads : Heads) (of : written.Element) → IfSome (element_named calls heads of) (IsElement (signatures_in calls heads))
+pub element_sound : (calls : List host.Call) (heads : Heads) (of : written.Element)
+    → IfSome (element_named calls heads of) (IsElement (signatures_in calls heads))
 unfolding element_named
 element_sound calls heads (written.PrimElement p primitive) = primitive_element (signatures_in calls heads) primitive
-element_sound calls heads (written.HandleElement p name) = if_then (IsObjectType (signatures_in calls heads)) (IsElement (signatures_in calls heads)) element_by (object_named calls heads name) (object_element (signatures_in calls heads)) (object_sound calls heads name)
+element_sound calls heads (written.HandleElement p name) =
+    if_then (IsObjectType (signatures_in calls heads)) (IsElement (signatures_in calls heads)) element_by
+    (object_named calls heads name) (object_element (signatures_in calls heads)) (object_sound calls heads name)

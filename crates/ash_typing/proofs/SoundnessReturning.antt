@@ -6,9 +6,13 @@ use Rattle.ash_tree.specs.Tree as written
 use Rattle.ash_typed.specs.declared.types.Kind.{Kind}
 use Rattle.ash_typed.specs.StatementTree.{Stmt, Stmts, labelled, Cases, no_case, next_case}
 use Rattle.ash_typed.specs.Returning as typed
-use Rattle.ash_typing.specs.Returning.{breaks, any_breaks, breaks_out, is_default, has_default, last_of, returns, any_returns, last_returns}
+use Rattle.ash_typing.specs.Returning.{breaks, any_breaks, breaks_out, is_default, has_default, last_of, returns}
+use Rattle.ash_typing.specs.Returning.{any_returns, last_returns}
 use Rattle.ash_typing.specs.Scopes.{Scope}
-use Rattle.ash_typing.specs.TypedStatements.{IsStmt, empty, declare, evaluate, block, if_only, if_else, while_loop, do_loop, for_loop, switch, break_out, continue_on, return_nothing, return_value, AreStmts, no_more_stmts, more_stmts, AreCases, no_more_cases, more_cases}
+use Rattle.ash_typing.specs.TypedStatements.{IsStmt, empty, declare, evaluate, block, if_only, if_else, while_loop}
+use Rattle.ash_typing.specs.TypedStatements.{do_loop, for_loop, switch, break_out, continue_on, return_nothing}
+use Rattle.ash_typing.specs.TypedStatements.{return_value, AreStmts, no_more_stmts, more_stmts, AreCases, no_more_cases}
+use Rattle.ash_typing.specs.TypedStatements.{more_cases}
 
 or_left : (a b : Bool) → a ≡ true → (a || b) ≡ true
 or_left true b h = refl
@@ -50,66 +54,89 @@ mutual
   break_written (return_nothing h) b = elim b [ ]
   break_written (return_value h i) b = elim b [ ]
 
-  any_written : {scope : Scope} {ss : written.Stmts} {ts : Stmts} → AreStmts scope ss ts → typed.AnyBreaks ts → any_breaks ss ≡ true
+  any_written : {scope : Scope} {ss : written.Stmts} {ts : Stmts} → AreStmts scope ss ts → typed.AnyBreaks ts
+      → any_breaks ss ≡ true
   any_written no_more_stmts b = elim b [ ]
-  any_written (more_stmts {s = s} {ss = ss} h rest) (typed.first_breaks b) = or_left (breaks s) (any_breaks ss) (break_written h b)
-  any_written (more_stmts {s = s} {ss = ss} h rest) (typed.later_breaks b) = or_right (breaks s) (any_breaks ss) (any_written rest b)
+  any_written (more_stmts {s = s} {ss = ss} h rest) (typed.first_breaks b) =
+      or_left (breaks s) (any_breaks ss) (break_written h b)
+  any_written (more_stmts {s = s} {ss = ss} h rest) (typed.later_breaks b) =
+      or_right (breaks s) (any_breaks ss) (any_written rest b)
 
-out_written : {scope : Scope} {k : Kind} {before : List Label} {cs : written.Cases} {rows : Cases} → AreCases scope k before cs rows → typed.BreaksOut rows → breaks_out cs ≡ true
+out_written : {scope : Scope} {k : Kind} {before : List Label} {cs : written.Cases} {rows : Cases}
+    → AreCases scope k before cs rows → typed.BreaksOut rows → breaks_out cs ≡ true
 out_written no_more_cases b = elim b [ ]
-out_written (more_cases {ss = ss} {cs = cs} l h rest) (typed.first_case b) = or_left (any_breaks ss) (breaks_out cs) (any_written h b)
-out_written (more_cases {ss = ss} {cs = cs} l h rest) (typed.later_case b) = or_right (any_breaks ss) (breaks_out cs) (out_written rest b)
+out_written (more_cases {ss = ss} {cs = cs} l h rest) (typed.first_case b) =
+    or_left (any_breaks ss) (breaks_out cs) (any_written h b)
+out_written (more_cases {ss = ss} {cs = cs} l h rest) (typed.later_case b) =
+    or_right (any_breaks ss) (breaks_out cs) (out_written rest b)
 
 -- labels
 
-default_here : (l : Label) (ts : Stmts) (rows : Cases) → is_default l ≡ true → typed.HasDefault (next_case (labelled l ts) rows)
+default_here : (l : Label) (ts : Stmts) (rows : Cases) → is_default l ≡ true
+    → typed.HasDefault (next_case (labelled l ts) rows)
 default_here labels.Default ts rows h = typed.first_label
 default_here (labels.Case n) ts rows h = absurd (cc)
 default_here (labels.CaseMinus n) ts rows h = absurd (cc)
 
-default_typed : {scope : Scope} {k : Kind} {before : List Label} {cs : written.Cases} {rows : Cases} → AreCases scope k before cs rows → has_default cs ≡ true → typed.HasDefault rows
+default_typed : {scope : Scope} {k : Kind} {before : List Label} {cs : written.Cases} {rows : Cases}
+    → AreCases scope k before cs rows → has_default cs ≡ true → typed.HasDefault rows
 default_typed no_more_cases h = absurd (cc)
-default_typed (more_cases {l = l} {cs = cs} {ts = ts} {rows = rows} is ss rest) h = go (or_cases (is_default l) (has_default cs) h) (default_typed rest)
+default_typed (more_cases {l = l} {cs = cs} {ts = ts} {rows = rows} is ss rest) h =
+    go (or_cases (is_default l) (has_default cs) h) (default_typed rest)
   where
-    go : (is_default l ≡ true) ⊎ (has_default cs ≡ true) → (has_default cs ≡ true → typed.HasDefault rows) → typed.HasDefault (next_case (labelled l ts) rows)
+    go : (is_default l ≡ true) ⊎ (has_default cs ≡ true) → (has_default cs ≡ true → typed.HasDefault rows)
+        → typed.HasDefault (next_case (labelled l ts) rows)
     go (inl e) more = default_here l ts rows e
     go (inr e) more = typed.later_label (more e)
 
 -- the last label is the last one typed
-no_rows : {scope : Scope} {k : Kind} {before : List Label} {cs : written.Cases} {rows : Cases} → AreCases scope k before cs rows → cs ≡ written.no_case → rows ≡ no_case
+no_rows : {scope : Scope} {k : Kind} {before : List Label} {cs : written.Cases} {rows : Cases}
+    → AreCases scope k before cs rows → cs ≡ written.no_case → rows ≡ no_case
 no_rows no_more_cases e = refl
 no_rows (more_cases l ss rest) e = absurd (cc)
 
-last_typed : (here : Bool) (cs : written.Cases) (l : Label) (ts : Stmts) (rows : Cases) → (here ≡ true → typed.AnyReturns ts) → (last_returns cs ≡ true → typed.LastReturns rows) → (cs ≡ written.no_case → rows ≡ no_case) → last_of here cs (last_returns cs) ≡ true → typed.LastReturns (next_case (labelled l ts) rows)
-last_typed here written.no_case l ts rows one more none h = subst (λ rows. typed.LastReturns (next_case (labelled l ts) rows)) (sym (none refl)) (typed.last_case (one h))
-last_typed here (written.next_case c cs) l ts rows one more none h = typed.behind_case (more h)
+last_typed : (here : Bool) (cs : written.Cases) (l : Label) (ts : Stmts) (rows : Cases)
+    → (here ≡ true → typed.AnyReturns ts) → (last_returns cs ≡ true → typed.LastReturns rows)
+    → (cs ≡ written.no_case → rows ≡ no_case) → last_of here cs (last_returns cs) ≡ true
+    → typed.LastReturns (next_case (labelled l ts) rows)
+last_typed here written.no_case l ts rows one more none h =
+    subst (λ rows. typed.LastReturns (next_case (labelled l ts) rows)) (sym (none refl)) (typed.last_case (one h))
+last_typed here (written.next_case c cs) l ts rows one more none h = typed.not_last_case (more h)
 
 -- statements
 
 mutual
-  pub return_typed : {scope : Scope} {s : written.Stmt} {t : Stmt} → IsStmt scope s t → returns s ≡ true → typed.Returns t
+  pub return_typed : {scope : Scope} {s : written.Stmt} {t : Stmt} → IsStmt scope s t → returns s ≡ true
+      → typed.Returns t
   return_typed empty h = absurd (cc)
   return_typed (declare is are) h = absurd (cc)
   return_typed (evaluate i) h = absurd (cc)
   return_typed (block i) h = typed.in_block (any_typed i h)
   return_typed (if_only i j) h = absurd (cc)
-  return_typed (if_else {s = s} {r = r} i j k) h = let parts = and_parts (returns s) (returns r) h in typed.in_both (return_typed j parts.0) (return_typed k parts.1)
+  return_typed (if_else {s = s} {r = r} i j k) h = let parts = and_parts (returns s) (returns r) h in
+      typed.in_both (return_typed j parts.0) (return_typed k parts.1)
   return_typed (while_loop i j) h = absurd (cc)
   return_typed (do_loop i j) h = absurd (cc)
   return_typed (for_loop i m all body) h = absurd (cc)
   return_typed (switch {cs = cs} i j are) h =
       let parts = and_parts (has_default cs) (not (breaks_out cs) && last_returns cs) h in
       let more = and_parts (not (breaks_out cs)) (last_returns cs) parts.1 in
-      typed.in_switch (default_typed are parts.0) (λ b. not_both (breaks_out cs) more.0 (out_written are b)) (cases_typed are more.1)
+      typed.in_switch (default_typed are parts.0)
+      (λ b. not_both (breaks_out cs) more.0 (out_written are b)) (cases_typed are more.1)
   return_typed (break_out i) h = absurd (cc)
   return_typed (continue_on i) h = absurd (cc)
   return_typed (return_nothing i) h = typed.returned
   return_typed (return_value i j) h = typed.returned
 
-  pub any_typed : {scope : Scope} {ss : written.Stmts} {ts : Stmts} → AreStmts scope ss ts → any_returns ss ≡ true → typed.AnyReturns ts
+  pub any_typed : {scope : Scope} {ss : written.Stmts} {ts : Stmts} → AreStmts scope ss ts → any_returns ss ≡ true
+      → typed.AnyReturns ts
   any_typed no_more_stmts h = absurd (cc)
-  any_typed (more_stmts {s = s} {ss = ss} i rest) h = ⊎_elim (λ e. typed.first_returns (return_typed i e)) (λ e. typed.later_returns (any_typed rest e)) (or_cases (returns s) (any_returns ss) h)
+  any_typed (more_stmts {s = s} {ss = ss} i rest) h =
+      ⊎_elim (λ e. typed.first_returns (return_typed i e))
+      (λ e. typed.later_returns (any_typed rest e)) (or_cases (returns s) (any_returns ss) h)
 
-  cases_typed : {scope : Scope} {k : Kind} {before : List Label} {cs : written.Cases} {rows : Cases} → AreCases scope k before cs rows → last_returns cs ≡ true → typed.LastReturns rows
+  cases_typed : {scope : Scope} {k : Kind} {before : List Label} {cs : written.Cases} {rows : Cases}
+      → AreCases scope k before cs rows → last_returns cs ≡ true → typed.LastReturns rows
   cases_typed no_more_cases h = absurd (cc)
-  cases_typed (more_cases {l = l} {ss = ss} {cs = cs} {ts = ts} {rows = rows} is i rest) h = last_typed (any_returns ss) cs l ts rows (any_typed i) (cases_typed rest) (no_rows rest) h
+  cases_typed (more_cases {l = l} {ss = ss} {cs = cs} {ts = ts} {rows = rows} is i rest) h =
+      last_typed (any_returns ss) cs l ts rows (any_typed i) (cases_typed rest) (no_rows rest) h

@@ -9,11 +9,17 @@ use Rattle.ash_typed.specs.Modules as modules
 use Rattle.ash_typed.specs.Signatures as signatures
 use Rattle.ash_typing.specs.declared.types.Ty.{Ty}
 use Rattle.ash_typing.specs.Types.{var_type, result_type}
-use Rattle.ash_typing.specs.Environment.{Environment, Declared, Heads, inside, type_declared}
-use Rattle.ash_typing.specs.Heads.{object_named, ty_named, result_named, declared, variables, parameter_ty, function_head, signature_head, interface_head, class_head, interface_place, with_place, listed_in, names_in, heads, ty_in, result_in, all_variables, constructed_by}
-use Rattle.ash_tree.specs.Items.{classes_of, interfaces_of, classes_before, functions_of, globals_of, fields_of, methods_of, constructors_of}
+use Rattle.ash_typing.specs.Environment.{Environment, Heads, inside, type_declared}
+use Rattle.ash_typing.specs.Heads.{object_named, ty_named, result_named, declared, variables, parameter_ty}
+use Rattle.ash_typing.specs.Heads.{function_head, signature_head, interface_head, class_head, interface_place}
+use Rattle.ash_typing.specs.Heads.{with_place, listed_in, names_in, heads, ty_in, result_in, all_variables}
+use Rattle.ash_typing.specs.Heads.{constructed_by}
+use Rattle.ash_tree.specs.Items.{classes_of, interfaces_of, classes_before, functions_of, globals_of, fields_of}
+use Rattle.ash_tree.specs.Items.{methods_of, constructors_of}
 use Rattle.ash_typing.specs.Typing.{IsDeclared, declared as is_declared}
-use Rattle.ash_typing.specs.TypedModules.{type_of_parameter, AreVariables, AreFields, IsFunction, IsSignature, IsInterface, AreInterfaces, IsListed, HasConstructor, IsClass, AreClasses, environment, IsTyped}
+use Rattle.ash_typing.specs.TypedModules.{type_of_parameter, AreVariables, AreFields, IsFunction, IsSignature}
+use Rattle.ash_typing.specs.TypedModules.{IsInterface, AreInterfaces, IsListed, HasConstructor, IsClass, AreClasses}
+use Rattle.ash_typing.specs.TypedModules.{environment, IsTyped}
 use Rattle.ash_typing.specs.Offered.{offered}
 use Rattle.ash_typing.specs.Soundness.{signature_of, signatures_of_interface, signature_of_class, signatures_in}
 use Rattle.ash_typing.proofs.KnownModules.{same_type, same_object}
@@ -21,7 +27,8 @@ use Rattle.ash_typing.proofs.SoundnessVariables.{map-append}
 
 -- lists
 
-zip_same : {A B C : Type 0} (R : A → B → Type 0) (f : B → C) (g : A → C) → ((x : A) (y : B) → R x y → f y ≡ g x) → (xs : List A) (ys : List B) → AllZip R xs ys → map f ys ≡ map g xs
+zip_same : {A B C : Type 0} (R : A → B → Type 0) (f : B → C) (g : A → C) → ((x : A) (y : B) → R x y → f y ≡ g x)
+    → (xs : List A) (ys : List B) → AllZip R xs ys → map f ys ≡ map g xs
 zip_same R f g one [] [] h = refl
 zip_same R f g one [] (y ∷ ys) h = absurd h
 zip_same R f g one (x ∷ xs) [] h = absurd h
@@ -36,68 +43,108 @@ map-same f g one [] = refl
 map-same f g one (x ∷ xs) = ap₂ (λ y ys. y ∷ ys) (one x) (map-same f g one xs)
 
 -- what is written is looked up by these names as the environment does
-pub record Looks (env : Environment) (calls : List host.Call) (named : Heads) : Type 0 where
+pub record NamesAgree (env : Environment) (calls : List host.Call) (named : Heads) : Type 0 where
   pub types : (of : written.Named) → ty_in env of ≡ ty_named calls named of
   pub names : (name : List ℕ) → object_named env.registered env.heads name ≡ object_named calls named name
 
-within_class : {env : Environment} {calls : List host.Call} {named : Heads} → Looks env calls named → (place : ℕ) → Looks (inside env place) calls named
-within_class looks place = record { types = looks.types; names = looks.names }
+within_class : {env : Environment} {calls : List host.Call} {named : Heads} → NamesAgree env calls named → (place : ℕ)
+    → NamesAgree (inside env place) calls named
+within_class agree place = record { types = agree.types; names = agree.names }
 
 -- functions and signatures
 
-same_result : {env : Environment} {calls : List host.Call} {named : Heads} → Looks env calls named → (of : Option written.Named) → result_in env of ≡ result_named calls named of
-same_result looks None = refl
-same_result looks (Some of) = looks.types of
+same_result : {env : Environment} {calls : List host.Call} {named : Heads} → NamesAgree env calls named
+    → (of : Option written.Named) → result_in env of ≡ result_named calls named of
+same_result agree None = refl
+same_result agree (Some of) = agree.types of
 
-same_parameters : {env : Environment} {calls : List host.Call} {named : Heads} → Looks env calls named → (ps : List written.Parameter) → map (type_of_parameter env) ps ≡ map var_type (map (parameter_ty calls named) ps)
-same_parameters looks [] = refl
-same_parameters looks (p ∷ ps) = ap₂ (λ of rest. var_type of ∷ rest) (looks.types p.of) (same_parameters looks ps)
+same_parameters : {env : Environment} {calls : List host.Call} {named : Heads} → NamesAgree env calls named
+    → (ps : List written.Parameter) → map (type_of_parameter env) ps ≡ map var_type (map (parameter_ty calls named) ps)
+same_parameters agree [] = refl
+same_parameters agree (p ∷ ps) = ap₂ (λ of rest. var_type of ∷ rest) (agree.types p.of) (same_parameters agree ps)
 
-same_function : {env : Environment} {calls : List host.Call} {named : Heads} → Looks env calls named → (f : written.Function) (t : modules.Function) → IsFunction env f t → signatures.signature_of t ≡ signature_of (function_head calls named f)
-same_function looks f t is = λ i. record { name = is.routine.name i; result = (is.routine.result ∙ ap result_type (same_result looks f.result)) i; parameters = (is.routine.parameters ∙ same_parameters looks f.parameters) i }
+same_function : {env : Environment} {calls : List host.Call} {named : Heads} → NamesAgree env calls named
+    → (f : written.Function) (t : modules.Function) → IsFunction env f t
+    → signatures.signature_of t ≡ signature_of (function_head calls named f)
+same_function agree f t is = λ i. record {
+  name = is.routine.name i;
+  result = (is.routine.result ∙ ap result_type (same_result agree f.result)) i;
+  parameters = (is.routine.parameters ∙ same_parameters agree f.parameters) i;
+}
 
-same_signature : {env : Environment} {calls : List host.Call} {named : Heads} → Looks env calls named → (m : written.InterfaceMethod) (t : modules.Signature) → IsSignature env m t → t ≡ signature_of (signature_head calls named m)
-same_signature looks m t is = λ i. record { name = is.name i; result = (is.result ∙ ap result_type (same_result looks m.result)) i; parameters = (is.parameters ∙ same_parameters looks m.parameters) i }
+same_signature : {env : Environment} {calls : List host.Call} {named : Heads} → NamesAgree env calls named
+    → (m : written.InterfaceMethod) (t : modules.Signature) → IsSignature env m t
+    → t ≡ signature_of (signature_head calls named m)
+same_signature agree m t is = λ i. record {
+  name = is.name i;
+  result = (is.result ∙ ap result_type (same_result agree m.result)) i;
+  parameters = (is.parameters ∙ same_parameters agree m.parameters) i;
+}
 
-same_methods : {env : Environment} {calls : List host.Call} {named : Heads} → Looks env calls named → (fs : List written.Function) (ts : List modules.Function) → AllZip (IsFunction env) fs ts → map signatures.signature_of ts ≡ map signature_of (map (function_head calls named) fs)
-same_methods {env} {calls} {named} looks fs ts h = zip_same (IsFunction env) signatures.signature_of (λ f. signature_of (function_head calls named f)) (same_function looks) fs ts h ∙ sym (map-map signature_of (function_head calls named) fs)
+same_methods : {env : Environment} {calls : List host.Call} {named : Heads} → NamesAgree env calls named
+    → (fs : List written.Function) (ts : List modules.Function) → AllZip (IsFunction env) fs ts
+    → map signatures.signature_of ts ≡ map signature_of (map (function_head calls named) fs)
+same_methods {env} {calls} {named} agree fs ts h =
+    zip_same (IsFunction env) signatures.signature_of
+    (λ f. signature_of (function_head calls named f)) (same_function agree) fs ts h
+    ∙ sym (map-map signature_of (function_head calls named) fs)
 
 -- variables
 
-same_variables : (env : Environment) (of : Ty) (ds : List written.Decl) (vs : List Initialization) → AllZip (IsDeclared env of) ds vs → map signatures.type_declared vs ≡ map type_declared (map (declared of) ds)
-same_variables env of ds vs h = zip_same (IsDeclared env of) signatures.type_declared (λ d. type_declared (declared of d)) one ds vs h ∙ sym (map-map type_declared (declared of) ds)
+same_variables : (env : Environment) (of : Ty) (ds : List written.Decl) (vs : List Initialization)
+    → AllZip (IsDeclared env of) ds vs → map signatures.type_declared vs ≡ map type_declared (map (declared of) ds)
+same_variables env of ds vs h =
+    zip_same (IsDeclared env of) signatures.type_declared (λ d. type_declared (declared of d)) one ds vs h
+    ∙ sym (map-map type_declared (declared of) ds)
   where
-    one : (d : written.Decl) (v : Initialization) → IsDeclared env of d v → signatures.type_declared v ≡ type_declared (declared of d)
+    one : (d : written.Decl) (v : Initialization) → IsDeclared env of d v
+        → signatures.type_declared v ≡ type_declared (declared of d)
     one d v (is_declared i) = refl
 
-same_decls : {env : Environment} {calls : List host.Call} {named : Heads} → Looks env calls named → (v : written.Vars) (vs : List Initialization) → AllZip (IsDeclared env (ty_in env v.of)) v.decls vs → map signatures.type_declared vs ≡ map type_declared (variables calls named v)
-same_decls {env} looks v vs h = same_variables env (ty_in env v.of) v.decls vs h ∙ ap (λ of. map type_declared (map (declared of) v.decls)) (looks.types v.of)
+same_decls : {env : Environment} {calls : List host.Call} {named : Heads} → NamesAgree env calls named
+    → (v : written.Vars) (vs : List Initialization) → AllZip (IsDeclared env (ty_in env v.of)) v.decls vs
+    → map signatures.type_declared vs ≡ map type_declared (variables calls named v)
+same_decls {env} agree v vs h =
+    same_variables env (ty_in env v.of) v.decls vs h
+    ∙ ap (λ of. map type_declared (map (declared of) v.decls)) (agree.types v.of)
 
 -- classes
 
-same_fields : {env : Environment} {calls : List host.Call} {named : Heads} → Looks env calls named → (vs : List written.Vars) (ts : List Initialization) → AreFields env vs ts → map signatures.type_declared ts ≡ map type_declared (all_variables calls named vs)
-same_fields looks [] ts h = ap (map signatures.type_declared) h
-same_fields {env} {calls} {named} looks (v ∷ vs) ts h =
-    ap (map signatures.type_declared) h.5 ∙ map-append signatures.type_declared h.0 h.1 ∙ ap₂ (λ xs ys. xs ++ ys) (same_decls looks v h.0 h.3) (same_fields looks vs h.1 h.4) ∙ sym (map-append type_declared (variables calls named v) (all_variables calls named vs))
+same_fields : {env : Environment} {calls : List host.Call} {named : Heads} → NamesAgree env calls named
+    → (vs : List written.Vars) (ts : List Initialization) → AreFields env vs ts
+    → map signatures.type_declared ts ≡ map type_declared (all_variables calls named vs)
+same_fields agree [] ts h = ap (map signatures.type_declared) h
+same_fields {env} {calls} {named} agree (v ∷ vs) ts h =
+    ap (map signatures.type_declared) h.5 ∙ map-append signatures.type_declared h.0 h.1
+    ∙ ap₂ (λ xs ys. xs ++ ys) (same_decls agree v h.0 h.3) (same_fields agree vs h.1 h.4)
+    ∙ sym (map-append type_declared (variables calls named v) (all_variables calls named vs))
 
-same_construction : {env : Environment} {calls : List host.Call} {named : Heads} → Looks env calls named → (class : List ℕ) (cs : List written.Constructor) (t : Option modules.Function) → HasConstructor env class cs t → signatures.parameters_of t ≡ map var_type (constructed_by calls named cs)
-same_construction looks class [] None h = refl
-same_construction looks class [] (Some t) h = absurd h
-same_construction looks class (c ∷ []) None h = absurd h
-same_construction looks class (c ∷ []) (Some t) h = h.routine.parameters ∙ same_parameters looks c.parameters
-same_construction looks class (c ∷ (d ∷ cs)) t h = absurd h
+same_construction : {env : Environment} {calls : List host.Call} {named : Heads} → NamesAgree env calls named
+    → (class : List ℕ) (cs : List written.Constructor) (t : Option modules.Function) → HasConstructor env class cs t
+    → signatures.parameters_of t ≡ map var_type (constructed_by calls named cs)
+same_construction agree class [] None h = refl
+same_construction agree class [] (Some t) h = absurd h
+same_construction agree class (c ∷ []) None h = absurd h
+same_construction agree class (c ∷ []) (Some t) h = h.routine.parameters ∙ same_parameters agree c.parameters
+same_construction agree class (c ∷ (d ∷ cs)) t h = absurd h
 
-same_listed : {env : Environment} {calls : List host.Call} {named : Heads} → Looks env calls named → (place : ℕ) (ns : List written.TypeName) (is : List modules.Implementation) → AllZip (IsListed env place) ns is → map signatures.place_of_interface is ≡ listed_in calls named ns
-same_listed looks place [] [] h = refl
-same_listed looks place [] (i ∷ is) h = absurd h
-same_listed looks place (n ∷ ns) [] h = absurd h
-same_listed {env} {calls} {named} looks place (n ∷ ns) (i ∷ is) h =
-    ap (λ places. i.interface ∷ places) (same_listed looks place ns is h.1) ∙ ap (λ (o : Option ObjectType). with_place (interface_place o) (listed_in calls named ns)) (sym h.0.interface ∙ looks.names n.name)
+same_listed : {env : Environment} {calls : List host.Call} {named : Heads} → NamesAgree env calls named
+    → (place : ℕ) (ns : List written.TypeName) (is : List modules.Implementation) → AllZip (IsListed env place) ns is
+    → map signatures.place_of_interface is ≡ listed_in calls named ns
+same_listed agree place [] [] h = refl
+same_listed agree place [] (i ∷ is) h = absurd h
+same_listed agree place (n ∷ ns) [] h = absurd h
+same_listed {env} {calls} {named} agree place (n ∷ ns) (i ∷ is) h =
+    ap (λ places. i.interface ∷ places) (same_listed agree place ns is h.1)
+    ∙ ap (λ (o : Option ObjectType). with_place (interface_place o) (listed_in calls named ns))
+    (sym h.0.interface ∙ agree.names n.name)
 
-same_class : {env : Environment} {calls : List host.Call} {named : Heads} → Looks env calls named → (place : ℕ) (c : written.Class) (t : modules.Class) → IsClass env place c t → signatures.signature_of_class t ≡ signature_of_class (class_head calls named c)
-same_class {env} {calls} {named} looks place c t is =
-    let inner = within_class looks place in
-    let interfaces = same_listed looks place c.interfaces t.interfaces is.interfaces in
+same_class : {env : Environment} {calls : List host.Call} {named : Heads} → NamesAgree env calls named
+    → (place : ℕ) (c : written.Class) (t : modules.Class) → IsClass env place c t
+    → signatures.signature_of_class t ≡ signature_of_class (class_head calls named c)
+same_class {env} {calls} {named} agree place c t is =
+    let inner = within_class agree place in
+    let interfaces = same_listed agree place c.interfaces t.interfaces is.interfaces in
     let fields = same_fields inner (fields_of c.members) t.fields is.fields in
     let parameters = same_construction inner c.name (constructors_of c.members) t.constructor is.constructor in
     let methods = same_methods inner (methods_of c.members) t.methods is.methods in
@@ -105,41 +152,65 @@ same_class {env} {calls} {named} looks place c t is =
 
 -- modules
 
-same_interface : {env : Environment} {calls : List host.Call} {named : Heads} → Looks env calls named → (i : written.Interface) (classes : ℕ) (t : modules.Interface) → IsInterface env i classes t → signatures.methods_of_interface t ≡ signatures_of_interface (interface_head calls named i)
-same_interface {env} {calls} {named} looks i classes t is = sym (map-itself t.methods) ∙ zip_same (IsSignature env) (λ m. m) (λ m. signature_of (signature_head calls named m)) (same_signature looks) i.methods t.methods is.methods ∙ sym (map-map signature_of (signature_head calls named) i.methods)
+same_interface : {env : Environment} {calls : List host.Call} {named : Heads} → NamesAgree env calls named
+    → (i : written.Interface) (classes : ℕ) (t : modules.Interface) → IsInterface env i classes t
+    → signatures.methods_of_interface t ≡ signatures_of_interface (interface_head calls named i)
+same_interface {env} {calls} {named} agree i classes t is =
+    sym (map-itself t.methods)
+    ∙ zip_same (IsSignature env) (λ m. m)
+    (λ m. signature_of (signature_head calls named m)) (same_signature agree) i.methods t.methods is.methods
+    ∙ sym (map-map signature_of (signature_head calls named) i.methods)
   where
     map-itself : (ms : List modules.Signature) → map (λ (m : modules.Signature). m) ms ≡ ms
     map-itself [] = refl
     map-itself (m ∷ ms) = ap (λ rest. m ∷ rest) (map-itself ms)
 
-same_interfaces : {env : Environment} {calls : List host.Call} {named : Heads} → Looks env calls named → (is : List written.Interface) (ns : List ℕ) (ts : List modules.Interface) → AreInterfaces env is ns ts → map signatures.methods_of_interface ts ≡ map signatures_of_interface (map (interface_head calls named) is)
-same_interfaces looks [] [] [] h = refl
-same_interfaces looks [] [] (t ∷ ts) h = absurd h
-same_interfaces looks [] (n ∷ ns) ts h = absurd h
-same_interfaces looks (i ∷ is) [] ts h = absurd h
-same_interfaces looks (i ∷ is) (n ∷ ns) [] h = absurd h
-same_interfaces looks (i ∷ is) (n ∷ ns) (t ∷ ts) h = ap₂ (λ x xs. x ∷ xs) (same_interface looks i n t h.0) (same_interfaces looks is ns ts h.1)
+same_interfaces : {env : Environment} {calls : List host.Call} {named : Heads} → NamesAgree env calls named
+    → (is : List written.Interface) (ns : List ℕ) (ts : List modules.Interface) → AreInterfaces env is ns ts
+    → map signatures.methods_of_interface ts ≡ map signatures_of_interface (map (interface_head calls named) is)
+same_interfaces agree [] [] [] h = refl
+same_interfaces agree [] [] (t ∷ ts) h = absurd h
+same_interfaces agree [] (n ∷ ns) ts h = absurd h
+same_interfaces agree (i ∷ is) [] ts h = absurd h
+same_interfaces agree (i ∷ is) (n ∷ ns) [] h = absurd h
+same_interfaces agree (i ∷ is) (n ∷ ns) (t ∷ ts) h =
+    ap₂ (λ x xs. x ∷ xs) (same_interface agree i n t h.0) (same_interfaces agree is ns ts h.1)
 
-same_classes : {env : Environment} {calls : List host.Call} {named : Heads} → Looks env calls named → (place : ℕ) (cs : List written.Class) (ts : List modules.Class) → AreClasses env place cs ts → map signatures.signature_of_class ts ≡ map signature_of_class (map (class_head calls named) cs)
-same_classes looks place [] [] h = refl
-same_classes looks place [] (t ∷ ts) h = absurd h
-same_classes looks place (c ∷ cs) [] h = absurd h
-same_classes looks place (c ∷ cs) (t ∷ ts) h = ap₂ (λ x xs. x ∷ xs) (same_class looks place c t h.0) (same_classes looks (place + 1) cs ts h.1)
+same_classes : {env : Environment} {calls : List host.Call} {named : Heads} → NamesAgree env calls named
+    → (place : ℕ) (cs : List written.Class) (ts : List modules.Class) → AreClasses env place cs ts
+    → map signatures.signature_of_class ts ≡ map signature_of_class (map (class_head calls named) cs)
+same_classes agree place [] [] h = refl
+same_classes agree place [] (t ∷ ts) h = absurd h
+same_classes agree place (c ∷ cs) [] h = absurd h
+same_classes agree place (c ∷ cs) (t ∷ ts) h =
+    ap₂ (λ x xs. x ∷ xs) (same_class agree place c t h.0) (same_classes agree (place + 1) cs ts h.1)
 
-same_globals : {env : Environment} {calls : List host.Call} {named : Heads} → Looks env calls named → (vs : List written.Vars) (ts : List modules.Variables) → AllZip (AreVariables env) vs ts → signatures.types_of_globals ts ≡ map type_declared (all_variables calls named vs)
-same_globals looks [] [] h = refl
-same_globals looks [] (t ∷ ts) h = absurd h
-same_globals looks (v ∷ vs) [] h = absurd h
-same_globals {env} {calls} {named} looks (v ∷ vs) (t ∷ ts) h = ap₂ (λ xs ys. xs ++ ys) (same_decls looks v t.values h.0.values) (same_globals looks vs ts h.1) ∙ sym (map-append type_declared (variables calls named v) (all_variables calls named vs))
+same_globals : {env : Environment} {calls : List host.Call} {named : Heads} → NamesAgree env calls named
+    → (vs : List written.Vars) (ts : List modules.Variables) → AllZip (AreVariables env) vs ts
+    → signatures.types_of_globals ts ≡ map type_declared (all_variables calls named vs)
+same_globals agree [] [] h = refl
+same_globals agree [] (t ∷ ts) h = absurd h
+same_globals agree (v ∷ vs) [] h = absurd h
+same_globals {env} {calls} {named} agree (v ∷ vs) (t ∷ ts) h =
+    ap₂ (λ xs ys. xs ++ ys) (same_decls agree v t.values h.0.values) (same_globals agree vs ts h.1)
+    ∙ sym (map-append type_declared (variables calls named v) (all_variables calls named vs))
 
 -- what the items of a module see
-pub same_signatures : (calls : List host.Call) (is : List written.Item) (m : modules.Module) → IsTyped calls is m → signatures.signatures_of (offered calls) m ≡ signatures_in calls (heads calls is)
+pub same_signatures : (calls : List host.Call) (is : List written.Item) (m : modules.Module) → IsTyped calls is m
+    → signatures.signatures_of (offered calls) m ≡ signatures_in calls (heads calls is)
 unfolding heads
 same_signatures calls is m typed =
     let named = names_in is in
-    let looks : Looks (environment calls is) calls named = record { types = same_type calls is; names = same_object calls is } in
-    let interfaces = same_interfaces looks (interfaces_of is) (classes_before 0 is) m.interfaces typed.interfaces in
-    let classes = same_classes looks 0 (classes_of is) m.classes typed.classes in
-    let functions = same_methods looks (functions_of is) m.functions typed.functions in
-    let globals = same_globals looks (globals_of is) m.globals typed.globals in
-    λ i. record { host = offered calls; interfaces = interfaces i; classes = classes i; functions = functions i; globals = globals i }
+    let agree : NamesAgree (environment calls is) calls named =
+    record { types = same_type calls is; names = same_object calls is } in
+    let interfaces = same_interfaces agree (interfaces_of is) (classes_before 0 is) m.interfaces typed.interfaces in
+    let classes = same_classes agree 0 (classes_of is) m.classes typed.classes in
+    let functions = same_methods agree (functions_of is) m.functions typed.functions in
+    let globals = same_globals agree (globals_of is) m.globals typed.globals in
+    λ i. record {
+      host = offered calls;
+      interfaces = interfaces i;
+      classes = classes i;
+      functions = functions i;
+      globals = globals i;
+    }

@@ -26,18 +26,19 @@ use Rattle.ash_typing.specs.declared.forms.Sort.{Sort}
 use Rattle.ash_typing.specs.declared.forms.Sort.TheVariants as sort
 use Rattle.ash_typing.specs.declared.forms.Form.{Form}
 use Rattle.ash_typing.specs.declared.forms.Form.TheVariants as form
-use Rattle.ash_typing.specs.Types.{is_same_kind, is_same_element, is_same_object, holds, kind_of, meeting, common, gives_object, agrees, sort_of, meets, outcome, var_type, value_type}
+use Rattle.ash_typing.specs.Types.{is_same_kind, is_same_element, is_same_object, holds, kind_of, meeting, common}
+use Rattle.ash_typing.specs.Types.{gives_object, agrees, sort_of, meets, outcome, var_type, value_type}
 use Rattle.ash_typing.specs.Environment.{Environment, Class}
 use Rattle.ash_typing.specs.Fitting.{has_interface, lists, is_of, fits}
-use Rattle.ash_typing.specs.Terms.{conversion, operand_type, applied, Term, converted_to, taking, beside, right_by}
+use Rattle.ash_typing.specs.Terms.{conversion, operand_type, applied, Term, converted_to, taking, adapted_to, right_by}
 use Rattle.ash_typing.specs.Typing.{is_known, IsKnownType}
 use Rattle.ash_typing.specs.Soundness.{signature_of_class, seen_in}
 use Rattle.ash_typing.proofs.TypingTypes.{equal_kinds}
-use Rattle.ash_typing.proofs.SoundnessNames.{mapped}
+use Rattle.ash_typing.proofs.SoundnessLookUps.{mapped}
 
 -- the tree gives what an expression of the type gives
-abbrev pub Gives : Environment → Expr → Ty → Type 0
-Gives env tree of = sound.IsWellTyped (seen_in env) tree (value_type of)
+abbrev pub GivesType : Environment → Expr → Ty → Type 0
+GivesType env tree of = sound.IsWellTyped (seen_in env) tree (value_type of)
 
 -- equal types
 
@@ -64,82 +65,120 @@ within kinds.Uint n h = ltb-true n (2 ^ 32) h
 within kinds.Int64 n h = ltb-true n (2 ^ 63) h
 within kinds.Uint64 n h = tt
 
-kind_within : (n : ℕ) (a b c : Bool) → holds kinds.Int n ≡ a → holds kinds.Uint n ≡ b → holds kinds.Int64 n ≡ c → operations.IsWithin (cond a kinds.Int (cond b kinds.Uint (cond c kinds.Int64 kinds.Uint64))) n
+kind_within : (n : ℕ) (a b c : Bool) → holds kinds.Int n ≡ a → holds kinds.Uint n ≡ b → holds kinds.Int64 n ≡ c
+    → operations.IsWithin (cond a kinds.Int (cond b kinds.Uint (cond c kinds.Int64 kinds.Uint64))) n
 kind_within n true b c h i k = within kinds.Int n h
 kind_within n false true c h i k = within kinds.Uint n i
 kind_within n false false true h i k = within kinds.Int64 n k
 kind_within n false false false h i k = tt
 
 -- a number has a type that holds it
-pub number_sound : (env : Environment) (n : ℕ) → Gives env (Number (kind_of n) n) (ty.Integer (kind_of n))
-number_sound env n = sound.number (kind_within n (holds kinds.Int n) (holds kinds.Uint n) (holds kinds.Int64 n) refl refl refl)
+pub number_sound : (env : Environment) (n : ℕ) → GivesType env (Number (kind_of n) n) (ty.Integer (kind_of n))
+number_sound env n =
+    sound.number (kind_within n (holds kinds.Int n) (holds kinds.Uint n) (holds kinds.Int64 n) refl refl refl)
 
 -- conversions
 
-integer_if : (env : Environment) (j k : Kind) (tree : Expr) (b : Bool) → is_same_kind j k ≡ b → Gives env tree (ty.Integer j) → Gives env (converted (cond b None (Some (record { from = j; to = k }))) tree) (ty.Integer k)
-integer_if env j k tree true e h = subst (λ kind. Gives env tree (ty.Integer kind)) (equal_kinds j k e) h
+integer_if : (env : Environment) (j k : Kind) (tree : Expr) (b : Bool) → is_same_kind j k ≡ b
+    → GivesType env tree (ty.Integer j)
+    → GivesType env (converted (cond b None (Some (record { from = j; to = k }))) tree) (ty.Integer k)
+integer_if env j k tree true e h = subst (λ kind. GivesType env tree (ty.Integer kind)) (equal_kinds j k e) h
 integer_if env j k tree false e h = sound.convert h
 
-pub integer_sound : (env : Environment) (j k : Kind) (tree : Expr) → Gives env tree (ty.Integer j) → Gives env (converted (conversion (ty.Integer k) (ty.Integer j)) tree) (ty.Integer k)
+pub integer_sound : (env : Environment) (j k : Kind) (tree : Expr) → GivesType env tree (ty.Integer j)
+    → GivesType env (converted (conversion (ty.Integer k) (ty.Integer j)) tree) (ty.Integer k)
 integer_sound env j k tree h = integer_if env j k tree (is_same_kind j k) refl h
 
 -- of what is known to have a type
-pub of_type : (env : Environment) (tree : Expr) (of other : Ty) → of ≡ other → Gives env tree of → Gives env tree other
-of_type env tree of other e h = subst (Gives env tree) e h
+pub of_type : (env : Environment) (tree : Expr) (of other : Ty) → of ≡ other → GivesType env tree of
+    → GivesType env tree other
+of_type env tree of other e h = subst (GivesType env tree) e h
 
-pub converted_sound : (env : Environment) (t : Term) (j k : Kind) → t.ty ≡ ty.Integer j → Gives env t.tree t.ty → Gives env (converted_to (ty.Integer k) t) (ty.Integer k)
-converted_sound env t j k e h = subst (λ of. Gives env (converted (conversion (ty.Integer k) of) t.tree) (ty.Integer k)) (sym e) (integer_sound env j k t.tree (of_type env t.tree t.ty (ty.Integer j) e h))
+pub converted_sound : (env : Environment) (t : Term) (j k : Kind) → t.ty ≡ ty.Integer j → GivesType env t.tree t.ty
+    → GivesType env (converted_to (ty.Integer k) t) (ty.Integer k)
+converted_sound env t j k e h =
+    subst (λ of. GivesType env (converted (conversion (ty.Integer k) of) t.tree) (ty.Integer k)) (sym e)
+    (integer_sound env j k t.tree (of_type env t.tree t.ty (ty.Integer j) e h))
 
 -- operands
 
-taken_sound : (env : Environment) (k : Kind) (n : ℕ) (t : Term) (b : Bool) → holds k n ≡ b → Gives env t.tree t.ty → Gives env (cond b (record { ty = ty.Integer k; form = form.Number n; tree = Number k n }) t).tree (cond b (record { ty = ty.Integer k; form = form.Number n; tree = Number k n }) t).ty
+taken_sound : (env : Environment) (k : Kind) (n : ℕ) (t : Term) (b : Bool) → holds k n ≡ b → GivesType env t.tree t.ty
+    → GivesType env (cond b (record { ty = ty.Integer k; form = form.Number n; tree = Number k n }) t).tree
+    (cond b (record { ty = ty.Integer k; form = form.Number n; tree = Number k n }) t).ty
 taken_sound env k n t true e h = sound.number (within k n e)
 taken_sound env k n t false e h = h
 
-taking_sound : (env : Environment) (a : Form) (of : Ty) (b : Form) (t : Term) → Gives env t.tree t.ty → Gives env (taking a of b t).tree (taking a of b t).ty
+taking_sound : (env : Environment) (a : Form) (of : Ty) (b : Form) (t : Term) → GivesType env t.tree t.ty
+    → GivesType env (taking a of b t).tree (taking a of b t).ty
 taking_sound env (form.Number m) of (form.Number n) t h = h
 taking_sound env a (ty.Integer k) (form.Number n) t h = taken_sound env k n t (holds k n) refl h
 taking_sound env a of b t h = h
 
--- the operand of an operator beside another one
-pub beside_sound : (env : Environment) (s : Sort) (other t : Term) → Gives env t.tree t.ty → Gives env (beside s other t).tree (beside s other t).ty
-beside_sound env sort.Shift other t h = h
-beside_sound env _ other t h = taking_sound env other.form other.ty t.form t h
+-- the operand of an operator whose other operand is this
+pub adapted_sound : (env : Environment) (s : Sort) (other t : Term) → GivesType env t.tree t.ty
+    → GivesType env (adapted_to s other t).tree (adapted_to s other t).ty
+adapted_sound env sort.Shift other t h = h
+adapted_sound env _ other t h = taking_sound env other.form other.ty t.form t h
 
 -- what the operands of an operator give, by what it is of
 abbrev AreOperands : Environment → Sort → Operands → Expr → Expr → Type 0
-AreOperands env sort.Arithmetic (operands.Integers k) a b = Gives env a (ty.Integer k) × Gives env b (ty.Integer k)
-AreOperands env sort.Shift (operands.Integers k) a b = Gives env a (ty.Integer k) × ((j : Kind) × Gives env b (ty.Integer j))
-AreOperands env sort.Order (operands.Integers k) a b = Gives env a (ty.Integer k) × Gives env b (ty.Integer k)
-AreOperands env sort.Equality (operands.Integers k) a b = Gives env a (ty.Integer k) × Gives env b (ty.Integer k)
-AreOperands env sort.Equality operands.Bools a b = Gives env a ty.Bool × Gives env b ty.Bool
-AreOperands env sort.Logic operands.Bools a b = Gives env a ty.Bool × Gives env b ty.Bool
-AreOperands env sort.Identity operands.Handles a b = (x y : ValueType) × sound.IsWellTyped (seen_in env) a x × operations.IsOperand operands.Handles x × sound.IsWellTyped (seen_in env) b y × operations.IsOperand operands.Handles y
+AreOperands env sort.Arithmetic (operands.Integers k) a b =
+    GivesType env a (ty.Integer k) × GivesType env b (ty.Integer k)
+AreOperands env sort.Shift (operands.Integers k) a b =
+    GivesType env a (ty.Integer k) × ((j : Kind) × GivesType env b (ty.Integer j))
+AreOperands env sort.Order (operands.Integers k) a b = GivesType env a (ty.Integer k) × GivesType env b (ty.Integer k)
+AreOperands env sort.Equality (operands.Integers k) a b =
+    GivesType env a (ty.Integer k) × GivesType env b (ty.Integer k)
+AreOperands env sort.Equality operands.Bools a b = GivesType env a ty.Bool × GivesType env b ty.Bool
+AreOperands env sort.Logic operands.Bools a b = GivesType env a ty.Bool × GivesType env b ty.Bool
+AreOperands env sort.Identity operands.Handles a b =
+    (x y : ValueType) × sound.IsWellTyped (seen_in env) a x × operations.IsOperand operands.Handles x
+    × sound.IsWellTyped (seen_in env) b y × operations.IsOperand operands.Handles y
 AreOperands env _ _ _ _ = ⊥
 
 -- what becomes of two terms
 abbrev AreMet : Environment → Sort → Operands → Ty → Ty → Form → Expr → Expr → Type 0
-AreMet env s o a b f x y = AreOperands env s o (converted (conversion (operand_type o) a) x) (right_by s o (record { ty = b; form = f; tree = y }))
+AreMet env s o a b f x y =
+    AreOperands env s o (converted (conversion (operand_type o) a) x)
+    (right_by s o (record { ty = b; form = f; tree = y }))
 
-arithmetic_sound : (env : Environment) (a b : Ty) (f : Form) (x y : Expr) (o : Operands) → Gives env x a → Gives env y b → meets sort.Arithmetic a b ≡ Some o → AreMet env sort.Arithmetic o a b f x y
-arithmetic_sound env (ty.Integer j) (ty.Integer k) f x y o h i e = subst (λ o. AreMet env sort.Arithmetic o (ty.Integer j) (ty.Integer k) f x y) (same_Some (operands.Integers (meeting j k)) o e) (integer_sound env j (meeting j k) x h, integer_sound env k (meeting j k) y i)
+arithmetic_sound : (env : Environment) (a b : Ty) (f : Form) (x y : Expr) (o : Operands) → GivesType env x a
+    → GivesType env y b → meets sort.Arithmetic a b ≡ Some o → AreMet env sort.Arithmetic o a b f x y
+arithmetic_sound env (ty.Integer j) (ty.Integer k) f x y o h i e =
+    subst (λ o. AreMet env sort.Arithmetic o (ty.Integer j) (ty.Integer k) f x y)
+    (same_Some (operands.Integers (meeting j k)) o e)
+    (integer_sound env j (meeting j k) x h, integer_sound env k (meeting j k) y i)
 arithmetic_sound env _ _ f x y o h i e = absurd (none-some o e)
 
-shift_sound : (env : Environment) (a b : Ty) (f : Form) (x y : Expr) (o : Operands) → Gives env x a → Gives env y b → meets sort.Shift a b ≡ Some o → AreMet env sort.Shift o a b f x y
-shift_sound env (ty.Integer j) (ty.Integer k) f x y o h i e = subst (λ o. AreMet env sort.Shift o (ty.Integer j) (ty.Integer k) f x y) (same_Some (operands.Integers j) o e) (integer_sound env j j x h, (k, i))
+shift_sound : (env : Environment) (a b : Ty) (f : Form) (x y : Expr) (o : Operands) → GivesType env x a
+    → GivesType env y b → meets sort.Shift a b ≡ Some o → AreMet env sort.Shift o a b f x y
+shift_sound env (ty.Integer j) (ty.Integer k) f x y o h i e =
+    subst (λ o. AreMet env sort.Shift o (ty.Integer j) (ty.Integer k) f x y) (same_Some (operands.Integers j) o e)
+    (integer_sound env j j x h, (k, i))
 shift_sound env _ _ f x y o h i e = absurd (none-some o e)
 
-order_sound : (env : Environment) (a b : Ty) (f : Form) (x y : Expr) (o : Operands) → Gives env x a → Gives env y b → meets sort.Order a b ≡ Some o → AreMet env sort.Order o a b f x y
-order_sound env (ty.Integer j) (ty.Integer k) f x y o h i e = subst (λ o. AreMet env sort.Order o (ty.Integer j) (ty.Integer k) f x y) (same_Some (operands.Integers (meeting j k)) o e) (integer_sound env j (meeting j k) x h, integer_sound env k (meeting j k) y i)
+order_sound : (env : Environment) (a b : Ty) (f : Form) (x y : Expr) (o : Operands) → GivesType env x a
+    → GivesType env y b → meets sort.Order a b ≡ Some o → AreMet env sort.Order o a b f x y
+order_sound env (ty.Integer j) (ty.Integer k) f x y o h i e =
+    subst (λ o. AreMet env sort.Order o (ty.Integer j) (ty.Integer k) f x y)
+    (same_Some (operands.Integers (meeting j k)) o e)
+    (integer_sound env j (meeting j k) x h, integer_sound env k (meeting j k) y i)
 order_sound env _ _ f x y o h i e = absurd (none-some o e)
 
-equality_sound : (env : Environment) (a b : Ty) (f : Form) (x y : Expr) (o : Operands) → Gives env x a → Gives env y b → meets sort.Equality a b ≡ Some o → AreMet env sort.Equality o a b f x y
-equality_sound env (ty.Integer j) (ty.Integer k) f x y o h i e = subst (λ o. AreMet env sort.Equality o (ty.Integer j) (ty.Integer k) f x y) (same_Some (operands.Integers (meeting j k)) o e) (integer_sound env j (meeting j k) x h, integer_sound env k (meeting j k) y i)
-equality_sound env ty.Bool ty.Bool f x y o h i e = subst (λ o. AreMet env sort.Equality o ty.Bool ty.Bool f x y) (same_Some operands.Bools o e) (h, i)
+equality_sound : (env : Environment) (a b : Ty) (f : Form) (x y : Expr) (o : Operands) → GivesType env x a
+    → GivesType env y b → meets sort.Equality a b ≡ Some o → AreMet env sort.Equality o a b f x y
+equality_sound env (ty.Integer j) (ty.Integer k) f x y o h i e =
+    subst (λ o. AreMet env sort.Equality o (ty.Integer j) (ty.Integer k) f x y)
+    (same_Some (operands.Integers (meeting j k)) o e)
+    (integer_sound env j (meeting j k) x h, integer_sound env k (meeting j k) y i)
+equality_sound env ty.Bool ty.Bool f x y o h i e =
+    subst (λ o. AreMet env sort.Equality o ty.Bool ty.Bool f x y) (same_Some operands.Bools o e) (h, i)
 equality_sound env _ _ f x y o h i e = absurd (none-some o e)
 
-logic_sound : (env : Environment) (a b : Ty) (f : Form) (x y : Expr) (o : Operands) → Gives env x a → Gives env y b → meets sort.Logic a b ≡ Some o → AreMet env sort.Logic o a b f x y
-logic_sound env ty.Bool ty.Bool f x y o h i e = subst (λ o. AreMet env sort.Logic o ty.Bool ty.Bool f x y) (same_Some operands.Bools o e) (h, i)
+logic_sound : (env : Environment) (a b : Ty) (f : Form) (x y : Expr) (o : Operands) → GivesType env x a
+    → GivesType env y b → meets sort.Logic a b ≡ Some o → AreMet env sort.Logic o a b f x y
+logic_sound env ty.Bool ty.Bool f x y o h i e =
+    subst (λ o. AreMet env sort.Logic o ty.Bool ty.Bool f x y) (same_Some operands.Bools o e) (h, i)
 logic_sound env _ _ f x y o h i e = absurd (none-some o e)
 
 -- an object or null
@@ -159,7 +198,8 @@ reference_operand (ty.Integer k) h = absurd (cc)
 reference_operand ty.Void h = absurd (cc)
 reference_operand ty.Unknown h = absurd (cc)
 
-agreeing : (a b : Ty) → is_known a ≡ true → is_known b ≡ true → agrees a b ≡ true → (is_reference a ≡ true) × (is_reference b ≡ true)
+agreeing : (a b : Ty) → is_known a ≡ true → is_known b ≡ true → agrees a b ≡ true
+    → (is_reference a ≡ true) × (is_reference b ≡ true)
 unfolding is_reference
 agreeing (ty.Object o) (ty.Object p) h i e = (refl, refl)
 agreeing (ty.Object o) (ty.Handle p) h i e = (refl, refl)
@@ -172,17 +212,22 @@ agreeing ty.Null (ty.Handle p) h i e = (refl, refl)
 agreeing ty.Null ty.Null h i e = (refl, refl)
 agreeing _ _ h i e = absurd (cc)
 
-identity_if : (b : Bool) (o : Operands) → cond b (Some operands.Handles) None ≡ Some o → (b ≡ true) × (operands.Handles ≡ o)
+identity_if : (b : Bool) (o : Operands) → cond b (Some operands.Handles) None ≡ Some o
+    → (b ≡ true) × (operands.Handles ≡ o)
 identity_if true o e = (refl, same_Some operands.Handles o e)
 identity_if false o e = absurd (none-some o e)
 
-identity_sound : (env : Environment) (a b : Ty) (f : Form) (x y : Expr) (o : Operands) → is_known a ≡ true → is_known b ≡ true → Gives env x a → Gives env y b → meets sort.Identity a b ≡ Some o → AreMet env sort.Identity o a b f x y
+identity_sound : (env : Environment) (a b : Ty) (f : Form) (x y : Expr) (o : Operands) → is_known a ≡ true
+    → is_known b ≡ true → GivesType env x a → GivesType env y b → meets sort.Identity a b ≡ Some o
+    → AreMet env sort.Identity o a b f x y
 identity_sound env a b f x y o k l h i e =
     let c = identity_if (agrees a b) o e in
     let r = agreeing a b k l c.0 in
-    subst (λ o. AreMet env sort.Identity o a b f x y) c.1 (value_type a, value_type b, h, reference_operand a r.0, i, reference_operand b r.1)
+    subst (λ o. AreMet env sort.Identity o a b f x y) c.1
+    (value_type a, value_type b, h, reference_operand a r.0, i, reference_operand b r.1)
 
-met_sound : (env : Environment) (s : Sort) (a b : Ty) (f : Form) (x y : Expr) (o : Operands) → is_known a ≡ true → is_known b ≡ true → Gives env x a → Gives env y b → meets s a b ≡ Some o → AreMet env s o a b f x y
+met_sound : (env : Environment) (s : Sort) (a b : Ty) (f : Form) (x y : Expr) (o : Operands) → is_known a ≡ true
+    → is_known b ≡ true → GivesType env x a → GivesType env y b → meets s a b ≡ Some o → AreMet env s o a b f x y
 met_sound env sort.Arithmetic a b f x y o k l h i e = arithmetic_sound env a b f x y o h i e
 met_sound env sort.Shift a b f x y o k l h i e = shift_sound env a b f x y o h i e
 met_sound env sort.Order a b f x y o k l h i e = order_sound env a b f x y o h i e
@@ -190,7 +235,8 @@ met_sound env sort.Equality a b f x y o k l h i e = equality_sound env a b f x y
 met_sound env sort.Identity a b f x y o k l h i e = identity_sound env a b f x y o k l h i e
 met_sound env sort.Logic a b f x y o k l h i e = logic_sound env a b f x y o h i e
 
-applied_sound : (env : Environment) (op : BinaryOp) (o : Operands) (a b : Expr) → AreOperands env (sort_of op) o a b → Gives env (applied op o a b) (outcome (sort_of op) o)
+applied_sound : (env : Environment) (op : BinaryOp) (o : Operands) (a b : Expr) → AreOperands env (sort_of op) o a b
+    → GivesType env (applied op o a b) (outcome (sort_of op) o)
 applied_sound env binary.Multiply (operands.Integers k) a b h = sound.calculate h.0 h.1
 applied_sound env binary.Divide (operands.Integers k) a b h = sound.calculate h.0 h.1
 applied_sound env binary.Remainder (operands.Integers k) a b h = sound.calculate h.0 h.1
@@ -198,52 +244,75 @@ applied_sound env binary.Add (operands.Integers k) a b h = sound.calculate h.0 h
 applied_sound env binary.Subtract (operands.Integers k) a b h = sound.calculate h.0 h.1
 applied_sound env binary.ShiftLeft (operands.Integers k) a b h = sound.shift operations.left h.0 h.1.1
 applied_sound env binary.ShiftRight (operands.Integers k) a b h = sound.shift operations.right h.0 h.1.1
-applied_sound env binary.ShiftRightArithmetic (operands.Integers k) a b h = sound.shift operations.right_arithmetic h.0 h.1.1
+applied_sound env binary.ShiftRightArithmetic (operands.Integers k) a b h =
+    sound.shift operations.right_arithmetic h.0 h.1.1
 applied_sound env binary.BitAnd (operands.Integers k) a b h = sound.calculate h.0 h.1
 applied_sound env binary.BitXor (operands.Integers k) a b h = sound.calculate h.0 h.1
 applied_sound env binary.BitOr (operands.Integers k) a b h = sound.calculate h.0 h.1
-applied_sound env binary.Less (operands.Integers k) a b h = sound.compare operations.less h.0 operations.integer h.1 operations.integer
-applied_sound env binary.LessOrEqual (operands.Integers k) a b h = sound.compare operations.less_or_equal h.0 operations.integer h.1 operations.integer
-applied_sound env binary.Greater (operands.Integers k) a b h = sound.compare operations.greater h.0 operations.integer h.1 operations.integer
-applied_sound env binary.GreaterOrEqual (operands.Integers k) a b h = sound.compare operations.greater_or_equal h.0 operations.integer h.1 operations.integer
-applied_sound env binary.Equal (operands.Integers k) a b h = sound.compare operations.equal h.0 operations.integer h.1 operations.integer
-applied_sound env binary.Equal operands.Bools a b h = sound.compare operations.same_truth h.0 operations.truth h.1 operations.truth
-applied_sound env binary.NotEqual (operands.Integers k) a b h = sound.compare operations.not_equal h.0 operations.integer h.1 operations.integer
-applied_sound env binary.NotEqual operands.Bools a b h = sound.compare operations.other_truth h.0 operations.truth h.1 operations.truth
+applied_sound env binary.Less (operands.Integers k) a b h =
+    sound.compare operations.less h.0 operations.integer h.1 operations.integer
+applied_sound env binary.LessOrEqual (operands.Integers k) a b h =
+    sound.compare operations.less_or_equal h.0 operations.integer h.1 operations.integer
+applied_sound env binary.Greater (operands.Integers k) a b h =
+    sound.compare operations.greater h.0 operations.integer h.1 operations.integer
+applied_sound env binary.GreaterOrEqual (operands.Integers k) a b h =
+    sound.compare operations.greater_or_equal h.0 operations.integer h.1 operations.integer
+applied_sound env binary.Equal (operands.Integers k) a b h =
+    sound.compare operations.equal h.0 operations.integer h.1 operations.integer
+applied_sound env binary.Equal operands.Bools a b h =
+    sound.compare operations.same_truth h.0 operations.truth h.1 operations.truth
+applied_sound env binary.NotEqual (operands.Integers k) a b h =
+    sound.compare operations.not_equal h.0 operations.integer h.1 operations.integer
+applied_sound env binary.NotEqual operands.Bools a b h =
+    sound.compare operations.other_truth h.0 operations.truth h.1 operations.truth
 applied_sound env binary.Is operands.Handles a b h = sound.compare operations.same_object h.2 h.3 h.4 h.5
 applied_sound env binary.NotIs operands.Handles a b h = sound.compare operations.other_object h.2 h.3 h.4 h.5
-applied_sound env binary.Xor operands.Bools a b h = sound.compare operations.xor h.0 operations.truth h.1 operations.truth
+applied_sound env binary.Xor operands.Bools a b h =
+    sound.compare operations.xor h.0 operations.truth h.1 operations.truth
 applied_sound env binary.And operands.Bools a b h = sound.lazily h.0 h.1
 applied_sound env binary.Or operands.Bools a b h = sound.lazily h.0 h.1
 applied_sound env op o a b h = absurd h
 
 -- an operator between two operands that it takes
-pub operated_sound : (env : Environment) (op : BinaryOp) (o : Operands) (t u : Term) → is_known t.ty ≡ true → is_known u.ty ≡ true → Gives env t.tree t.ty → Gives env u.tree u.ty → meets (sort_of op) t.ty u.ty ≡ Some o → Gives env (applied op o (converted_to (operand_type o) t) (right_by (sort_of op) o u)) (outcome (sort_of op) o)
-operated_sound env op o t u k l h i e = applied_sound env op o (converted_to (operand_type o) t) (right_by (sort_of op) o u) (met_sound env (sort_of op) t.ty u.ty u.form t.tree u.tree o k l h i e)
+pub operated_sound : (env : Environment) (op : BinaryOp) (o : Operands) (t u : Term) → is_known t.ty ≡ true
+    → is_known u.ty ≡ true → GivesType env t.tree t.ty → GivesType env u.tree u.ty
+    → meets (sort_of op) t.ty u.ty ≡ Some o
+    → GivesType env (applied op o (converted_to (operand_type o) t) (right_by (sort_of op) o u))
+    (outcome (sort_of op) o)
+operated_sound env op o t u k l h i e =
+    applied_sound env op o (converted_to (operand_type o) t) (right_by (sort_of op) o u)
+    (met_sound env (sort_of op) t.ty u.ty u.form t.tree u.tree o k l h i e)
 
 -- branches
 
-object_if : (b : Bool) (o : ObjectType) (of : Ty) → cond b (Some (ty.Handle o)) None ≡ Some of → (b ≡ true) × (ty.Handle o ≡ of)
+object_if : (b : Bool) (o : ObjectType) (of : Ty) → cond b (Some (ty.Handle o)) None ≡ Some of
+    → (b ≡ true) × (ty.Handle o ≡ of)
 object_if true o of e = (refl, same_Some (ty.Handle o) of e)
 object_if false o of e = absurd (none-some of e)
 
 abbrev IsChosen : Environment → Expr → Ty → Ty → Expr → Expr → Ty → Type 0
-IsChosen env c a b x y of = Gives env (Conditional c (converted (conversion of a) x) (converted (conversion of b) y)) of
+IsChosen env c a b x y of =
+    GivesType env (Conditional c (converted (conversion of a) x) (converted (conversion of b) y)) of
 
 abbrev IsHandle : Environment → Expr → ObjectType → Type 0
 IsHandle env tree o = sound.IsWellTyped (seen_in env) tree (value (vars.Handle o))
 
 -- one branch is an object, and the other gives one of its type, or null
-object_chosen : (env : Environment) (c x y : Expr) (o : ObjectType) (b : Ty) → is_known b ≡ true → Gives env c ty.Bool → IsHandle env x o → Gives env y b → gives_object o b ≡ true → sound.IsWellTyped (seen_in env) (Conditional c x y) (value (vars.Handle o))
-object_chosen env c x y o (ty.Object p) k h i l e = sound.choose h i (subst (IsHandle env y) (sym (equal_objects o p e)) l)
-object_chosen env c x y o (ty.Handle p) k h i l e = sound.choose h i (subst (IsHandle env y) (sym (equal_objects o p e)) l)
+object_chosen : (env : Environment) (c x y : Expr) (o : ObjectType) (b : Ty) → is_known b ≡ true
+    → GivesType env c ty.Bool → IsHandle env x o → GivesType env y b → gives_object o b ≡ true
+    → sound.IsWellTyped (seen_in env) (Conditional c x y) (value (vars.Handle o))
+object_chosen env c x y o (ty.Object p) k h i l e =
+    sound.choose h i (subst (IsHandle env y) (sym (equal_objects o p e)) l)
+object_chosen env c x y o (ty.Handle p) k h i l e =
+    sound.choose h i (subst (IsHandle env y) (sym (equal_objects o p e)) l)
 object_chosen env c x y o ty.Null k h i l e = sound.choose_or_null h i l
 object_chosen env c x y o ty.Unknown k h i l e = absurd (cc)
 object_chosen env c x y o ty.Bool k h i l e = absurd (cc)
 object_chosen env c x y o (ty.Integer j) k h i l e = absurd (cc)
 object_chosen env c x y o ty.Void k h i l e = absurd (cc)
 
-pub chosen_sound : (env : Environment) (c x y : Expr) (a b of : Ty) → is_known a ≡ true → is_known b ≡ true → Gives env c ty.Bool → Gives env x a → Gives env y b → common a b ≡ Some of → IsChosen env c a b x y of
+pub chosen_sound : (env : Environment) (c x y : Expr) (a b of : Ty) → is_known a ≡ true → is_known b ≡ true
+    → GivesType env c ty.Bool → GivesType env x a → GivesType env y b → common a b ≡ Some of → IsChosen env c a b x y of
 chosen_sound env c x y ty.Unknown b of k l h i j e = absurd (cc)
 chosen_sound env c x y (ty.Object o) b of k l h i j e =
     let is = object_if (gives_object o b) o of e in
@@ -252,10 +321,15 @@ chosen_sound env c x y (ty.Handle o) b of k l h i j e =
     let is = object_if (gives_object o b) o of e in
     subst (IsChosen env c (ty.Handle o) b x y) is.1 (object_chosen env c x y o b l h i j is.0)
 chosen_sound env c x y a ty.Unknown of k l h i j e = absurd (cc)
-chosen_sound env c x y ty.Bool ty.Bool of k l h i j e = subst (IsChosen env c ty.Bool ty.Bool x y) (same_Some ty.Bool of e) (sound.choose h i j)
-chosen_sound env c x y (ty.Integer m) (ty.Integer n) of k l h i j e = subst (IsChosen env c (ty.Integer m) (ty.Integer n) x y) (same_Some (ty.Integer (meeting m n)) of e) (sound.choose h (integer_sound env m (meeting m n) x i) (integer_sound env n (meeting m n) y j))
-chosen_sound env c x y ty.Null (ty.Object o) of k l h i j e = subst (IsChosen env c ty.Null (ty.Object o) x y) (same_Some (ty.Handle o) of e) (sound.null_or_choose h i j)
-chosen_sound env c x y ty.Null (ty.Handle o) of k l h i j e = subst (IsChosen env c ty.Null (ty.Handle o) x y) (same_Some (ty.Handle o) of e) (sound.null_or_choose h i j)
+chosen_sound env c x y ty.Bool ty.Bool of k l h i j e =
+    subst (IsChosen env c ty.Bool ty.Bool x y) (same_Some ty.Bool of e) (sound.choose h i j)
+chosen_sound env c x y (ty.Integer m) (ty.Integer n) of k l h i j e =
+    subst (IsChosen env c (ty.Integer m) (ty.Integer n) x y) (same_Some (ty.Integer (meeting m n)) of e)
+    (sound.choose h (integer_sound env m (meeting m n) x i) (integer_sound env n (meeting m n) y j))
+chosen_sound env c x y ty.Null (ty.Object o) of k l h i j e =
+    subst (IsChosen env c ty.Null (ty.Object o) x y) (same_Some (ty.Handle o) of e) (sound.null_or_choose h i j)
+chosen_sound env c x y ty.Null (ty.Handle o) of k l h i j e =
+    subst (IsChosen env c ty.Null (ty.Handle o) x y) (same_Some (ty.Handle o) of e) (sound.null_or_choose h i j)
 chosen_sound env c x y a b of k l h i j e = absurd (none-some of e)
 
 -- what may be stored
@@ -263,23 +337,29 @@ chosen_sound env c x y a b of k l h i j e = absurd (none-some of e)
 abbrev IsObjectOf : Environment → ObjectType → ObjectType → Type 0
 IsObjectOf env o p = IsSubtype (seen_in env).signatures (value (vars.Handle p)) (value (vars.Handle o))
 
-listed_in_class : (env : Environment) (interface class : ℕ) (found : Option Class) → slice_get env.heads.classes class ≡ found → option_map_or (has_interface interface) found false ≡ true → IsObjectOf env (objects.Interface interface) (objects.Class class)
+listed_in_class : (env : Environment) (interface class : ℕ) (found : Option Class)
+    → slice_get env.heads.classes class ≡ found → option_map_or (has_interface interface) found false ≡ true
+    → IsObjectOf env (objects.Interface interface) (objects.Class class)
 listed_in_class env interface class None e h = absurd (cc)
-listed_in_class env interface class (Some c) e h = listed {c = signature_of_class c} (mapped signature_of_class env.heads.classes class c e) (Contains-from_any eqb-true interface c.interfaces h)
+listed_in_class env interface class (Some c) e h =
+    listed {c = signature_of_class c} (mapped signature_of_class env.heads.classes class c e)
+    (Contains-from_any eqb-true interface c.interfaces h)
 
 same_subtype : (env : Environment) (o p : ObjectType) → is_same_object o p ≡ true → IsObjectOf env o p
 same_subtype env o p h = subst (λ q. IsObjectOf env q p) (sym (equal_objects o p h)) same
 
 subtype : (env : Environment) (o p : ObjectType) → is_of env.heads.classes o p ≡ true → IsObjectOf env o p
 unfolding lists
-subtype env (objects.Interface interface) (objects.Class class) h = listed_in_class env interface class (slice_get env.heads.classes class) refl h
+subtype env (objects.Interface interface) (objects.Class class) h =
+    listed_in_class env interface class (slice_get env.heads.classes class) refl h
 subtype env o p h = same_subtype env o p h
 
 -- An expression that fits a type may be stored in a variable of it, once it is converted.
 abbrev IsStored : Environment → Ty → Ty → Expr → Type 0
 IsStored env of t tree = sound.Fits (seen_in env) (var_type of) (converted (conversion of t) tree)
 
-object_stored : (env : Environment) (o : ObjectType) (t : Ty) (tree : Expr) → is_known t ≡ true → Gives env tree t → fits env.heads.classes (ty.Handle o) t ≡ true → IsStored env (ty.Handle o) t tree
+object_stored : (env : Environment) (o : ObjectType) (t : Ty) (tree : Expr) → is_known t ≡ true → GivesType env tree t
+    → fits env.heads.classes (ty.Handle o) t ≡ true → IsStored env (ty.Handle o) t tree
 object_stored env o (ty.Object p) tree k h e = sound.fits h (subtype env o p e)
 object_stored env o (ty.Handle p) tree k h e = sound.fits h (subtype env o p e)
 object_stored env o ty.Null tree k h e = sound.fits h null
@@ -288,11 +368,13 @@ object_stored env o ty.Bool tree k h e = absurd (cc)
 object_stored env o (ty.Integer j) tree k h e = absurd (cc)
 object_stored env o ty.Void tree k h e = absurd (cc)
 
-stored_sound : (env : Environment) (of t : Ty) (tree : Expr) → is_known of ≡ true → is_known t ≡ true → Gives env tree t → fits env.heads.classes of t ≡ true → IsStored env of t tree
+stored_sound : (env : Environment) (of t : Ty) (tree : Expr) → is_known of ≡ true → is_known t ≡ true
+    → GivesType env tree t → fits env.heads.classes of t ≡ true → IsStored env of t tree
 stored_sound env ty.Unknown t tree v k h e = absurd (cc)
 stored_sound env (ty.Object o) t tree v k h e = handle_of_object (object_stored env o t tree k h e)
   where
-    handle_of_object : sound.Fits (seen_in env) (vars.Handle o) (converted (conversion (ty.Handle o) t) tree) → sound.Fits (seen_in env) (vars.Object o) (converted (conversion (ty.Object o) t) tree)
+    handle_of_object : sound.Fits (seen_in env) (vars.Handle o) (converted (conversion (ty.Handle o) t) tree)
+        → sound.Fits (seen_in env) (vars.Object o) (converted (conversion (ty.Object o) t) tree)
     handle_of_object (sound.fits l m) = sound.fits l m
 stored_sound env (ty.Handle o) t tree v k h e = object_stored env o t tree k h e
 stored_sound env ty.Bool ty.Bool tree v k h e = sound.fits h same
@@ -301,5 +383,7 @@ stored_sound env (ty.Integer j) (ty.Integer i) tree v k h e = sound.fits (intege
 stored_sound env (ty.Integer j) ty.Unknown tree v k h e = absurd (cc)
 stored_sound env of t tree v k h e = absurd (cc)
 
-pub fits_sound : (env : Environment) (of : Ty) (t : Term) → IsKnownType of → IsKnownType t.ty → Gives env t.tree t.ty → fits env.heads.classes of t.ty ≡ true → sound.Fits (seen_in env) (var_type of) (converted_to of t)
+pub fits_sound : (env : Environment) (of : Ty) (t : Term) → IsKnownType of → IsKnownType t.ty
+    → GivesType env t.tree t.ty → fits env.heads.classes of t.ty ≡ true
+    → sound.Fits (seen_in env) (var_type of) (converted_to of t)
 fits_sound env of t v k h e = stored_sound env of t.ty t.tree v k h e

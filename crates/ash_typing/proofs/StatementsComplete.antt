@@ -1,5 +1,6 @@
 -- What has a typed tree by the rules of statements is typed by the walk.
-use Rattle.std.proofs.Common.{◌≡◌, ℕ, List, [], ◌∷◌, ◌++◌, map, Bool, true, false, ◌||◌, Option, Some, None, option_map, Ok, refl, sym, ◌∙◌, ap}
+use Rattle.std.proofs.Common.{◌≡◌, ℕ, List, [], ◌∷◌, ◌++◌, map, Bool, true, false, ◌||◌, Option, Some, None, option_map}
+use Rattle.std.proofs.Common.{Ok, refl, sym, ◌∙◌, ap}
 use Rattle.std.specs.List.{list_any}
 use Rattle.ash_tree.specs.declared.tree.statements.Label.{Label}
 use Rattle.ash_tree.specs.declared.tree.statements.Label.TheVariants as labels
@@ -12,15 +13,25 @@ use Rattle.ash_typing.specs.Fitting.{fits}
 use Rattle.ash_typing.specs.Checking.{Checking}
 use Rattle.ash_typed.specs.declared.tree.statements.Test.TheVariants.{First, Last}
 use Rattle.ash_typed.specs.Tree.{Expr}
-use Rattle.ash_typed.specs.StatementTree.{Initialization, Stmt, If, no_branch, branch, Head, Repeat, For, repeated, Switch, Break, Continue, Return, Stmts, Cases}
+use Rattle.ash_typed.specs.StatementTree.{Initialization, Stmt, If, no_branch, branch, Head, Repeat, For, repeated}
+use Rattle.ash_typed.specs.StatementTree.{Switch, Break, Continue, Return, Stmts, Cases}
 use Rattle.ash_typing.specs.Environment.{Environment, Class}
-use Rattle.ash_typing.specs.Expressions.{Typed, typed, all_typed, integer_of, bool_of, is_void, first_at, placed, all_placed}
+use Rattle.ash_typing.specs.Expressions.{Typed, typed, all_typed, integer_of, bool_of, is_void, first_at, placed}
+use Rattle.ash_typing.specs.Expressions.{all_placed}
 use Rattle.ash_typing.specs.Heads.{declared, ty_in}
 use Rattle.ash_typing.specs.Declarations.{at_type, known_ty, decl_typed}
 use Rattle.ash_typing.specs.Returning.{is_default}
 use Rattle.ash_typing.specs.Switches.{kind_in, is_within, constant_typed, label_typed}
-use Rattle.ash_typing.specs.Statements.{fresh, decls_typed, vars_typed, condition_is, if_typed, if_else_typed, while_typed, do_while_typed, maybe_typed, maybe_condition_is, tree_of, head_typed, for_typed, break_typed, continue_typed, returned, return_typed, stmt_typed, stmts_typed, cases_typed}
-use Rattle.ash_typing.specs.TypedStatements.{AreDeclared, none_declared, and_declared, IsCondition, condition, MayBeCondition, endless, until, IsHead, heads_nothing, heads_variables, heads_expression, IsLabel, constant, otherwise, tree_of_term, IsStmt, empty, declare, evaluate, block, if_only, if_else, while_loop, do_loop, for_loop, switch, break_out, continue_on, return_nothing, return_value, AreStmts, no_more_stmts, more_stmts, AreCases, no_more_cases, more_cases}
+use Rattle.ash_typing.specs.Statements.{fresh, decls_typed, vars_typed, condition_is, if_typed, if_else_typed}
+use Rattle.ash_typing.specs.Statements.{while_typed, do_while_typed, maybe_typed, maybe_condition_is, tree_of}
+use Rattle.ash_typing.specs.Statements.{head_typed, for_typed, break_typed, continue_typed, returned, return_typed}
+use Rattle.ash_typing.specs.Statements.{stmt_typed, stmts_typed, cases_typed}
+use Rattle.ash_typing.specs.TypedStatements.{AreDeclared, none_declared, and_declared, IsCondition, condition}
+use Rattle.ash_typing.specs.TypedStatements.{MayBeCondition, endless, until, IsHead, head_is_empty, head_declares}
+use Rattle.ash_typing.specs.TypedStatements.{head_evaluates, IsLabel, constant, otherwise, tree_of_term, IsStmt, empty}
+use Rattle.ash_typing.specs.TypedStatements.{declare, evaluate, block, if_only, if_else, while_loop, do_loop, for_loop}
+use Rattle.ash_typing.specs.TypedStatements.{switch, break_out, continue_on, return_nothing, return_value, AreStmts}
+use Rattle.ash_typing.specs.TypedStatements.{no_more_stmts, more_stmts, AreCases, no_more_cases, more_cases}
 use Rattle.ash_typing.proofs.Bindings.{bind_is}
 use Rattle.ash_typing.proofs.TypedVariables.{known_complete}
 use Rattle.ash_typing.proofs.TypingComplete.{complete, all_complete, all_terms, terms, fitted_is}
@@ -31,20 +42,27 @@ use Rattle.ash_typing.specs.Scopes.{Scope, behind, block_of, loop_of, switch_of,
 
 -- variables
 
-fresh_is : (scope : Scope) (of : Ty) (d : written.Decl) → is_taken scope d.name ≡ false → fresh scope of d ≡ Ok (declared of d)
+fresh_is : (scope : Scope) (of : Ty) (d : written.Decl) → is_taken scope d.name ≡ false
+    → fresh scope of d ≡ Ok (declared of d)
 unfolding fresh
 fresh_is scope of d h = rw h refl
 
-decls_complete : {scope : Scope} {of : Ty} {ds : List written.Decl} {values : List Initialization} → AreDeclared scope of ds values → (at : ℕ) → decls_typed scope at of ds ≡ Ok values
+decls_complete : {scope : Scope} {of : Ty} {ds : List written.Decl} {values : List Initialization}
+    → AreDeclared scope of ds values → (at : ℕ) → decls_typed scope at of ds ≡ Ok values
 decls_complete none_declared at = refl
-decls_complete (and_declared {scope = scope} {of = of} {d = d} {ds = ds} {value = value} {values = values} free is rest) at =
+decls_complete (and_declared {scope = scope} {of = of} {d = d} {ds = ds} {value = value} {values = values} free is rest)
+    at =
     bind_is (fresh scope of d) _ (declared of d) _ (fresh_is scope of d free)
     (bind_is (decl_typed scope.env at of d) _ value _ (declared_complete is at)
-    (bind_is (decls_typed (with_variables scope (declared of d ∷ [])) at of ds) _ values _ (decls_complete rest at) refl))
+    (bind_is (decls_typed (with_variables scope (declared of d ∷ [])) at of ds) _ values _ (decls_complete rest at)
+    refl))
 
-vars_complete : (scope : Scope) (v : written.Vars) (values : List Initialization) → known_ty v.of (ty_in scope.env v.of) ≡ Ok (ty_in scope.env v.of) → AreDeclared scope (ty_in scope.env v.of) v.decls values → vars_typed scope v ≡ Ok values
+vars_complete : (scope : Scope) (v : written.Vars) (values : List Initialization)
+    → known_ty v.of (ty_in scope.env v.of) ≡ Ok (ty_in scope.env v.of)
+    → AreDeclared scope (ty_in scope.env v.of) v.decls values → vars_typed scope v ≡ Ok values
 unfolding vars_typed
-vars_complete scope v values known h = bind_is (known_ty v.of (ty_in scope.env v.of)) _ (ty_in scope.env v.of) _ known (decls_complete h (at_type v.of))
+vars_complete scope v values known h =
+    bind_is (known_ty v.of (ty_in scope.env v.of)) _ (ty_in scope.env v.of) _ known (decls_complete h (at_type v.of))
 
 -- conditions
 
@@ -58,7 +76,12 @@ bool_is : (at : ℕ) (of : Ty) → of ≡ ty.Bool → bool_of at of ≡ Ok true
 bool_is at of h = rw h refl
 
 tested : {env : Environment} {e : written.Expr} {tree : Expr} → IsCondition env e tree → Tested env e tree
-tested (condition {e = e} {t = t} h is) = record { of = placed (first_at e) t; typed = complete h; test = bool_is (first_at e) t.ty is; is = refl }
+tested (condition {e = e} {t = t} h is) = record {
+  of = placed (first_at e) t;
+  typed = complete h;
+  test = bool_is (first_at e) t.ty is;
+  is = refl;
+}
 
 record MaybeTested (env : Environment) (e : Option written.Expr) (tree : Option Expr) : Type 0 where
   of : Option Typed
@@ -66,11 +89,17 @@ record MaybeTested (env : Environment) (e : Option written.Expr) (tree : Option 
   test : maybe_condition_is of ≡ Ok true
   is : option_map tree_of of ≡ tree
 
-maybe_tested : {env : Environment} {e : Option written.Expr} {tree : Option Expr} → MayBeCondition env e tree → MaybeTested env e tree
+maybe_tested : {env : Environment} {e : Option written.Expr} {tree : Option Expr} → MayBeCondition env e tree
+    → MaybeTested env e tree
 maybe_tested endless = record { of = None; typed = refl; test = refl; is = refl }
 maybe_tested (until {env = env} {e = e} c) =
     let k = tested c in
-    record { of = Some k.of; typed = bind_is (typed env false e) _ k.of _ k.typed refl; test = k.test; is = ap (λ (x : Expr). Some x) k.is }
+    record {
+      of = Some k.of;
+      typed = bind_is (typed env false e) _ k.of _ k.typed refl;
+      test = k.test;
+      is = ap (λ (x : Expr). Some x) k.is;
+    }
 
 pub trees_of : (ts : List Typed) → map tree_of ts ≡ map tree_of_term (terms ts)
 trees_of [] = refl
@@ -80,29 +109,42 @@ trees_of (t ∷ ts) = ap (λ (es : List Expr). t.tree ∷ es) (trees_of ts)
 
 head_complete : {scope : Scope} {f : written.Stmt} {g : Head} → IsHead scope f g → head_typed scope f ≡ Ok g
 unfolding head_typed
-head_complete heads_nothing = refl
-head_complete (heads_variables {scope = scope} {v = v} {values = values} known h) = bind_is (vars_typed scope v) _ values _ (vars_complete scope v values (known_complete v.of (ty_in scope.env v.of) known) h) refl
-head_complete (heads_expression {scope = scope} {e = e} {t = t} h) = bind_is (typed scope.env false e) _ (placed (first_at e) t) _ (complete h) refl
+head_complete head_is_empty = refl
+head_complete (head_declares {scope = scope} {v = v} {values = values} known h) =
+    bind_is (vars_typed scope v) _ values _
+    (vars_complete scope v values (known_complete v.of (ty_in scope.env v.of) known) h) refl
+head_complete (head_evaluates {scope = scope} {e = e} {t = t} h) =
+    bind_is (typed scope.env false e) _ (placed (first_at e) t) _ (complete h) refl
 
 -- statements of which the parts are typed
 
-if_is : (line : ℕ) (o : Checking Typed) (b : Checking Stmt) (c : Typed) (s : Stmt) (tree : Expr) → o ≡ Ok c → condition_is c ≡ Ok true → c.tree ≡ tree → b ≡ Ok s → if_typed line o b ≡ Ok (If line tree s no_branch)
+if_is : (line : ℕ) (o : Checking Typed) (b : Checking Stmt) (c : Typed) (s : Stmt) (tree : Expr) → o ≡ Ok c
+    → condition_is c ≡ Ok true → c.tree ≡ tree → b ≡ Ok s → if_typed line o b ≡ Ok (If line tree s no_branch)
 unfolding if_typed
 if_is line o b c s tree h i j k = rw (h, k, i, sym j) refl
 
-if_else_is : (line : ℕ) (o : Checking Typed) (b r : Checking Stmt) (c : Typed) (s t : Stmt) (tree : Expr) → o ≡ Ok c → condition_is c ≡ Ok true → c.tree ≡ tree → b ≡ Ok s → r ≡ Ok t → if_else_typed line o b r ≡ Ok (If line tree s (branch t))
+if_else_is : (line : ℕ) (o : Checking Typed) (b r : Checking Stmt) (c : Typed) (s t : Stmt) (tree : Expr) → o ≡ Ok c
+    → condition_is c ≡ Ok true → c.tree ≡ tree → b ≡ Ok s → r ≡ Ok t
+    → if_else_typed line o b r ≡ Ok (If line tree s (branch t))
 unfolding if_else_typed
 if_else_is line o b r c s t tree h i j k l = rw (h, k, l, i, sym j) refl
 
-while_is : (line : ℕ) (o : Checking Typed) (b : Checking Stmt) (c : Typed) (s : Stmt) (tree : Expr) → o ≡ Ok c → condition_is c ≡ Ok true → c.tree ≡ tree → b ≡ Ok s → while_typed line o b ≡ Ok (Repeat line (repeated First (Some tree) [] s))
+while_is : (line : ℕ) (o : Checking Typed) (b : Checking Stmt) (c : Typed) (s : Stmt) (tree : Expr) → o ≡ Ok c
+    → condition_is c ≡ Ok true → c.tree ≡ tree → b ≡ Ok s
+    → while_typed line o b ≡ Ok (Repeat line (repeated First (Some tree) [] s))
 unfolding while_typed
 while_is line o b c s tree h i j k = rw (h, k, i, sym j) refl
 
-do_while_is : (line : ℕ) (o : Checking Typed) (b : Checking Stmt) (c : Typed) (s : Stmt) (tree : Expr) → o ≡ Ok c → condition_is c ≡ Ok true → c.tree ≡ tree → b ≡ Ok s → do_while_typed line b o ≡ Ok (Repeat line (repeated Last (Some tree) [] s))
+do_while_is : (line : ℕ) (o : Checking Typed) (b : Checking Stmt) (c : Typed) (s : Stmt) (tree : Expr) → o ≡ Ok c
+    → condition_is c ≡ Ok true → c.tree ≡ tree → b ≡ Ok s
+    → do_while_typed line b o ≡ Ok (Repeat line (repeated Last (Some tree) [] s))
 unfolding do_while_typed
 do_while_is line o b c s tree h i j k = rw (h, k, i, sym j) refl
 
-for_is : (line : ℕ) (f : Checking Head) (b : Checking Stmt) (o : Checking (Option Typed)) (es : Checking (List Typed)) (g : Head) (s : Stmt) (c : Option Typed) (ts : List Typed) (tree : Option Expr) (trees : List Expr) → f ≡ Ok g → o ≡ Ok c → maybe_condition_is c ≡ Ok true → option_map tree_of c ≡ tree → es ≡ Ok ts → map tree_of ts ≡ trees → b ≡ Ok s → for_typed line f o es b ≡ Ok (For line g (repeated First tree trees s))
+for_is : (line : ℕ) (f : Checking Head) (b : Checking Stmt) (o : Checking (Option Typed)) (es : Checking (List Typed))
+    (g : Head) (s : Stmt) (c : Option Typed) (ts : List Typed) (tree : Option Expr) (trees : List Expr) → f ≡ Ok g
+    → o ≡ Ok c → maybe_condition_is c ≡ Ok true → option_map tree_of c ≡ tree → es ≡ Ok ts → map tree_of ts ≡ trees
+    → b ≡ Ok s → for_typed line f o es b ≡ Ok (For line g (repeated First tree trees s))
 unfolding for_typed
 for_is line f b o es g s c ts tree trees h i j k l m n = rw (h, i, l, n, j, sym k, sym m) refl
 
@@ -127,31 +169,39 @@ no_void classes (ty.Object o) t h = refl
 no_void classes (ty.Handle o) t h = refl
 no_void classes ty.Null t h = refl
 
-returned_is : (classes : List Class) (of : Ty) (at a : ℕ) (t : Term) → fits classes of t.ty ≡ true → returned classes of at (placed a t) ≡ Ok (converted_to of t)
+returned_is : (classes : List Class) (of : Ty) (at a : ℕ) (t : Term) → fits classes of t.ty ≡ true
+    → returned classes of at (placed a t) ≡ Ok (converted_to of t)
 unfolding returned
 returned_is classes of at a t h = rw (no_void classes of t.ty h) (fitted_is classes of a t h)
 
-value_is : (scope : Scope) (p : Place) (e : written.Expr) (t : Term) → typed scope.env false e ≡ Ok (placed (first_at e) t) → fits scope.env.heads.classes scope.gives t.ty ≡ true → return_typed scope p (Some e) ≡ Ok (Return p.line (Some (converted_to scope.gives t)))
+value_is : (scope : Scope) (p : Place) (e : written.Expr) (t : Term)
+    → typed scope.env false e ≡ Ok (placed (first_at e) t) → fits scope.env.heads.classes scope.gives t.ty ≡ true
+    → return_typed scope p (Some e) ≡ Ok (Return p.line (Some (converted_to scope.gives t)))
 unfolding return_typed
 value_is scope p e t h fit = rw (h, returned_is scope.env.heads.classes scope.gives p.at (first_at e) t fit) refl
 
 -- labels
 
-constant_is : (k : Kind) (before : List Label) (at : ℕ) (l : Label) → holds_label k l ≡ true → list_any (is_same_constant l) before ≡ false → constant_typed (Some k) before at l ≡ Ok l
+constant_is : (k : Kind) (before : List Label) (at : ℕ) (l : Label) → holds_label k l ≡ true
+    → list_any (is_same_constant l) before ≡ false → constant_typed (Some k) before at l ≡ Ok l
 unfolding constant_typed is_within
 constant_is k before at l h i = rw (h, i) refl
 
-label_is : (k : Kind) (before : List Label) (last : Bool) (at : ℕ) (l : Label) → is_default l ≡ false → holds_label k l ≡ true → list_any (is_same_constant l) before ≡ false → label_typed (Some k) before last at l ≡ Ok l
+label_is : (k : Kind) (before : List Label) (last : Bool) (at : ℕ) (l : Label) → is_default l ≡ false
+    → holds_label k l ≡ true → list_any (is_same_constant l) before ≡ false
+    → label_typed (Some k) before last at l ≡ Ok l
 unfolding label_typed
 label_is k before last at labels.Default d h i = absurd (cc)
 label_is k before last at (labels.Case n) d h i = constant_is k before at (labels.Case n) h i
 label_is k before last at (labels.CaseMinus n) d h i = constant_is k before at (labels.CaseMinus n) h i
 
-default_is : (k : Kind) (before : List Label) (at : ℕ) → label_typed (Some k) before true at labels.Default ≡ Ok labels.Default
+default_is : (k : Kind) (before : List Label) (at : ℕ)
+    → label_typed (Some k) before true at labels.Default ≡ Ok labels.Default
 unfolding label_typed
 default_is k before at = refl
 
-label_complete : {k : Kind} {before : List Label} {last : Bool} {l : Label} → IsLabel k before last l → (at : ℕ) → label_typed (Some k) before last at l ≡ Ok l
+label_complete : {k : Kind} {before : List Label} {last : Bool} {l : Label} → IsLabel k before last l → (at : ℕ)
+    → label_typed (Some k) before last at l ≡ Ok l
 label_complete (constant {k = k} {before = before} {last = last} {l = l} d h i) at = label_is k before last at l d h i
 label_complete (otherwise {k = k} {before = before}) at = default_is k before at
 
@@ -162,10 +212,14 @@ kind_is : (of : Ty) (k : Kind) → of ≡ ty.Integer k → kind_in of ≡ Some k
 kind_is of k h = rw h refl
 
 -- `switch`, of which the labels are typed
-switch_is : (scope : Scope) (p : Place) (e : written.Expr) (cs : written.Cases) (t : Term) (k : Kind) (rows : Cases) → typed scope.env false e ≡ Ok (placed (first_at e) t) → t.ty ≡ ty.Integer k → cases_typed (switch_of scope) (Some k) [] cs ≡ Ok rows → stmt_typed scope (written.Switch p e cs) ≡ Ok (Switch p.line k t.tree rows)
+switch_is : (scope : Scope) (p : Place) (e : written.Expr) (cs : written.Cases) (t : Term) (k : Kind) (rows : Cases)
+    → typed scope.env false e ≡ Ok (placed (first_at e) t) → t.ty ≡ ty.Integer k
+    → cases_typed (switch_of scope) (Some k) [] cs ≡ Ok rows
+    → stmt_typed scope (written.Switch p e cs) ≡ Ok (Switch p.line k t.tree rows)
 switch_is scope p e cs t k rows h is i =
     bind_is (typed scope.env false e) _ (placed (first_at e) t) _ h
-    (bind_is (cases_typed (switch_of scope) (kind_in t.ty) [] cs) _ rows _ (ap (λ kind. cases_typed (switch_of scope) kind [] cs) (kind_is t.ty k is) ∙ i)
+    (bind_is (cases_typed (switch_of scope) (kind_in t.ty) [] cs) _ rows _
+    (ap (λ kind. cases_typed (switch_of scope) kind [] cs) (kind_is t.ty k is) ∙ i)
     (bind_is (integer_of (first_at e) t.ty) _ k _ (integer_is (first_at e) t.ty k is) refl))
 
 -- statements
@@ -173,26 +227,37 @@ switch_is scope p e cs t k rows h is i =
 mutual
   pub stmt_complete : {scope : Scope} {s : written.Stmt} {t : Stmt} → IsStmt scope s t → stmt_typed scope s ≡ Ok t
   stmt_complete empty = refl
-  stmt_complete (declare {scope = scope} {v = v} {values = values} known h) = bind_is (vars_typed scope v) _ values _ (vars_complete scope v values (known_complete v.of (ty_in scope.env v.of) known) h) refl
-  stmt_complete (evaluate {scope = scope} {e = e} {t = t} h) = bind_is (typed scope.env false e) _ (placed (first_at e) t) _ (complete h) refl
-  stmt_complete (block {scope = scope} {ss = ss} {ts = ts} h) = bind_is (stmts_typed (block_of scope) ss) _ ts _ (stmts_complete h) refl
+  stmt_complete (declare {scope = scope} {v = v} {values = values} known h) =
+      bind_is (vars_typed scope v) _ values _
+      (vars_complete scope v values (known_complete v.of (ty_in scope.env v.of) known) h) refl
+  stmt_complete (evaluate {scope = scope} {e = e} {t = t} h) =
+      bind_is (typed scope.env false e) _ (placed (first_at e) t) _ (complete h) refl
+  stmt_complete (block {scope = scope} {ss = ss} {ts = ts} h) =
+      bind_is (stmts_typed (block_of scope) ss) _ ts _ (stmts_complete h) refl
   stmt_complete (if_only {scope = scope} {p = p} {c = c} {s = s} {tree = tree} {t = t} h i) =
       let k = tested h in
       if_is p.line (typed scope.env false c) (stmt_typed scope s) k.of t tree k.typed k.test k.is (stmt_complete i)
   stmt_complete (if_else {scope = scope} {p = p} {c = c} {s = s} {r = r} {tree = tree} {t = t} {u = u} h i j) =
       let k = tested h in
-      if_else_is p.line (typed scope.env false c) (stmt_typed scope s) (stmt_typed scope r) k.of t u tree k.typed k.test k.is (stmt_complete i) (stmt_complete j)
+      if_else_is p.line (typed scope.env false c) (stmt_typed scope s) (stmt_typed scope r) k.of t u tree k.typed k.test
+      k.is (stmt_complete i) (stmt_complete j)
   stmt_complete (while_loop {scope = scope} {p = p} {c = c} {s = s} {tree = tree} {t = t} h i) =
       let k = tested h in
-      while_is p.line (typed scope.env false c) (stmt_typed (loop_of scope) s) k.of t tree k.typed k.test k.is (stmt_complete i)
+      while_is p.line (typed scope.env false c) (stmt_typed (loop_of scope) s) k.of t tree k.typed k.test k.is
+      (stmt_complete i)
   stmt_complete (do_loop {scope = scope} {p = p} {c = c} {s = s} {tree = tree} {t = t} i h) =
       let k = tested h in
-      do_while_is p.line (typed scope.env false c) (stmt_typed (loop_of scope) s) k.of t tree k.typed k.test k.is (stmt_complete i)
-  stmt_complete (for_loop {scope = scope} {p = p} {f = f} {s = s} {c = c} {es = es} {h = g} {t = t} {tree = tree} {ts = ts} h i j k) =
+      do_while_is p.line (typed scope.env false c) (stmt_typed (loop_of scope) s) k.of t tree k.typed k.test k.is
+      (stmt_complete i)
+  stmt_complete
+      (for_loop {scope = scope} {p = p} {f = f} {s = s} {c = c} {es = es} {h = g} {t = t} {tree = tree} {ts = ts} h i j
+      k) =
       let within = behind (block_of scope) f in
       let m = maybe_tested i in
       let us = all_placed (written.exprs es) ts in
-      for_is p.line (head_typed (block_of scope) f) (stmt_typed (loop_of within) s) (maybe_typed within.env c) (all_typed within.env (written.exprs es)) g t m.of us tree (map tree_of_term ts) (head_complete h) m.typed m.test m.is (all_complete j) (trees_of us ∙ ap (map tree_of_term) (all_terms j)) (stmt_complete k)
+      for_is p.line (head_typed (block_of scope) f) (stmt_typed (loop_of within) s) (maybe_typed within.env c)
+      (all_typed within.env (written.exprs es)) g t m.of us tree (map tree_of_term ts) (head_complete h) m.typed
+      m.test m.is (all_complete j) (trees_of us ∙ ap (map tree_of_term) (all_terms j)) (stmt_complete k)
   stmt_complete (switch {scope = scope} {p = p} {e = e} {cs = cs} {t = t} {k = k} {rows = rows} h is i) =
       switch_is scope p e cs t k rows (complete h) is (cases_complete i)
   stmt_complete (break_out {scope = scope} {p = p} h) = break_is (scope.in_loop || scope.in_switch) p h
@@ -200,14 +265,19 @@ mutual
   stmt_complete (return_nothing {scope = scope} {p = p} h) = nothing_is scope p h
   stmt_complete (return_value {scope = scope} {p = p} {e = e} {t = t} h fit) = value_is scope p e t (complete h) fit
 
-  pub stmts_complete : {scope : Scope} {ss : written.Stmts} {ts : Stmts} → AreStmts scope ss ts → stmts_typed scope ss ≡ Ok ts
+  pub stmts_complete : {scope : Scope} {ss : written.Stmts} {ts : Stmts} → AreStmts scope ss ts
+      → stmts_typed scope ss ≡ Ok ts
   stmts_complete no_more_stmts = refl
   stmts_complete (more_stmts {scope = scope} {s = s} {ss = ss} {t = t} {ts = ts} h i) =
-      bind_is (stmt_typed scope s) _ t _ (stmt_complete h) (bind_is (stmts_typed (behind scope s) ss) _ ts _ (stmts_complete i) refl)
+      bind_is (stmt_typed scope s) _ t _ (stmt_complete h)
+      (bind_is (stmts_typed (behind scope s) ss) _ ts _ (stmts_complete i) refl)
 
-  pub cases_complete : {scope : Scope} {k : Kind} {before : List Label} {cs : written.Cases} {rows : Cases} → AreCases scope k before cs rows → cases_typed scope (Some k) before cs ≡ Ok rows
+  pub cases_complete : {scope : Scope} {k : Kind} {before : List Label} {cs : written.Cases} {rows : Cases}
+      → AreCases scope k before cs rows → cases_typed scope (Some k) before cs ≡ Ok rows
   cases_complete no_more_cases = refl
-  cases_complete (more_cases {scope = scope} {k = k} {before = before} {p = p} {l = l} {ss = ss} {cs = cs} {ts = ts} {rows = rows} h i j) =
+  cases_complete
+      (more_cases {scope = scope} {k = k} {before = before} {p = p} {l = l} {ss = ss} {cs = cs} {ts = ts} {rows = rows}
+      h i j) =
       bind_is (label_typed (Some k) before (is_last cs) p.at l) _ l _ (label_complete h p.at)
       (bind_is (stmts_typed scope ss) _ ts _ (stmts_complete i)
       (bind_is (cases_typed scope (Some k) (before ++ l ∷ []) cs) _ rows _ (cases_complete j) refl))

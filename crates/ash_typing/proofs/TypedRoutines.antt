@@ -1,5 +1,6 @@
 -- Functions, methods and constructors are typed exactly as the rules say.
-use Rattle.std.proofs.Common.{◌≡◌, ◌⊎◌, inl, inr, ℕ, Bool, true, false, ◌||◌, List, [], ◌∷◌, ◌++◌, map, Option, Some, None, Ok, refl, sym, ◌∙◌, ap, subst}
+use Rattle.std.proofs.Common.{◌≡◌, ◌⊎◌, inl, inr, ℕ, Bool, true, false, ◌||◌, List, [], ◌∷◌, ◌++◌, map, Option, Some}
+use Rattle.std.proofs.Common.{None, Ok, refl, sym, ◌∙◌, ap, subst}
 use Rattle.std.specs.Bool.{IsTrue}
 use Rattle.std.specs.Str.{bytes_eq}
 use Rattle.std.specs.List.{AllByRecursion, IsDistinct, list_any}
@@ -20,7 +21,8 @@ use Rattle.ash_typing.specs.Statements.{body_typed}
 use Rattle.ash_typing.specs.Scopes.{body_scope}
 use Rattle.ash_typed.specs.Modules.{Function}
 use Rattle.ash_typing.specs.Items.{passed_ty, result_typed, parameters_typed, returning, routine_typed}
-use Rattle.ash_typing.specs.TypedModules.{IsPassed, type_of_parameter, parameter_of, IsPassedParameter, IsBody, IsRoutine, IsResult, IsFunction}
+use Rattle.ash_typing.specs.TypedModules.{IsPassed, type_of_parameter, parameter_of, IsPassedParameter, IsBody}
+use Rattle.ash_typing.specs.TypedModules.{IsRoutine, IsResult, IsFunction}
 use Rattle.ash_typing.proofs.Bindings.{no_err, ok_is, bind_ok, bind_is, if_ok}
 use Rattle.ash_typing.proofs.StatementsSound.{stmts_sound}
 use Rattle.ash_typing.proofs.StatementsComplete.{stmts_complete}
@@ -55,7 +57,8 @@ passed_complete at (ty.Integer k) h = refl
 passed_complete at (ty.Handle o) h = refl
 passed_complete at _ h = absurd (cc)
 
-primitive_passed : (at : written.Named) (p : Primitive) (t : Ty) → passed_ty at (ty_of p) ≡ Ok t → IsPassed (ty_of p) × (t ≡ ty_of p)
+primitive_passed : (at : written.Named) (p : Primitive) (t : Ty) → passed_ty at (ty_of p) ≡ Ok t
+    → IsPassed (ty_of p) × (t ≡ ty_of p)
 unfolding passed_ty
 primitive_passed at primitives.Bool t h = (refl, sym (ok_is _ t h))
 primitive_passed at primitives.Int t h = (refl, sym (ok_is _ t h))
@@ -63,17 +66,20 @@ primitive_passed at primitives.Int64 t h = (refl, sym (ok_is _ t h))
 primitive_passed at primitives.Uint t h = (refl, sym (ok_is _ t h))
 primitive_passed at primitives.Uint64 t h = (refl, sym (ok_is _ t h))
 
-object_passed : {P : Type 0} (at : written.Named) (o : Option ObjectType) (t : Ty) → passed_ty at (object_ty o) ≡ Ok t → P
+object_passed : {P : Type 0} (at : written.Named) (o : Option ObjectType) (t : Ty) → passed_ty at (object_ty o) ≡ Ok t
+    → P
 unfolding passed_ty
 object_passed at None t h = absurd (no_err _ t h)
 object_passed at (Some o) t h = absurd (no_err _ t h)
 
-handle_passed : (at : written.Named) (o : Option ObjectType) (t : Ty) → passed_ty at (handle_ty o) ≡ Ok t → IsPassed (handle_ty o) × (t ≡ handle_ty o)
+handle_passed : (at : written.Named) (o : Option ObjectType) (t : Ty) → passed_ty at (handle_ty o) ≡ Ok t
+    → IsPassed (handle_ty o) × (t ≡ handle_ty o)
 unfolding passed_ty
 handle_passed at None t h = absurd (no_err _ t h)
 handle_passed at (Some o) t h = (refl, sym (ok_is _ t h))
 
-pub passed_sound : (env : Environment) (at of : written.Named) (t : Ty) → passed_ty at (ty_in env of) ≡ Ok t → IsPassed (ty_in env of) × (t ≡ ty_in env of)
+pub passed_sound : (env : Environment) (at of : written.Named) (t : Ty) → passed_ty at (ty_in env of) ≡ Ok t
+    → IsPassed (ty_in env of) × (t ≡ ty_in env of)
 unfolding ty_named
 passed_sound env at (written.Prim p k) t h = primitive_passed at k t h
 passed_sound env at (written.Object p name) t h = object_passed at (object_named env.registered env.heads name) t h
@@ -86,21 +92,29 @@ passed_sound env at (written.ArrayHandle p of) t h = handle_passed at (array_nam
 abbrev pub declared_name : Declared → List ℕ
 declared_name v = v.name
 
-any_named : (name : List ℕ) (before : List Declared) → list_any (declares name) before ≡ list_any (bytes_eq name) (map declared_name before)
+any_named : (name : List ℕ) (before : List Declared)
+    → list_any (declares name) before ≡ list_any (bytes_eq name) (map declared_name before)
 any_named name [] = refl
 any_named name (v ∷ vs) = ap (λ b. bytes_eq name v.name || b) (any_named name vs)
 
-one_more_name : (before : List Declared) (v : Declared) → map declared_name (before ++ v ∷ []) ≡ map declared_name before ++ v.name ∷ []
+one_more_name : (before : List Declared) (v : Declared)
+    → map declared_name (before ++ v ∷ []) ≡ map declared_name before ++ v.name ∷ []
 one_more_name [] v = refl
 one_more_name (x ∷ xs) v = ap (λ ns. x.name ∷ ns) (one_more_name xs v)
 
-pub record Passed (env : Environment) (before : List Declared) (ps : List written.Parameter) (after : List Declared) : Type 0 where
+pub record Passed (env : Environment) (before : List Declared) (ps : List written.Parameter)
+    (after : List Declared) : Type 0 where
   pub passed : AllByRecursion (IsPassedParameter env) ps
   pub differ : Distinct (map declared_name before ++ map parameter_name ps)
   pub is : after ≡ before ++ map (parameter_of env) ps
 
-pub parameters_sound : (env : Environment) (ps : List written.Parameter) (before after : List Declared) → Distinct (map declared_name before) → parameters_typed env before ps ≡ Ok after → Passed env before ps after
-parameters_sound env [] before after d h = record { passed = tt; differ = subst Distinct (sym (append-nil (map declared_name before))) d; is = sym (ok_is before after h) ∙ sym (append-nil before) }
+pub parameters_sound : (env : Environment) (ps : List written.Parameter) (before after : List Declared)
+    → Distinct (map declared_name before) → parameters_typed env before ps ≡ Ok after → Passed env before ps after
+parameters_sound env [] before after d h = record {
+  passed = tt;
+  differ = subst Distinct (sym (append-nil (map declared_name before))) d;
+  is = sym (ok_is before after h) ∙ sym (append-nil before);
+}
 parameters_sound env (p ∷ ps) before after d h =
     let t = bind_ok (passed_ty p.of (ty_in env p.of)) _ after h in
     let s = passed_sound env p.of p.of t.0 t.1 in
@@ -108,42 +122,65 @@ parameters_sound env (p ∷ ps) before after d h =
     if_ok (list_any (declares p.name) before) _ _ (Ok after) t.2
     (λ b e. absurd (no_err _ after e))
     (λ b e.
-    let new : Distinct (map declared_name (before ++ v ∷ [])) = subst Distinct (sym (one_more_name before v)) (distinct_push (map declared_name before) p.name d (sym (any_named p.name before) ∙ b)) in
-    let go = parameters_sound env ps (before ++ v ∷ []) after new (subst (λ (of : Ty). parameters_typed env (before ++ record { name = p.name; of = of } ∷ []) ps ≡ Ok after) s.1 e) in
-    let there : Distinct ((map declared_name before ++ p.name ∷ []) ++ map parameter_name ps) = subst (λ ns. Distinct (ns ++ map parameter_name ps)) (one_more_name before v) go.differ in
+    let new : Distinct (map declared_name (before ++ v ∷ [])) =
+    subst Distinct (sym (one_more_name before v))
+    (distinct_push (map declared_name before) p.name d (sym (any_named p.name before) ∙ b)) in
+    let go = parameters_sound env ps (before ++ v ∷ []) after new
+    (subst (λ (of : Ty). parameters_typed env (before ++ record { name = p.name; of = of } ∷ []) ps ≡ Ok after) s.1
+    e) in
+    let there : Distinct ((map declared_name before ++ p.name ∷ []) ++ map parameter_name ps) =
+    subst (λ ns. Distinct (ns ++ map parameter_name ps)) (one_more_name before v) go.differ in
     record {
       passed = (s.0, go.passed);
       differ = subst Distinct (append_assoc (map declared_name before) (p.name ∷ []) (map parameter_name ps)) there;
       is = go.is ∙ append_assoc before (v ∷ []) (map (parameter_of env) ps);
     })
 
-pub parameters_complete : (env : Environment) (ps : List written.Parameter) (before : List Declared) → AllByRecursion (IsPassedParameter env) ps → Distinct (map declared_name before ++ map parameter_name ps) → parameters_typed env before ps ≡ Ok (before ++ map (parameter_of env) ps)
+pub parameters_complete : (env : Environment) (ps : List written.Parameter) (before : List Declared)
+    → AllByRecursion (IsPassedParameter env) ps → Distinct (map declared_name before ++ map parameter_name ps)
+    → parameters_typed env before ps ≡ Ok (before ++ map (parameter_of env) ps)
 parameters_complete env [] before h d = ap (λ (vs : List Declared). Ok vs) (sym (append-nil before))
 parameters_complete env (p ∷ ps) before h d =
     let v : Declared = parameter_of env p in
-    let new : list_any (declares p.name) before ≡ false = any_named p.name before ∙ distinct_new (map declared_name before) (map parameter_name ps) p.name d in
-    let there : Distinct (map declared_name (before ++ v ∷ []) ++ map parameter_name ps) = subst (λ ns. Distinct (ns ++ map parameter_name ps)) (sym (one_more_name before v)) (subst Distinct (sym (append_assoc (map declared_name before) (p.name ∷ []) (map parameter_name ps))) d) in
+    let new : list_any (declares p.name) before ≡ false =
+    any_named p.name before ∙ distinct_new (map declared_name before) (map parameter_name ps) p.name d in
+    let there : Distinct (map declared_name (before ++ v ∷ []) ++ map parameter_name ps) =
+    subst (λ ns. Distinct (ns ++ map parameter_name ps)) (sym (one_more_name before v))
+    (subst Distinct (sym (append_assoc (map declared_name before) (p.name ∷ []) (map parameter_name ps))) d) in
     bind_is (passed_ty p.of (ty_in env p.of)) _ (ty_in env p.of) _ (passed_complete p.of (ty_in env p.of) h.0)
-    (rw new (parameters_complete env ps (before ++ v ∷ []) h.1 there ∙ ap (λ (vs : List Declared). Ok vs) (append_assoc before (v ∷ []) (map (parameter_of env) ps))))
+    (rw new (parameters_complete env ps (before ++ v ∷ []) h.1 there
+    ∙ ap (λ (vs : List Declared). Ok vs) (append_assoc before (v ∷ []) (map (parameter_of env) ps))))
 
-pub types_of : (env : Environment) (ps : List written.Parameter) → map type_declared (map (parameter_of env) ps) ≡ map (type_of_parameter env) ps
+pub types_of : (env : Environment) (ps : List written.Parameter)
+    → map type_declared (map (parameter_of env) ps) ≡ map (type_of_parameter env) ps
 types_of env [] = refl
 types_of env (p ∷ ps) = ap (λ ts. var_type (ty_in env p.of) ∷ ts) (types_of env ps)
 
-locals_known : (env : Environment) (ps : List written.Parameter) → AllByRecursion (IsPassedParameter env) ps → AllByRecursion IsKnownVariable (map (parameter_of env) ps)
+locals_known : (env : Environment) (ps : List written.Parameter) → AllByRecursion (IsPassedParameter env) ps
+    → AllByRecursion IsKnownVariable (map (parameter_of env) ps)
 locals_known env [] h = tt
 locals_known env (p ∷ ps) h = (passed_variable (ty_in env p.of) h.0, locals_known env ps h.1)
 
-inside_known : (env : Environment) (ps : List written.Parameter) → IsKnown env → AllByRecursion (IsPassedParameter env) ps → IsKnown (with_locals env (map (parameter_of env) ps))
-inside_known env ps k h = record { interfaces = k.interfaces; classes = k.classes; functions = k.functions; globals = k.globals; locals = locals_known env ps h }
+inside_known : (env : Environment) (ps : List written.Parameter) → IsKnown env
+    → AllByRecursion (IsPassedParameter env) ps → IsKnown (with_locals env (map (parameter_of env) ps))
+inside_known env ps k h = record {
+  interfaces = k.interfaces;
+  classes = k.classes;
+  functions = k.functions;
+  globals = k.globals;
+  locals = locals_known env ps h;
+}
 
 -- bodies
 
-body_sound : (env : Environment) (of : Ty) (body : List written.Stmt) (typed : Body) → IsKnown env → IsKnownType of → body_typed env of body ≡ Ok typed → IsBody env of body typed
+body_sound : (env : Environment) (of : Ty) (body : List written.Stmt) (typed : Body) → IsKnown env → IsKnownType of
+    → body_typed env of body ≡ Ok typed → IsBody env of body typed
 unfolding body_typed
-body_sound env of body typed k known_of h = stmts_sound (body_scope env of) (record { env = k; gives = known_of }) (written.stmts body) typed h
+body_sound env of body typed k known_of h =
+    stmts_sound (body_scope env of) (record { env = k; gives = known_of }) (written.stmts body) typed h
 
-body_complete : (env : Environment) (of : Ty) (body : List written.Stmt) (typed : Body) → IsBody env of body typed → body_typed env of body ≡ Ok typed
+body_complete : (env : Environment) (of : Ty) (body : List written.Stmt) (typed : Body) → IsBody env of body typed
+    → body_typed env of body ≡ Ok typed
 unfolding body_typed
 body_complete env of body typed h = stmts_complete h
 
@@ -155,7 +192,8 @@ either : (of : Ty) (a b : Bool) → is_void of ≡ a → (a || b) ≡ true → (
 either of true b h e = inl (void_is of h)
 either of false b h e = inr e
 
-returning_sound : (at : ℕ) (of : Ty) (statements : List written.Stmt) (body done : Body) → returning at of statements body ≡ Ok done → (done ≡ body) × ((of ≡ ty.Void) ⊎ IsTrue (returns_in statements))
+returning_sound : (at : ℕ) (of : Ty) (statements : List written.Stmt) (body done : Body)
+    → returning at of statements body ≡ Ok done → (done ≡ body) × ((of ≡ ty.Void) ⊎ IsTrue (returns_in statements))
 unfolding returning
 returning_sound at of statements body done h = if_ok (is_void of || returns_in statements) _ _ (Ok done) h
     (λ b e. (sym (ok_is body done e), either of (is_void of) (returns_in statements) refl b))
@@ -165,14 +203,16 @@ always : (a : Bool) → (a || true) ≡ true
 always true = refl
 always false = refl
 
-returning_complete : (at : ℕ) (of : Ty) (statements : List written.Stmt) (body : Body) → (of ≡ ty.Void) ⊎ IsTrue (returns_in statements) → returning at of statements body ≡ Ok body
+returning_complete : (at : ℕ) (of : Ty) (statements : List written.Stmt) (body : Body)
+    → (of ≡ ty.Void) ⊎ IsTrue (returns_in statements) → returning at of statements body ≡ Ok body
 unfolding returning
 returning_complete at of statements body (inl h) = rw h refl
 returning_complete at of statements body (inr h) = rw (h, always (is_void of)) refl
 
 -- functions
 
-pub routine_sound : (env : Environment) → IsKnown env → (of : Ty) → IsKnownType of → (r : Routine) (typed : Function) → routine_typed env of r ≡ Ok typed → IsRoutine env of r typed
+pub routine_sound : (env : Environment) → IsKnown env → (of : Ty) → IsKnownType of → (r : Routine) (typed : Function)
+    → routine_typed env of r ≡ Ok typed → IsRoutine env of r typed
 unfolding routine_typed IsDistinct
 routine_sound env known of known_of r typed h =
     let p = bind_ok (parameters_typed env [] r.parameters) _ typed h in
@@ -181,19 +221,25 @@ routine_sound env known of known_of r typed h =
     let d = bind_ok (returning r.place.at of r.body b.0) _ typed b.2 in
     let e = returning_sound r.place.at of r.body b.0 d.0 d.1 in
     let is = ok_is _ typed d.2 in
-    let body : IsBody (with_locals env (map (parameter_of env) r.parameters)) of r.body b.0 = body_sound _ of r.body b.0 (inside_known env r.parameters known s.passed) known_of (subst (λ locals. body_typed (with_locals env locals) of r.body ≡ Ok b.0) s.is b.1) in
+    let body : IsBody (with_locals env (map (parameter_of env) r.parameters)) of r.body b.0 =
+    body_sound _ of r.body b.0 (inside_known env r.parameters known s.passed) known_of
+    (subst (λ locals. body_typed (with_locals env locals) of r.body ≡ Ok b.0) s.is b.1) in
     record {
       name = ap (λ (f : Function). f.name) (sym is);
       line = ap (λ (f : Function). f.line) (sym is);
       result = ap (λ (f : Function). f.result) (sym is);
       passed = s.passed;
       differ = s.differ;
-      parameters = ap (λ (f : Function). f.parameters) (sym is) ∙ ap (map type_declared) s.is ∙ types_of env r.parameters;
-      body = subst (λ (t : Body). IsBody (with_locals env (map (parameter_of env) r.parameters)) of r.body t) (sym e.0 ∙ ap (λ (f : Function). f.body) is) body;
+      parameters =
+          ap (λ (f : Function). f.parameters) (sym is) ∙ ap (map type_declared) s.is ∙ types_of env r.parameters;
+      body = subst
+          (λ (t : Body). IsBody (with_locals env (map (parameter_of env) r.parameters)) of r.body t)
+          (sym e.0 ∙ ap (λ (f : Function). f.body) is) body;
       returns = e.1;
     }
 
-pub routine_complete : (env : Environment) (of : Ty) (r : Routine) (typed : Function) → IsRoutine env of r typed → routine_typed env of r ≡ Ok typed
+pub routine_complete : (env : Environment) (of : Ty) (r : Routine) (typed : Function) → IsRoutine env of r typed
+    → routine_typed env of r ≡ Ok typed
 unfolding routine_typed IsDistinct
 routine_complete env of r typed is =
     let n = is.name in
@@ -201,16 +247,21 @@ routine_complete env of r typed is =
     let t = is.result in
     let q = is.parameters in
     let locals = map (parameter_of env) r.parameters in
-    bind_is (parameters_typed env [] r.parameters) _ locals _ (parameters_complete env r.parameters [] is.passed is.differ)
-    (bind_is (body_typed (with_locals env locals) of r.body) _ typed.body _ (body_complete (with_locals env locals) of r.body typed.body is.body)
-    (bind_is (returning r.place.at of r.body typed.body) _ typed.body _ (returning_complete r.place.at of r.body typed.body is.returns)
+    bind_is (parameters_typed env [] r.parameters) _ locals _
+    (parameters_complete env r.parameters [] is.passed is.differ)
+    (bind_is (body_typed (with_locals env locals) of r.body) _ typed.body _
+    (body_complete (with_locals env locals) of r.body typed.body is.body)
+    (bind_is (returning r.place.at of r.body typed.body) _ typed.body _
+    (returning_complete r.place.at of r.body typed.body is.returns)
     (ap (λ (f : Function). Ok f) (rw (sym n, sym l, sym t, types_of env r.parameters, sym q) refl))))
 
-pub result_sound : (env : Environment) (of : Option written.Named) (t : Ty) → result_typed env of ≡ Ok t → IsResult env of × (t ≡ result_in env of)
+pub result_sound : (env : Environment) (of : Option written.Named) (t : Ty) → result_typed env of ≡ Ok t
+    → IsResult env of × (t ≡ result_in env of)
 result_sound env None t h = (tt, sym (ok_is _ t h))
 result_sound env (Some of) t h = passed_sound env of of t h
 
-pub result_complete : (env : Environment) (of : Option written.Named) → IsResult env of → result_typed env of ≡ Ok (result_in env of)
+pub result_complete : (env : Environment) (of : Option written.Named) → IsResult env of
+    → result_typed env of ≡ Ok (result_in env of)
 result_complete env None h = refl
 result_complete env (Some of) h = passed_complete of (ty_in env of) h
 
@@ -218,7 +269,12 @@ result_is_known : (env : Environment) (of : Option written.Named) → IsResult e
 result_is_known env None h = refl
 result_is_known env (Some of) h = passed_known (ty_in env of) h
 
-pub function_sound : (env : Environment) → IsKnown env → (f : written.Function) (of : Ty) (typed : Function) → result_typed env f.result ≡ Ok of → routine_typed env of (routine_of f) ≡ Ok typed → IsFunction env f typed
+pub function_sound : (env : Environment) → IsKnown env → (f : written.Function) (of : Ty) (typed : Function)
+    → result_typed env f.result ≡ Ok of → routine_typed env of (routine_of f) ≡ Ok typed → IsFunction env f typed
 function_sound env known f of typed h k =
     let r = result_sound env f.result of h in
-    record { passed = r.0; routine = routine_sound env known (result_in env f.result) (result_is_known env f.result r.0) (routine_of f) typed (subst (λ (t : Ty). routine_typed env t (routine_of f) ≡ Ok typed) r.1 k) }
+    record {
+      passed = r.0;
+      routine = routine_sound env known (result_in env f.result) (result_is_known env f.result r.0) (routine_of f) typed
+          (subst (λ (t : Ty). routine_typed env t (routine_of f) ≡ Ok typed) r.1 k);
+    }

@@ -1,5 +1,6 @@
 -- Variables of a module or of a class are typed exactly as the rules say, and take their names.
-use Rattle.std.proofs.Common.{◌≡◌, ℕ, suc, List, [], ◌∷◌, ◌++◌, map, length, Option, Some, None, Ok, refl, sym, ◌∙◌, ap, subst, arith}
+use Rattle.std.proofs.Common.{◌≡◌, ℕ, suc, List, [], ◌∷◌, ◌++◌, map, length, Option, Some, None, Ok, refl, sym, ◌∙◌, ap}
+use Rattle.std.proofs.Common.{subst, arith}
 use Rattle.std.specs.List.{AllZip}
 use Rattle.std.proofs.lemmas.List.{append_assoc, append-nil}
 use Rattle.ash_tree.specs.Tree as written
@@ -18,20 +19,23 @@ use Rattle.ash_typed.specs.Modules.{Variables}
 use Rattle.ash_typing.specs.Items.{Names, Row, placed, with_variable, decls_typed, no_variables, vars_typed}
 use Rattle.ash_typing.specs.TypedModules.{AreVariables}
 use Rattle.ash_typing.proofs.Bindings.{no_err, ok_is, bind_ok, bind_is}
-use Rattle.ash_typing.proofs.TakenNames.{Distinct, grown, grown-none, grown-then, CanTake, takes_none, takes_then, takes_first, takes_rest, placed_sound, placed_complete}
+use Rattle.ash_typing.proofs.TakenNames.{Distinct, grown, grown-none, grown-then, CanTake, takes_none, takes_then}
+use Rattle.ash_typing.proofs.TakenNames.{takes_first, takes_rest, placed_sound, placed_complete}
 use Rattle.ash_typing.proofs.TypingVariables.{declared_sound, declared_complete}
 use Rattle.ash_tree.specs.Items.{decl_name, names_of}
 
 -- a type of variables
 
-object_sound : (at : written.Named) (o : ObjectType) (of : Ty) → known_ty at (ty.Object o) ≡ Ok of → IsVariableType (ty.Object o) × (of ≡ ty.Object o)
+object_sound : (at : written.Named) (o : ObjectType) (of : Ty) → known_ty at (ty.Object o) ≡ Ok of
+    → IsVariableType (ty.Object o) × (of ≡ ty.Object o)
 unfolding known_ty
 object_sound at (objects.Class c) of h = (refl, sym (ok_is _ of h))
 object_sound at (objects.Interface i) of h = absurd (no_err _ of h)
 object_sound at (objects.Host kind) of h = (refl, sym (ok_is _ of h))
 object_sound at (objects.Array e) of h = (refl, sym (ok_is _ of h))
 
-object_complete : (at : written.Named) (o : ObjectType) → IsVariableType (ty.Object o) → known_ty at (ty.Object o) ≡ Ok (ty.Object o)
+object_complete : (at : written.Named) (o : ObjectType) → IsVariableType (ty.Object o)
+    → known_ty at (ty.Object o) ≡ Ok (ty.Object o)
 unfolding known_ty
 object_complete at (objects.Class c) h = refl
 object_complete at (objects.Interface i) h = absurd (cc)
@@ -50,7 +54,8 @@ known_complete at ty.Null h = absurd (cc)
 
 -- a type that is written and taken is one of variables
 
-primitive_sound : (at : written.Named) (p : Primitive) (of : Ty) → known_ty at (ty_of p) ≡ Ok of → IsVariableType (ty_of p) × (of ≡ ty_of p)
+primitive_sound : (at : written.Named) (p : Primitive) (of : Ty) → known_ty at (ty_of p) ≡ Ok of
+    → IsVariableType (ty_of p) × (of ≡ ty_of p)
 unfolding known_ty
 primitive_sound at primitives.Bool of h = (refl, sym (ok_is _ of h))
 primitive_sound at primitives.Int of h = (refl, sym (ok_is _ of h))
@@ -58,17 +63,20 @@ primitive_sound at primitives.Int64 of h = (refl, sym (ok_is _ of h))
 primitive_sound at primitives.Uint of h = (refl, sym (ok_is _ of h))
 primitive_sound at primitives.Uint64 of h = (refl, sym (ok_is _ of h))
 
-some_object_sound : (at : written.Named) (o : Option ObjectType) (of : Ty) → known_ty at (object_ty o) ≡ Ok of → IsVariableType (object_ty o) × (of ≡ object_ty o)
+some_object_sound : (at : written.Named) (o : Option ObjectType) (of : Ty) → known_ty at (object_ty o) ≡ Ok of
+    → IsVariableType (object_ty o) × (of ≡ object_ty o)
 unfolding known_ty
 some_object_sound at None of h = absurd (no_err _ of h)
 some_object_sound at (Some o) of h = object_sound at o of h
 
-some_handle_sound : (at : written.Named) (o : Option ObjectType) (of : Ty) → known_ty at (handle_ty o) ≡ Ok of → IsVariableType (handle_ty o) × (of ≡ handle_ty o)
+some_handle_sound : (at : written.Named) (o : Option ObjectType) (of : Ty) → known_ty at (handle_ty o) ≡ Ok of
+    → IsVariableType (handle_ty o) × (of ≡ handle_ty o)
 unfolding known_ty
 some_handle_sound at None of h = absurd (no_err _ of h)
 some_handle_sound at (Some o) of h = (refl, sym (ok_is _ of h))
 
-pub known_sound : (env : Environment) (at of : written.Named) (t : Ty) → known_ty at (ty_in env of) ≡ Ok t → IsVariableType (ty_in env of) × (t ≡ ty_in env of)
+pub known_sound : (env : Environment) (at of : written.Named) (t : Ty) → known_ty at (ty_in env of) ≡ Ok t
+    → IsVariableType (ty_in env of) × (t ≡ ty_in env of)
 unfolding ty_named
 known_sound env at (written.Prim p k) t h = primitive_sound at k t h
 known_sound env at (written.Object p name) t h = some_object_sound at (object_named env.registered env.heads name) t h
@@ -76,61 +84,88 @@ known_sound env at (written.Handle p name) t h = some_handle_sound at (object_na
 known_sound env at (written.Array p of) t h = some_object_sound at (array_named env.registered env.heads of) t h
 known_sound env at (written.ArrayHandle p of) t h = some_handle_sound at (array_named env.registered env.heads of) t h
 
--- more variables behind those so far
+-- more variables after those so far
 
 abbrev row_with : Row → List (List ℕ) → ℕ → List Initialization → Row
-row_with row names k values = record { names = grown row.names names k; variables = record { line = row.variables.line; values = row.variables.values ++ values } }
+row_with row names k values = record {
+  names = grown row.names names k;
+  variables = record { line = row.variables.line; values = row.variables.values ++ values };
+}
 
 abbrev row_of : ℕ → Names → List Initialization → Row
 row_of line taken values = record { names = taken; variables = record { line = line; values = values } }
 
-same_row : (line : ℕ) (n m : Names) (vs ws : List Initialization) → n ≡ m → vs ≡ ws → row_of line n vs ≡ row_of line m ws
+same_row : (line : ℕ) (n m : Names) (vs ws : List Initialization) → n ≡ m → vs ≡ ws
+    → row_of line n vs ≡ row_of line m ws
 same_row line n m vs ws h i = rw (h, i) refl
 
 row_with-none : (row : Row) → row_with row [] 0 [] ≡ row
-row_with-none row = same_row row.variables.line (grown row.names [] 0) row.names _ _ (grown-none row.names) (append-nil row.variables.values)
+row_with-none row =
+    same_row row.variables.line (grown row.names [] 0) row.names _ _ (grown-none row.names)
+    (append-nil row.variables.values)
 
-row_with-then : (row : Row) (x : List ℕ) (xs : List (List ℕ)) (k : ℕ) (v : Initialization) (vs : List Initialization) → row_with (row_with row (x ∷ []) 1 (v ∷ [])) xs k vs ≡ row_with row (x ∷ xs) (suc k) (v ∷ vs)
-row_with-then row x xs k v vs = same_row row.variables.line _ (grown row.names (x ∷ xs) (suc k)) _ _ (grown-then row.names (x ∷ []) xs 1 k (suc k) (omega arith)) (append_assoc row.variables.values (v ∷ []) vs)
+row_with-then : (row : Row) (x : List ℕ) (xs : List (List ℕ)) (k : ℕ) (v : Initialization) (vs : List Initialization)
+    → row_with (row_with row (x ∷ []) 1 (v ∷ [])) xs k vs ≡ row_with row (x ∷ xs) (suc k) (v ∷ vs)
+row_with-then row x xs k v vs =
+    same_row row.variables.line _ (grown row.names (x ∷ xs) (suc k)) _ _
+    (grown-then row.names (x ∷ []) xs 1 k (suc k) (omega arith)) (append_assoc row.variables.values (v ∷ []) vs)
 
 -- variables of one type
 
-record Gone (env : Environment) (of : Ty) (row : Row) (ds : List written.Decl) (after : Row) : Type 0 where
+record DeclsWalked (env : Environment) (of : Ty) (row : Row) (ds : List written.Decl) (after : Row) : Type 0 where
   can : CanTake row.names (map decl_name ds) (length ds)
   values : List Initialization
   each : AllZip (IsDeclared env of) ds values
   is : after ≡ row_with row (map decl_name ds) (length ds) values
 
-decls_sound : (env : Environment) (at : ℕ) (of : Ty) → IsKnown env → IsVariableType of → (ds : List written.Decl) (row after : Row) → Distinct row.names.taken → decls_typed env at of row ds ≡ Ok after → Gone env of row ds after
-decls_sound env at of known known_of [] row after d h = record { can = takes_none row.names d; values = []; each = tt; is = sym (ok_is row after h) ∙ sym (row_with-none row) }
+decls_sound : (env : Environment) (at : ℕ) (of : Ty) → IsKnown env → IsVariableType of
+    → (ds : List written.Decl) (row after : Row) → Distinct row.names.taken → decls_typed env at of row ds ≡ Ok after
+    → DeclsWalked env of row ds after
+decls_sound env at of known known_of [] row after d h = record {
+  can = takes_none row.names d;
+  values = [];
+  each = tt;
+  is = sym (ok_is row after h) ∙ sym (row_with-none row);
+}
 decls_sound env at of known known_of (x ∷ ds) row after d h =
     let p = bind_ok (placed row.names x.place.at x.name) _ after h in
     let v = bind_ok (decl_typed env at of x) _ after p.2 in
     let s = placed_sound row.names x.place.at x.name p.0 d p.1 in
     let next : Row = row_with row (x.name ∷ []) 1 (v.0 ∷ []) in
-    let there : decls_typed env at of next ds ≡ Ok after = subst (λ (n : Names). decls_typed env at of (record { names = n; variables = with_variable row.variables v.0 }) ds ≡ Ok after) s.1 v.2 in
+    let there : decls_typed env at of next ds ≡ Ok after =
+    subst (λ (n : Names).
+    decls_typed env at of (record { names = n; variables = with_variable row.variables v.0 }) ds ≡ Ok after) s.1
+    v.2 in
     let go = decls_sound env at of known known_of ds next after s.0.distinct there in
     record {
-      can = takes_then row.names (x.name ∷ []) (map decl_name ds) 1 (length ds) (suc (length ds)) (omega arith) s.0 go.can;
+      can = takes_then row.names (x.name ∷ []) (map decl_name ds) 1 (length ds) (suc (length ds)) (omega arith) s.0
+          go.can;
       values = v.0 ∷ go.values;
       each = (declared_sound env known at of x v.0 v.1, go.each);
       is = go.is ∙ row_with-then row x.name (map decl_name ds) (length ds) v.0 go.values;
     }
 
-decls_complete : (env : Environment) (at : ℕ) (of : Ty) → IsKnown env → IsVariableType of → (ds : List written.Decl) (values : List Initialization) (row : Row) → CanTake row.names (map decl_name ds) (length ds) → AllZip (IsDeclared env of) ds values → decls_typed env at of row ds ≡ Ok (row_with row (map decl_name ds) (length ds) values)
+decls_complete : (env : Environment) (at : ℕ) (of : Ty) → IsKnown env → IsVariableType of
+    → (ds : List written.Decl) (values : List Initialization) (row : Row)
+    → CanTake row.names (map decl_name ds) (length ds) → AllZip (IsDeclared env of) ds values
+    → decls_typed env at of row ds ≡ Ok (row_with row (map decl_name ds) (length ds) values)
 decls_complete env at of known known_of [] [] row can each = ap (λ (r : Row). Ok r) (sym (row_with-none row))
 decls_complete env at of known known_of [] (v ∷ vs) row can each = absurd each
 decls_complete env at of known known_of (x ∷ ds) [] row can each = absurd each
 decls_complete env at of known known_of (x ∷ ds) (v ∷ vs) row can each =
-    let first = takes_first row.names (x.name ∷ []) (map decl_name ds) 1 (length ds) (suc (length ds)) (omega arith) can in
-    let rest = takes_rest row.names (x.name ∷ []) (map decl_name ds) 1 (length ds) (suc (length ds)) (omega arith) can in
-    bind_is (placed row.names x.place.at x.name) _ (grown row.names (x.name ∷ []) 1) _ (placed_complete row.names x.place.at x.name first)
+    let first = takes_first row.names (x.name ∷ []) (map decl_name ds) 1 (length ds) (suc (length ds)) (omega arith)
+    can in
+    let rest = takes_rest row.names (x.name ∷ []) (map decl_name ds) 1 (length ds) (suc (length ds)) (omega arith)
+    can in
+    bind_is (placed row.names x.place.at x.name) _ (grown row.names (x.name ∷ []) 1) _
+    (placed_complete row.names x.place.at x.name first)
     (bind_is (decl_typed env at of x) _ v _ (declared_complete each.0 at)
-    (decls_complete env at of known known_of ds vs (row_with row (x.name ∷ []) 1 (v ∷ [])) rest each.1 ∙ ap (λ (r : Row). Ok r) (row_with-then row x.name (map decl_name ds) (length ds) v vs)))
+    (decls_complete env at of known known_of ds vs (row_with row (x.name ∷ []) 1 (v ∷ [])) rest each.1
+    ∙ ap (λ (r : Row). Ok r) (row_with-then row x.name (map decl_name ds) (length ds) v vs)))
 
 -- the variables of one declaration
 
-pub record VarsGone (env : Environment) (names : Names) (v : written.Vars) (after : Row) : Type 0 where
+pub record VarsWalked (env : Environment) (names : Names) (v : written.Vars) (after : Row) : Type 0 where
   pub can : CanTake names (names_of v) (length v.decls)
   pub taken : after.names ≡ grown names (names_of v) (length v.decls)
   pub typed : AreVariables env v after.variables
@@ -138,12 +173,14 @@ pub record VarsGone (env : Environment) (names : Names) (v : written.Vars) (afte
 begun : Names → written.Vars → Row
 begun names v = record { names = names; variables = no_variables v.of }
 
-pub vars_sound : (env : Environment) → IsKnown env → (names : Names) (v : written.Vars) (after : Row) → Distinct names.taken → vars_typed env names v ≡ Ok after → VarsGone env names v after
+pub vars_sound : (env : Environment) → IsKnown env → (names : Names) (v : written.Vars) (after : Row)
+    → Distinct names.taken → vars_typed env names v ≡ Ok after → VarsWalked env names v after
 unfolding vars_typed begun
 vars_sound env known names v after d h =
     let k = bind_ok (known_ty v.of (ty_in env v.of)) _ after h in
     let s = known_sound env v.of v.of k.0 k.1 in
-    let there : decls_typed env (at_type v.of) (ty_in env v.of) (begun names v) v.decls ≡ Ok after = subst (λ (of : Ty). decls_typed env (at_type v.of) of (begun names v) v.decls ≡ Ok after) s.1 k.2 in
+    let there : decls_typed env (at_type v.of) (ty_in env v.of) (begun names v) v.decls ≡ Ok after =
+    subst (λ (of : Ty). decls_typed env (at_type v.of) of (begun names v) v.decls ≡ Ok after) s.1 k.2 in
     let go = decls_sound env (at_type v.of) (ty_in env v.of) known s.0 v.decls (begun names v) after d there in
     record {
       can = go.can;
@@ -151,13 +188,17 @@ vars_sound env known names v after d h =
       typed = record {
         variable = s.0;
         line = ap (λ (r : Row). r.variables.line) go.is;
-        values = subst (λ (r : Row). AllZip (IsDeclared env (ty_in env v.of)) v.decls r.variables.values) (sym go.is) go.each;
+        values = subst
+            (λ (r : Row). AllZip (IsDeclared env (ty_in env v.of)) v.decls r.variables.values) (sym go.is) go.each;
       };
     }
 
-pub vars_complete : (env : Environment) → IsKnown env → (names : Names) (v : written.Vars) (typed : Variables) → CanTake names (names_of v) (length v.decls) → AreVariables env v typed → vars_typed env names v ≡ Ok (record { names = grown names (names_of v) (length v.decls); variables = typed })
+pub vars_complete : (env : Environment) → IsKnown env → (names : Names) (v : written.Vars) (typed : Variables)
+    → CanTake names (names_of v) (length v.decls) → AreVariables env v typed
+    → vars_typed env names v ≡ Ok (record { names = grown names (names_of v) (length v.decls); variables = typed })
 unfolding vars_typed begun
 vars_complete env known names v typed can are =
     let l = are.line in
     bind_is (known_ty v.of (ty_in env v.of)) _ (ty_in env v.of) _ (known_complete v.of (ty_in env v.of) are.variable)
-    (decls_complete env (at_type v.of) (ty_in env v.of) known are.variable v.decls typed.values (begun names v) can are.values ∙ ap (λ (r : Row). Ok r) (rw (sym l) refl))
+    (decls_complete env (at_type v.of) (ty_in env v.of) known are.variable v.decls typed.values (begun names v) can
+    are.values ∙ ap (λ (r : Row). Ok r) (rw (sym l) refl))

@@ -18,7 +18,6 @@ use Rattle.ash_typed.specs.declared.types.ObjectType.{ObjectType}
 use Rattle.ash_typing.specs.declared.types.Ty.{Ty}
 use Rattle.ash_typing.specs.declared.types.Ty.TheVariants as ty
 use Rattle.ash_typing.specs.declared.forms.Form.{Form}
-use Rattle.ash_typing.specs.declared.forms.Form.TheVariants as form
 use Rattle.ash_typed.specs.declared.tree.operations.Change.TheVariants as changes
 use Rattle.ash_typed.specs.declared.tree.operations.Member.{Member}
 use Rattle.ash_typed.specs.declared.tree.operations.Calculator.{Calculator}
@@ -26,36 +25,55 @@ use Rattle.ash_typed.specs.declared.tree.operations.Operands.{Operands}
 use Rattle.ash_typed.specs.declared.tree.operations.Operands.TheVariants as operands
 use Rattle.ash_typed.specs.declared.tree.operations.Step.{Step}
 use Rattle.ash_typed.specs.declared.tree.operations.Step.TheVariants as steps
-use Rattle.ash_typing.specs.Types.{var_type, signed, common, object_of, ty_of, ty_of_element, sort_of, outcome, binary_of}
-use Rattle.ash_typed.specs.Tree.{Expr, Exprs, Null, Read, Invoke, Cast, Alter, Conditional, Assign, Update, Count, Call, Place, Held, Indexed, no_expr, expr}
+use Rattle.ash_typing.specs.Types.{var_type, signed, common, object_of, ty_of, ty_of_element, sort_of, outcome}
+use Rattle.ash_typing.specs.Types.{binary_of}
+use Rattle.ash_typed.specs.Tree.{Expr, Exprs, Null, Read, Invoke, Cast, Alter, Conditional, Assign, Update, Count, Call}
+use Rattle.ash_typed.specs.Tree.{Place, Held, Indexed, no_expr, expr}
 use Rattle.ash_typing.specs.Fitting.{fits}
-use Rattle.ash_typing.specs.Heads.{object_named, element_named}
+use Rattle.ash_typing.specs.Heads.{element_named}
 use Rattle.ash_typing.specs.Environment.{Environment, Class, Callee, Invoked, callee_in, member_in, method_in}
-use Rattle.ash_typing.specs.Expressions.{Typed, typed, all_typed, links_typed, suffixes_typed, suffix_typed, call_typed, invocation_typed, called, arguments_at, all_fitted, fitted, operate, counted, unary_at, convert_at, choice, assigned, stored, is_assign, field_of, method_of, invoked, made, read_at, indexed, array_typed, cast_type, cast_at, placed, all_placed, term_of, first_at}
-use Rattle.ash_typing.specs.Typing.{HasType, AllHaveType, LinksHaveType, SuffixesHaveType, SuffixHasType, AreArguments, no_arguments, argument, IsCastType, to_class, to_interface, number, truth, null, this, name, call, brackets, to_integer, to_bool, new_array, cast, postfix, plus, minus, complement, not, increment, decrement, handle, handle_written, binary, conditional, assign, update, none_left, each, no_more, operated, no_suffixes, suffixed, field, method, index, increment_after, decrement_after, Meet, left_of, right_of}
+use Rattle.ash_typing.specs.Expressions.{Typed, typed, all_typed, links_typed, suffixes_typed, suffix_typed, call_typed}
+use Rattle.ash_typing.specs.Expressions.{invocation_typed, called, arguments_at, all_fitted, fitted, operate, counted}
+use Rattle.ash_typing.specs.Expressions.{unary_at, convert_at, choice, assigned, stored, is_assign, field_of, method_of}
+use Rattle.ash_typing.specs.Expressions.{invoked, made, read_at, indexed, array_typed, cast_type, cast_at, placed}
+use Rattle.ash_typing.specs.Expressions.{all_placed, term_of, first_at}
+use Rattle.ash_typing.specs.Typing.{HasType, AllHaveType, LinksHaveType, SuffixesHaveType, SuffixHasType, AreArguments}
+use Rattle.ash_typing.specs.Typing.{no_arguments, argument, IsCastType, to_class, to_interface, number, truth, null}
+use Rattle.ash_typing.specs.Typing.{this, name, call, brackets, to_integer, to_bool, new_array, cast, postfix, plus}
+use Rattle.ash_typing.specs.Typing.{minus, complement, not, increment, decrement, handle, handle_written, binary}
+use Rattle.ash_typing.specs.Typing.{conditional, assign, update, none_left, each, no_more, operated, no_suffixes}
+use Rattle.ash_typing.specs.Typing.{suffixed, field, method, index, increment_after, decrement_after, Meet, left_of}
+use Rattle.ash_typing.specs.Typing.{right_of}
 use Rattle.ash_typing.proofs.TypingWords.{same_kind, met_is}
-use Rattle.ash_typing.specs.Terms.{operator_of, is_stored, applied, call_of, assignable, handle_form, array_parameters, Term, term, read_term, converted_to}
+use Rattle.ash_typing.specs.Terms.{operator_of, is_stored, applied, call_of, assignable, handle_form, array_parameters}
+use Rattle.ash_typing.specs.Terms.{Term, term, read_term, converted_to}
 
 -- arguments
 
-length_is : {classes : List Class} {parameters : List Ty} {ts : List Term} {trees : Exprs} → AreArguments classes parameters ts trees → length parameters ≡ length ts
+length_is : {classes : List Class} {parameters : List Ty} {ts : List Term} {trees : Exprs}
+    → AreArguments classes parameters ts trees → length parameters ≡ length ts
 length_is no_arguments = refl
 length_is (argument h rest) = ap suc (length_is rest)
 
-pub fitted_is : (classes : List Class) (of : Ty) (at : ℕ) (t : Term) → fits classes of t.ty ≡ true → fitted classes of (placed at t) ≡ Ok (converted_to of t)
+pub fitted_is : (classes : List Class) (of : Ty) (at : ℕ) (t : Term) → fits classes of t.ty ≡ true
+    → fitted classes of (placed at t) ≡ Ok (converted_to of t)
 unfolding fitted
 fitted_is classes of at t h = rw h refl
 
 abbrev pub terms : List Typed → List Term
 terms = map term_of
 
-out_first : {classes : List Class} {of : Ty} {t : Term} {parameters : List Ty} {ts : List Term} {trees : Exprs} → AreArguments classes (of ∷ parameters) (t ∷ ts) trees → (fits classes of t.ty ≡ true) × ((rest : Exprs) × AreArguments classes parameters ts rest × (expr (converted_to of t) rest ≡ trees))
+out_first : {classes : List Class} {of : Ty} {t : Term} {parameters : List Ty} {ts : List Term} {trees : Exprs}
+    → AreArguments classes (of ∷ parameters) (t ∷ ts) trees
+    → (fits classes of t.ty ≡ true)
+    × ((rest : Exprs) × AreArguments classes parameters ts rest × (expr (converted_to of t) rest ≡ trees))
 out_first (argument h rest) = (h, (_, rest, refl))
 
 out_none : {classes : List Class} {trees : Exprs} → AreArguments classes [] [] trees → no_expr ≡ trees
 out_none no_arguments = refl
 
-all_fitted_is : (classes : List Class) (parameters : List Ty) (us : List Typed) (trees : Exprs) → AreArguments classes parameters (terms us) trees → all_fitted classes parameters us ≡ Ok trees
+all_fitted_is : (classes : List Class) (parameters : List Ty) (us : List Typed) (trees : Exprs)
+    → AreArguments classes parameters (terms us) trees → all_fitted classes parameters us ≡ Ok trees
 all_fitted_is classes [] [] trees h = ap Ok (out_none h)
 all_fitted_is classes [] (u ∷ us) trees h = elim h [ ]
 all_fitted_is classes (of ∷ parameters) [] trees h = elim h [ ]
@@ -63,170 +81,271 @@ all_fitted_is classes (of ∷ parameters) (u ∷ us) trees h =
     let o = out_first h in
     rw (fitted_is classes of u.at (term_of u) o.0, all_fitted_is classes parameters us (o.1).0 (o.1).1, (o.1).2) refl
 
-pub arguments_is : (classes : List Class) (at : ℕ) (parameters : List Ty) (us : List Typed) (trees : Exprs) → AreArguments classes parameters (terms us) trees → arguments_at classes at parameters us ≡ Ok trees
+pub arguments_is : (classes : List Class) (at : ℕ) (parameters : List Ty) (us : List Typed) (trees : Exprs)
+    → AreArguments classes parameters (terms us) trees → arguments_at classes at parameters us ≡ Ok trees
 unfolding arguments_at
-arguments_is classes at parameters us trees h = rw (eq-eqb (length parameters) (length us) (length_is h ∙ length-map us term_of)) (all_fitted_is classes parameters us trees h)
+arguments_is classes at parameters us trees h =
+    rw (eq-eqb (length parameters) (length us) (length_is h ∙ length-map us term_of))
+    (all_fitted_is classes parameters us trees h)
 
 -- phrases
 
-call_is : (env : Environment) (at : ℕ) (text : List ℕ) (es : written.Exprs) (callee : Callee) (parameters : List Ty) (us : List Typed) (trees : Exprs) → callee_in env text ≡ Some callee → callee.parameters ≡ Some parameters → all_typed env es ≡ Ok us → AreArguments env.heads.classes parameters (terms us) trees → call_typed env at text (all_typed env es) ≡ Ok (made at callee.result (call_of callee.target (map var_type parameters) trees))
+call_is : (env : Environment) (at : ℕ) (text : List ℕ) (es : written.Exprs) (callee : Callee) (parameters : List Ty)
+    (us : List Typed) (trees : Exprs) → callee_in env text ≡ Some callee → callee.parameters ≡ Some parameters
+    → all_typed env es ≡ Ok us → AreArguments env.heads.classes parameters (terms us) trees
+    → call_typed env at text (all_typed env es)
+    ≡ Ok (made at callee.result (call_of callee.target (map var_type parameters) trees))
 unfolding called
-call_is env at text es callee parameters us trees c p e a = rw (c, e, p, arguments_is env.heads.classes at parameters us trees a) refl
+call_is env at text es callee parameters us trees c p e a =
+    rw (c, e, p, arguments_is env.heads.classes at parameters us trees a) refl
 
-integer_is : (env : Environment) (e : written.Expr) (at : ℕ) (to : Primitive) (t : Term) (j k : Kind) → ty_of to ≡ ty.Integer k → t.ty ≡ ty.Integer j → convert_at at to (placed (first_at e) t) ≡ Ok (placed at (term (ty.Integer k) (converted_to (ty.Integer k) t)))
+integer_is : (env : Environment) (e : written.Expr) (at : ℕ) (to : Primitive) (t : Term) (j k : Kind)
+    → ty_of to ≡ ty.Integer k → t.ty ≡ ty.Integer j
+    → convert_at at to (placed (first_at e) t) ≡ Ok (placed at (term (ty.Integer k) (converted_to (ty.Integer k) t)))
 unfolding convert_at
 integer_is env e at to t j k h i = rw (h, i) refl
 
-bool_is : (at b : ℕ) (to : Primitive) (t : Term) → ty_of to ≡ ty.Bool → t.ty ≡ ty.Bool → convert_at at to (placed b t) ≡ Ok (placed at (term ty.Bool t.tree))
+bool_is : (at b : ℕ) (to : Primitive) (t : Term) → ty_of to ≡ ty.Bool → t.ty ≡ ty.Bool
+    → convert_at at to (placed b t) ≡ Ok (placed at (term ty.Bool t.tree))
 unfolding convert_at
 bool_is at b to t h i = rw (h, i) refl
 
-plus_is : (left : Bool) (at b : ℕ) (t : Term) (k : Kind) → t.ty ≡ ty.Integer k → unary_at left at unary.Plus (placed b t) ≡ Ok (placed at (term (ty.Integer k) t.tree))
+plus_is : (left : Bool) (at b : ℕ) (t : Term) (k : Kind) → t.ty ≡ ty.Integer k
+    → unary_at left at unary.Plus (placed b t) ≡ Ok (placed at (term (ty.Integer k) t.tree))
 unfolding unary_at
 plus_is left at b t k h = rw (h, same_kind k) refl
 
-minus_is : (left : Bool) (at b : ℕ) (t : Term) (k : Kind) → t.ty ≡ ty.Integer k → unary_at left at unary.Minus (placed b t) ≡ Ok (placed at (term (ty.Integer (signed k)) (Alter (changes.Negate (signed k)) (converted_to (ty.Integer (signed k)) t))))
+minus_is : (left : Bool) (at b : ℕ) (t : Term) (k : Kind) → t.ty ≡ ty.Integer k
+    → unary_at left at unary.Minus (placed b t)
+    ≡ Ok (placed at
+    (term (ty.Integer (signed k)) (Alter (changes.Negate (signed k)) (converted_to (ty.Integer (signed k)) t))))
 unfolding unary_at
 minus_is left at b t k h = rw h refl
 
-complement_is : (left : Bool) (at b : ℕ) (t : Term) (k : Kind) → t.ty ≡ ty.Integer k → unary_at left at unary.BitNot (placed b t) ≡ Ok (placed at (term (ty.Integer k) (Alter (changes.Complement k) t.tree)))
+complement_is : (left : Bool) (at b : ℕ) (t : Term) (k : Kind) → t.ty ≡ ty.Integer k
+    → unary_at left at unary.BitNot (placed b t)
+    ≡ Ok (placed at (term (ty.Integer k) (Alter (changes.Complement k) t.tree)))
 unfolding unary_at
 complement_is left at b t k h = rw (h, same_kind k) refl
 
-not_is : (left : Bool) (at b : ℕ) (t : Term) → t.ty ≡ ty.Bool → unary_at left at unary.Not (placed b t) ≡ Ok (placed at (term ty.Bool (Alter changes.Not t.tree)))
+not_is : (left : Bool) (at b : ℕ) (t : Term) → t.ty ≡ ty.Bool
+    → unary_at left at unary.Not (placed b t) ≡ Ok (placed at (term ty.Bool (Alter changes.Not t.tree)))
 unfolding unary_at
 not_is left at b t h = rw h refl
 
-counted_is : (at b : ℕ) (step : Step) (t : Term) (stands : Place) (k : Kind) → assignable t.form t.tree ≡ Some stands → t.ty ≡ ty.Integer k → counted at step (placed b t) (assignable t.form t.tree) ≡ Ok (placed at (term (ty.Integer k) (Count stands k step)))
+counted_is : (at b : ℕ) (step : Step) (t : Term) (target : Place) (k : Kind) → assignable t.form t.tree ≡ Some target
+    → t.ty ≡ ty.Integer k
+    → counted at step (placed b t) (assignable t.form t.tree)
+    ≡ Ok (placed at (term (ty.Integer k) (Count target k step)))
 unfolding counted
-counted_is at b step t stands k h i = rw (h, i) refl
+counted_is at b step t target k h i = rw (h, i) refl
 
-increment_is : (left : Bool) (at b : ℕ) (t : Term) (stands : Place) (k : Kind) → assignable t.form t.tree ≡ Some stands → t.ty ≡ ty.Integer k → unary_at left at unary.Increment (placed b t) ≡ Ok (placed at (term (ty.Integer k) (Count stands k steps.Increment)))
+increment_is : (left : Bool) (at b : ℕ) (t : Term) (target : Place) (k : Kind) → assignable t.form t.tree ≡ Some target
+    → t.ty ≡ ty.Integer k
+    → unary_at left at unary.Increment (placed b t)
+    ≡ Ok (placed at (term (ty.Integer k) (Count target k steps.Increment)))
 unfolding unary_at
-increment_is left at b t stands k h i = counted_is at b steps.Increment t stands k h i
+increment_is left at b t target k h i = counted_is at b steps.Increment t target k h i
 
-decrement_is : (left : Bool) (at b : ℕ) (t : Term) (stands : Place) (k : Kind) → assignable t.form t.tree ≡ Some stands → t.ty ≡ ty.Integer k → unary_at left at unary.Decrement (placed b t) ≡ Ok (placed at (term (ty.Integer k) (Count stands k steps.Decrement)))
+decrement_is : (left : Bool) (at b : ℕ) (t : Term) (target : Place) (k : Kind) → assignable t.form t.tree ≡ Some target
+    → t.ty ≡ ty.Integer k
+    → unary_at left at unary.Decrement (placed b t)
+    ≡ Ok (placed at (term (ty.Integer k) (Count target k steps.Decrement)))
 unfolding unary_at
-decrement_is left at b t stands k h i = counted_is at b steps.Decrement t stands k h i
+decrement_is left at b t target k h i = counted_is at b steps.Decrement t target k h i
 
-handle_is : (at b : ℕ) (of : Ty) (a : Form) (tree : Expr) (o : ObjectType) → object_of of ≡ Some o → unary_at false at unary.Handle (record { at = b; ty = of; form = a; tree = tree }) ≡ Ok (placed at (term (ty.Handle o) tree))
+handle_is : (at b : ℕ) (of : Ty) (a : Form) (tree : Expr) (o : ObjectType) → object_of of ≡ Some o
+    → unary_at false at unary.Handle (record { at = b; ty = of; form = a; tree = tree })
+    ≡ Ok (placed at (term (ty.Handle o) tree))
 unfolding unary_at
 handle_is at b (ty.Object p) a tree o h = rw (same_Some p o h) refl
 handle_is at b (ty.Handle p) a tree o h = rw (same_Some p o h) refl
 handle_is at b _ a tree o h = absurd (none-some o h)
 
-handle_written_is : (at b : ℕ) (t : Term) → unary_at true at unary.Handle (placed b t) ≡ Ok (placed at (record { ty = t.ty; form = handle_form t.form; tree = t.tree }))
+handle_written_is : (at b : ℕ) (t : Term)
+    → unary_at true at unary.Handle (placed b t)
+    ≡ Ok (placed at (record { ty = t.ty; form = handle_form t.form; tree = t.tree }))
 unfolding unary_at
 handle_written_is at b t = refl
 
-operate_is : (op : BinaryOp) (t u : Term) (o : Operands) (a b : ℕ) → Meet op t u o → operate op (placed a t) (placed b u) ≡ Ok (placed a (term (outcome (sort_of op) o) (applied op o (left_of op o t u) (right_of op o t u))))
+operate_is : (op : BinaryOp) (t u : Term) (o : Operands) (a b : ℕ) → Meet op t u o
+    → operate op (placed a t) (placed b u)
+    ≡ Ok (placed a (term (outcome (sort_of op) o) (applied op o (left_of op o t u) (right_of op o t u))))
 unfolding operate
 operate_is op t u o a b h = rw (met_is op t u o a b h) refl
 
-choice_is : (t x y : Term) (a b c : ℕ) (of : Ty) → t.ty ≡ ty.Bool → common x.ty y.ty ≡ Some of → choice (placed a t) (placed b x) (placed c y) ≡ Ok (placed a (term of (Conditional t.tree (converted_to of x) (converted_to of y))))
+choice_is : (t x y : Term) (a b c : ℕ) (of : Ty) → t.ty ≡ ty.Bool → common x.ty y.ty ≡ Some of
+    → choice (placed a t) (placed b x) (placed c y)
+    ≡ Ok (placed a (term of (Conditional t.tree (converted_to of x) (converted_to of y))))
 unfolding choice
 choice_is t x y a b c of h i = rw (h, i) refl
 
-assign_is : (classes : List Class) (t u : Term) (a b : ℕ) (stands : Place) → assignable t.form t.tree ≡ Some stands → is_stored t.form t.ty ≡ true → fits classes t.ty u.ty ≡ true → assigned classes (placed a t) assigns.Assign (placed b u) ≡ Ok (placed a (term t.ty (Assign stands (converted_to t.ty u))))
+assign_is : (classes : List Class) (t u : Term) (a b : ℕ) (target : Place) → assignable t.form t.tree ≡ Some target
+    → is_stored t.form t.ty ≡ true → fits classes t.ty u.ty ≡ true
+    → assigned classes (placed a t) assigns.Assign (placed b u)
+    ≡ Ok (placed a (term t.ty (Assign target (converted_to t.ty u))))
 unfolding assigned stored
-assign_is classes t u a b stands p s h = rw (p, s, fitted_is classes t.ty b u h) refl
+assign_is classes t u a b target p s h = rw (p, s, fitted_is classes t.ty b u h) refl
 
-update_is : (classes : List Class) (op : AssignOp) (c : Calculator) (t u : Term) (a b : ℕ) (stands : Place) (j k : Kind) → operator_of op ≡ Some c → assignable t.form t.tree ≡ Some stands → is_stored t.form t.ty ≡ true → t.ty ≡ ty.Integer k → Meet (binary_of c) (term t.ty Null) u (operands.Integers j) → assigned classes (placed a t) op (placed b u) ≡ Ok (placed a (term t.ty (Update stands k (record { operator = c; of = j }) (right_of (binary_of c) (operands.Integers j) (term t.ty Null) u))))
+update_is : (classes : List Class) (op : AssignOp) (c : Calculator) (t u : Term) (a b : ℕ) (target : Place) (j k : Kind)
+    → operator_of op ≡ Some c → assignable t.form t.tree ≡ Some target → is_stored t.form t.ty ≡ true
+    → t.ty ≡ ty.Integer k → Meet (binary_of c) (term t.ty Null) u (operands.Integers j)
+    → assigned classes (placed a t) op (placed b u)
+    ≡ Ok (placed a
+    (term t.ty (Update target k (record { operator = c; of = j })
+    (right_of (binary_of c) (operands.Integers j) (term t.ty Null) u))))
 unfolding assigned stored
-update_is classes op c t u a b stands j k e p s i m = rw (p, s, e, met_is (binary_of c) (term t.ty Null) u (operands.Integers j) a b m, i) refl
+update_is classes op c t u a b target j k e p s i m =
+    rw (p, s, e, met_is (binary_of c) (term t.ty Null) u (operands.Integers j) a b m, i) refl
 
 updates : (op : AssignOp) (operator : Calculator) → operator_of op ≡ Some operator → is_assign op ≡ false
 updates assigns.Assign operator h = absurd (none-some operator h)
 updates _ operator h = refl
 
-object_field : (env : Environment) (at : ℕ) (t : Typed) (of : Ty) (text : List ℕ) (o : ObjectType) (found : Member × Ty) → object_of of ≡ Some o → member_in env o text ≡ Some found → field_of env t of at text ≡ Ok (read_at t.at found.1 (Read (Held t.tree found.0)))
+object_field : (env : Environment) (at : ℕ) (t : Typed) (of : Ty) (text : List ℕ) (o : ObjectType) (found : Member × Ty)
+    → object_of of ≡ Some o → member_in env o text ≡ Some found
+    → field_of env t of at text ≡ Ok (read_at t.at found.1 (Read (Held t.tree found.0)))
 unfolding field_of
 object_field env at t (ty.Object p) text o found h m = rw (same_Some p o h, m) refl
 object_field env at t (ty.Handle p) text o found h m = rw (same_Some p o h, m) refl
 object_field env at t _ text o found h m = absurd (none-some o h)
 
-object_method : (env : Environment) (at : ℕ) (t : Typed) (of : Ty) (text : List ℕ) (o : ObjectType) (m : Invoked) → object_of of ≡ Some o → method_in env o text ≡ Some m → method_of env t of at text ≡ Ok (Some m)
+object_method : (env : Environment) (at : ℕ) (t : Typed) (of : Ty) (text : List ℕ) (o : ObjectType) (m : Invoked)
+    → object_of of ≡ Some o → method_in env o text ≡ Some m → method_of env t of at text ≡ Ok (Some m)
 unfolding method_of
 object_method env at t (ty.Object p) text o m h i = rw (same_Some p o h, i) refl
 object_method env at t (ty.Handle p) text o m h i = rw (same_Some p o h, i) refl
 object_method env at t _ text o m h i = absurd (none-some o h)
 
-method_is : (env : Environment) (at b : ℕ) (t : Term) (text : List ℕ) (es : written.Exprs) (o : ObjectType) (m : Invoked) (us : List Typed) (trees : Exprs) → object_of t.ty ≡ Some o → method_in env o text ≡ Some m → all_typed env es ≡ Ok us → AreArguments env.heads.classes m.parameters (terms us) trees → invocation_typed env (placed b t) at text (all_typed env es) ≡ Ok (placed b (term m.result (Invoke t.tree m.method (map var_type m.parameters) trees)))
+method_is : (env : Environment) (at b : ℕ) (t : Term) (text : List ℕ) (es : written.Exprs) (o : ObjectType)
+    (m : Invoked) (us : List Typed) (trees : Exprs) → object_of t.ty ≡ Some o → method_in env o text ≡ Some m
+    → all_typed env es ≡ Ok us → AreArguments env.heads.classes m.parameters (terms us) trees
+    → invocation_typed env (placed b t) at text (all_typed env es)
+    ≡ Ok (placed b (term m.result (Invoke t.tree m.method (map var_type m.parameters) trees)))
 unfolding invoked
-method_is env at b t text es o m us trees h i e a = rw (object_method env at (placed b t) t.ty text o m h i, e, arguments_is env.heads.classes at m.parameters us trees a) refl
+method_is env at b t text es o m us trees h i e a =
+    rw (
+      object_method env at (placed b t) t.ty text o m h i,
+      e,
+      arguments_is env.heads.classes at m.parameters us trees a,
+    ) refl
 
 -- arrays and handles
 
-array_is : (env : Environment) (at : ℕ) (of : written.Element) (es : written.Exprs) (elements : Element) (us : List Typed) (count : ℕ) (trees : Exprs) → element_named env.registered env.heads of ≡ Some elements → all_typed env es ≡ Ok us → length us ≡ count → AreArguments env.heads.classes (array_parameters count) (terms us) trees → array_typed env at of (all_typed env es) ≡ Ok (made at (ty.Handle (objects.Array elements)) (Call (targets.Array elements) (map var_type (array_parameters count)) trees))
+array_is : (env : Environment) (at : ℕ) (of : written.Element) (es : written.Exprs) (elements : Element)
+    (us : List Typed) (count : ℕ) (trees : Exprs) → element_named env.registered env.heads of ≡ Some elements
+    → all_typed env es ≡ Ok us → length us ≡ count
+    → AreArguments env.heads.classes (array_parameters count) (terms us) trees
+    → array_typed env at of (all_typed env es)
+    ≡ Ok (made at (ty.Handle (objects.Array elements))
+    (Call (targets.Array elements) (map var_type (array_parameters count)) trees))
 unfolding called
-array_is env at of es elements us count trees n e c a = rw (n, e, c, arguments_is env.heads.classes at (array_parameters count) us trees a) refl
+array_is env at of es elements us count trees n e c a =
+    rw (n, e, c, arguments_is env.heads.classes at (array_parameters count) us trees a) refl
 
 cast_type_is : {o : ObjectType} (at : ℕ) → IsCastType o → cast_type at (Some o) ≡ Ok o
 cast_type_is at to_class = refl
 cast_type_is at to_interface = refl
 
-cast_is : (at b : ℕ) (to : ObjectType) (of : Ty) (a : Form) (tree : Expr) (o : ObjectType) → object_of of ≡ Some o → cast_at at to (record { at = b; ty = of; form = a; tree = tree }) ≡ Ok (placed at (term (ty.Handle to) (Cast to tree)))
+cast_is : (at b : ℕ) (to : ObjectType) (of : Ty) (a : Form) (tree : Expr) (o : ObjectType) → object_of of ≡ Some o
+    → cast_at at to (record { at = b; ty = of; form = a; tree = tree })
+    ≡ Ok (placed at (term (ty.Handle to) (Cast to tree)))
 unfolding cast_at
 cast_is at b to (ty.Object p) a tree o h = refl
 cast_is at b to (ty.Handle p) a tree o h = refl
 cast_is at b to _ a tree o h = absurd (none-some o h)
 
-index_is : (at b : ℕ) (t u : Term) (of : Ty) (elements : Element) (k : Kind) → object_of of ≡ Some (objects.Array elements) → u.ty ≡ ty.Integer k → indexed (placed at t) of (placed b u) ≡ Ok (placed at (read_term (ty_of_element elements) (Read (Indexed t.tree (converted_to (ty.Integer kinds.Uint) u) elements))))
+index_is : (at b : ℕ) (t u : Term) (of : Ty) (elements : Element) (k : Kind)
+    → object_of of ≡ Some (objects.Array elements) → u.ty ≡ ty.Integer k
+    → indexed (placed at t) of (placed b u)
+    ≡ Ok (placed at
+    (read_term (ty_of_element elements) (Read (Indexed t.tree (converted_to (ty.Integer kinds.Uint) u) elements))))
 unfolding indexed
 index_is at b t u (ty.Object p) elements k h i = rw (same_Some p (objects.Array elements) h, i) refl
 index_is at b t u (ty.Handle p) elements k h i = rw (same_Some p (objects.Array elements) h, i) refl
 index_is at b t u _ elements k h i = absurd (none-some (objects.Array elements) h)
 
-pub placed_count : {env : Environment} {es : written.Exprs} {ts : List Term} → AllHaveType env es ts → length (all_placed es ts) ≡ length ts
+pub placed_count : {env : Environment} {es : written.Exprs} {ts : List Term} → AllHaveType env es ts
+    → length (all_placed es ts) ≡ length ts
 placed_count none_left = refl
 placed_count (each h rest) = ap suc (placed_count rest)
 
-pub all_terms : {env : Environment} {es : written.Exprs} {ts : List Term} → AllHaveType env es ts → terms (all_placed es ts) ≡ ts
+pub all_terms : {env : Environment} {es : written.Exprs} {ts : List Term} → AllHaveType env es ts
+    → terms (all_placed es ts) ≡ ts
 all_terms none_left = refl
 all_terms (each {t = t} h rest) = ap (t ∷◌) (all_terms rest)
 
 mutual
-  pub complete : {env : Environment} {left : Bool} {e : written.Expr} {t : Term} → HasType env left e t → typed env left e ≡ Ok (placed (first_at e) t)
+  pub complete : {env : Environment} {left : Bool} {e : written.Expr} {t : Term} → HasType env left e t
+      → typed env left e ≡ Ok (placed (first_at e) t)
   complete number = refl
   complete truth = refl
   complete null = refl
   complete (this h) = rw h refl
   complete (name h) = rw h refl
-  complete {env} (call {p = p} {text = text} {es = es} {callee = callee} {parameters = parameters} {ts = ts} {trees = trees} c q all args) = call_is env p.at text es callee parameters (all_placed es ts) trees c q (all_complete all) (rw (all_terms all) args)
+  complete {env}
+      (call {p = p} {text = text} {es = es} {callee = callee} {parameters = parameters} {ts = ts} {trees = trees} c q
+      all args) = call_is env p.at text es callee parameters (all_placed es ts) trees c q (all_complete all)
+      (rw (all_terms all) args)
   complete (brackets h) = rw (complete h) refl
-  complete {env} {left} (to_integer {p = p} {to = to} {e = e} {t = t} {j = j} {k = k} h i l) = rw (complete h) (integer_is env e p.at to t j k i l)
+  complete {env} {left} (to_integer {p = p} {to = to} {e = e} {t = t} {j = j} {k = k} h i l) =
+      rw (complete h) (integer_is env e p.at to t j k i l)
   complete (to_bool {p = p} {to = to} {e = e} {t = t} h i l) = rw (complete h) (bool_is p.at (first_at e) to t i l)
-  complete {env} (new_array {p = p} {of = of} {es = es} {elements = elements} {ts = ts} {trees = trees} n all args) = array_is env p.at of es elements (all_placed es ts) (length ts) trees n (all_complete all) (placed_count all) (rw (all_terms all) args)
-  complete (cast {p = p} {to = to} {e = e} {t = t} {o = o} {from = from} n c h i) = rw (n, cast_type_is to.place.at c, complete h) (cast_is p.at (first_at e) o t.ty t.form t.tree from i)
+  complete {env} (new_array {p = p} {of = of} {es = es} {elements = elements} {ts = ts} {trees = trees} n all args) =
+      array_is env p.at of es elements (all_placed es ts) (length ts) trees n (all_complete all) (placed_count all)
+      (rw (all_terms all) args)
+  complete (cast {p = p} {to = to} {e = e} {t = t} {o = o} {from = from} n c h i) =
+      rw (n, cast_type_is to.place.at c, complete h) (cast_is p.at (first_at e) o t.ty t.form t.tree from i)
   complete (postfix {e = e} h ss) = rw (complete h) (suffixes_complete ss (first_at e))
-  complete {left = left} (plus {p = p} {e = e} {t = t} {k = k} h i) = rw (complete h) (plus_is left p.at (first_at e) t k i)
-  complete {left = left} (minus {p = p} {e = e} {t = t} {k = k} h i) = rw (complete h) (minus_is left p.at (first_at e) t k i)
-  complete {left = left} (complement {p = p} {e = e} {t = t} {k = k} h i) = rw (complete h) (complement_is left p.at (first_at e) t k i)
+  complete {left = left} (plus {p = p} {e = e} {t = t} {k = k} h i) =
+      rw (complete h) (plus_is left p.at (first_at e) t k i)
+  complete {left = left} (minus {p = p} {e = e} {t = t} {k = k} h i) =
+      rw (complete h) (minus_is left p.at (first_at e) t k i)
+  complete {left = left} (complement {p = p} {e = e} {t = t} {k = k} h i) =
+      rw (complete h) (complement_is left p.at (first_at e) t k i)
   complete {left = left} (not {p = p} {e = e} {t = t} h i) = rw (complete h) (not_is left p.at (first_at e) t i)
-  complete {left = left} (increment {p = p} {e = e} {t = t} {at = at} {k = k} h i l) = rw (complete h) (increment_is left p.at (first_at e) t at k i l)
-  complete {left = left} (decrement {p = p} {e = e} {t = t} {at = at} {k = k} h i l) = rw (complete h) (decrement_is left p.at (first_at e) t at k i l)
-  complete (handle {p = p} {e = e} {t = t} {o = o} h i) = rw (complete h) (handle_is p.at (first_at e) t.ty t.form t.tree o i)
+  complete {left = left} (increment {p = p} {e = e} {t = t} {at = at} {k = k} h i l) =
+      rw (complete h) (increment_is left p.at (first_at e) t at k i l)
+  complete {left = left} (decrement {p = p} {e = e} {t = t} {at = at} {k = k} h i l) =
+      rw (complete h) (decrement_is left p.at (first_at e) t at k i l)
+  complete (handle {p = p} {e = e} {t = t} {o = o} h i) =
+      rw (complete h) (handle_is p.at (first_at e) t.ty t.form t.tree o i)
   complete (handle_written {p = p} {e = e} {t = t} h) = rw (complete h) (handle_written_is p.at (first_at e) t)
   complete (binary {e = e} h ls) = rw (complete h) (links_complete ls (first_at e))
-  complete (conditional {c = c} {a = a} {b = b} {t = t} {x = x} {y = y} {of = of} h i k l m) = rw (complete h, complete k, complete l) (choice_is t x y (first_at c) (first_at a) (first_at b) of i m)
-  complete {env} (assign {e = e} {v = v} {t = t} {u = u} {at = at} h i s k l) = rw (complete h, complete k) (assign_is env.heads.classes t u (first_at e) (first_at v) at i s l)
-  complete {env} (update {op = op} {c = c} {e = e} {v = v} {t = t} {u = u} {at = at} {j = j} {k = k} f h i s l m n) = rw (updates op c f, complete h, complete m) (update_is env.heads.classes op c t u (first_at e) (first_at v) at j k f i s l n)
+  complete (conditional {c = c} {a = a} {b = b} {t = t} {x = x} {y = y} {of = of} h i k l m) =
+      rw (complete h, complete k, complete l) (choice_is t x y (first_at c) (first_at a) (first_at b) of i m)
+  complete {env} (assign {e = e} {v = v} {t = t} {u = u} {at = at} h i s k l) =
+      rw (complete h, complete k) (assign_is env.heads.classes t u (first_at e) (first_at v) at i s l)
+  complete {env} (update {op = op} {c = c} {e = e} {v = v} {t = t} {u = u} {at = at} {j = j} {k = k} f h i s l m n) =
+      rw (updates op c f, complete h, complete m)
+      (update_is env.heads.classes op c t u (first_at e) (first_at v) at j k f i s l n)
 
-  pub all_complete : {env : Environment} {es : written.Exprs} {ts : List Term} → AllHaveType env es ts → all_typed env es ≡ Ok (all_placed es ts)
+  pub all_complete : {env : Environment} {es : written.Exprs} {ts : List Term} → AllHaveType env es ts
+      → all_typed env es ≡ Ok (all_placed es ts)
   all_complete none_left = refl
   all_complete (each h rest) = rw (complete h, all_complete rest) refl
 
-  pub links_complete : {env : Environment} {t : Term} {ls : written.Links} {u : Term} → LinksHaveType env t ls u → (at : ℕ) → links_typed env (placed at t) ls ≡ Ok (placed at u)
+  pub links_complete : {env : Environment} {t : Term} {ls : written.Links} {u : Term} → LinksHaveType env t ls u
+      → (at : ℕ) → links_typed env (placed at t) ls ≡ Ok (placed at u)
   links_complete no_more at = refl
-  links_complete (operated {op = op} {e = e} {t = t} {u = u} {o = o} h m rest) at = rw (complete h, operate_is op t u o at (first_at e) m) (links_complete rest at)
+  links_complete (operated {op = op} {e = e} {t = t} {u = u} {o = o} h m rest) at =
+      rw (complete h, operate_is op t u o at (first_at e) m) (links_complete rest at)
 
-  pub suffixes_complete : {env : Environment} {t : Term} {ss : written.Suffixes} {u : Term} → SuffixesHaveType env t ss u → (at : ℕ) → suffixes_typed env (placed at t) ss ≡ Ok (placed at u)
+  pub suffixes_complete : {env : Environment} {t : Term} {ss : written.Suffixes} {u : Term}
+      → SuffixesHaveType env t ss u → (at : ℕ) → suffixes_typed env (placed at t) ss ≡ Ok (placed at u)
   suffixes_complete no_suffixes at = refl
   suffixes_complete (suffixed h rest) at = rw (suffix_complete h at) (suffixes_complete rest at)
 
-  pub suffix_complete : {env : Environment} {t : Term} {s : written.Suffix} {u : Term} → SuffixHasType env t s u → (at : ℕ) → suffix_typed env (placed at t) s ≡ Ok (placed at u)
-  suffix_complete {env} (field {p = p} {text = text} {t = t} {o = o} {found = found} h i) at = object_field env p.at (placed at t) t.ty text o found h i
-  suffix_complete {env} (method {p = p} {text = text} {es = es} {t = t} {o = o} {m = m} {ts = ts} {trees = trees} h i all args) at = method_is env p.at at t text es o m (all_placed es ts) trees h i (all_complete all) (rw (all_terms all) args)
-  suffix_complete (index {e = e} {t = t} {u = u} {elements = elements} {k = k} h d i) at = rw (complete d) (index_is at (first_at e) t u t.ty elements k h i)
-  suffix_complete (increment_after {t = t} {at = place} {k = k} h i) at = counted_is at at steps.IncrementAfter t place k h i
-  suffix_complete (decrement_after {t = t} {at = place} {k = k} h i) at = counted_is at at steps.DecrementAfter t place k h i
+  pub suffix_complete : {env : Environment} {t : Term} {s : written.Suffix} {u : Term} → SuffixHasType env t s u
+      → (at : ℕ) → suffix_typed env (placed at t) s ≡ Ok (placed at u)
+  suffix_complete {env} (field {p = p} {text = text} {t = t} {o = o} {found = found} h i) at =
+      object_field env p.at (placed at t) t.ty text o found h i
+  suffix_complete {env}
+      (method {p = p} {text = text} {es = es} {t = t} {o = o} {m = m} {ts = ts} {trees = trees} h i all args) at =
+      method_is env p.at at t text es o m (all_placed es ts) trees h i (all_complete all) (rw (all_terms all) args)
+  suffix_complete (index {e = e} {t = t} {u = u} {elements = elements} {k = k} h d i) at =
+      rw (complete d) (index_is at (first_at e) t u t.ty elements k h i)
+  suffix_complete (increment_after {t = t} {at = place} {k = k} h i) at =
+      counted_is at at steps.IncrementAfter t place k h i
+  suffix_complete (decrement_after {t = t} {at = place} {k = k} h i) at =
+      counted_is at at steps.DecrementAfter t place k h i

@@ -2,13 +2,15 @@
 use Rattle.std.specs.List.{AllByRecursion}
 use Rattle.std.specs.Option.{option_and_then, option_map, option_or}
 use Rattle.std.proofs.lemmas.Option.{none-some, same_Some}
-use Rattle.std.proofs.Common.{◌≡◌, ◌+◌, ℕ, zero, suc, List, [], ◌∷◌, Bool, true, false, cond, Option, Some, None, IfSome, find, slice_get, refl, subst}
+use Rattle.std.proofs.Common.{◌≡◌, ◌+◌, ℕ, zero, suc, List, [], ◌∷◌, Bool, true, false, cond, Option, Some, None}
+use Rattle.std.proofs.Common.{IfSome, find, slice_get, refl, subst}
 use Rattle.ash_tree.specs.declared.tree.types.Primitive.{Primitive}
 use Rattle.ash_tree.specs.declared.tree.types.Primitive.TheVariants as primitives
 use Rattle.ash_tree.specs.Tree as written
 use Rattle.ash_registrations.specs.Calls as host
 use Rattle.ash_typed.specs.declared.types.ObjectType.{ObjectType}
-use Rattle.ash_typed.specs.declared.types.ObjectType.TheVariants.{Class as OfClass, Interface as OfInterface, Host as OfHost, Array as OfArray}
+use Rattle.ash_typed.specs.declared.types.ObjectType.TheVariants.{Class as OfClass, Interface as OfInterface}
+use Rattle.ash_typed.specs.declared.types.ObjectType.TheVariants.{Host as OfHost, Array as OfArray}
 use Rattle.ash_typed.specs.declared.types.Element.{Element}
 use Rattle.ash_typed.specs.declared.types.Element.TheVariants as elements
 use Rattle.ash_typed.specs.declared.tree.operations.ArrayMethod.{ArrayMethod}
@@ -22,7 +24,8 @@ use Rattle.ash_typing.specs.declared.forms.Form.TheVariants as form
 use Rattle.ash_typed.specs.declared.tree.operations.Member.{Member}
 use Rattle.ash_typed.specs.declared.tree.operations.Operands.{Operands}
 use Rattle.ash_typed.specs.declared.tree.operations.Operands.TheVariants as operands
-use Rattle.ash_typing.specs.Types.{is_variable, is_result, var_type, result_type, ty_of, ty_of_element, common, gives_object, meeting, holds, sort_of, outcome}
+use Rattle.ash_typing.specs.Types.{is_variable, is_result, var_type, result_type, ty_of, ty_of_element, common}
+use Rattle.ash_typing.specs.Types.{gives_object, meeting, holds, sort_of, outcome}
 use Rattle.ash_typed.specs.declared.tree.operations.Variable.TheVariants as variables
 use Rattle.ash_typed.specs.declared.tree.operations.Member.TheVariants.{Field}
 use Rattle.ash_typed.specs.declared.tree.operations.Method.TheVariants as methods
@@ -31,16 +34,29 @@ use Rattle.ash_typing.specs.declared.forms.Callable.TheVariants as callables
 use Rattle.ash_typed.specs.declared.types.Kind.{Kind}
 use Rattle.std.specs.Str.{bytes_eq}
 use Rattle.ash_typed.specs.Tree.{Number, Read, Stored, Held, This}
-use Rattle.ash_typing.specs.Environment.{Environment, Declared, Function, Interface, Class, Known, Callee, Invoked, first_from, last_named, declares, is_called, is_class, this_class, variable_in, callee_in, member_in, method_in, method_of_class, method_of_interface, method_of_array, method_of_kind, array_method_of, is_array_method, host_member_in, result_of, service_function, host_type, host_method, property, named_in, own_method_in, class_in, function_in, field_in, local_in, own_field_in, global_in, callee_beside, class_method, interface_method}
-use Rattle.ash_typing.specs.Typing.{IsKnown, IsKnownType, IsVariableType, IsResultType, IsKnownVariable, IsKnownFunction, IsKnownInterface, IsKnownClass, is_known, HasType, LinksHaveType, SuffixesHaveType, SuffixHasType, number, truth, null, this, name, call, brackets, to_integer, to_bool, new_array, cast, postfix, plus, minus, complement, not, increment, decrement, handle, handle_written, binary, conditional, assign, update, no_more, operated, no_suffixes, suffixed, field, method, index, increment_after, decrement_after}
-use Rattle.ash_typing.specs.Terms.{Term, taking, beside}
+use Rattle.ash_typing.specs.Environment.{Environment, Declared, Function, Class, Known, Callee, Invoked, first_from}
+use Rattle.ash_typing.specs.Environment.{last_named, declares, is_called, is_class, this_class, variable_in, callee_in}
+use Rattle.ash_typing.specs.Environment.{member_in, method_in, method_of_class, method_of_interface, method_of_array}
+use Rattle.ash_typing.specs.Environment.{method_of_kind, array_method_of, is_array_method, host_member_in, result_of}
+use Rattle.ash_typing.specs.Environment.{service_function, host_type, host_method, property, named_in, own_method_in}
+use Rattle.ash_typing.specs.Environment.{class_in, function_in, field_in, local_in, own_field_in, global_in}
+use Rattle.ash_typing.specs.Environment.{callee_beside, class_method, interface_method}
+use Rattle.ash_typing.specs.Typing.{IsKnown, IsKnownType, IsVariableType, IsResultType, IsKnownVariable}
+use Rattle.ash_typing.specs.Typing.{IsKnownFunction, IsKnownInterface, IsKnownClass, is_known, HasType, LinksHaveType}
+use Rattle.ash_typing.specs.Typing.{SuffixesHaveType, SuffixHasType, number, truth, null, this, name, call, brackets}
+use Rattle.ash_typing.specs.Typing.{to_integer, to_bool, new_array, cast, postfix, plus, minus, complement, not}
+use Rattle.ash_typing.specs.Typing.{increment, decrement, handle, handle_written, binary, conditional, assign, update}
+use Rattle.ash_typing.specs.Typing.{no_more, operated, no_suffixes, suffixed, field, method, index, increment_after}
+use Rattle.ash_typing.specs.Typing.{decrement_after}
+use Rattle.ash_typing.specs.Terms.{Term, taking, adapted_to}
 
 -- what is looked up
 
 pub at_some : {A : Type 0} (P : A → Type 0) (o : Option A) (x : A) → IfSome o P → o ≡ Some x → P x
 at_some P o x h e = let k = subst (λ (v : Option _). IfSome v P) e h in k
 
-pub if_map : {A B : Type 0} (Q : B → Type 0) (f : A → B) (o : Option A) → IfSome o (λ x. Q (f x)) → IfSome (option_map f o) Q
+pub if_map : {A B : Type 0} (Q : B → Type 0) (f : A → B) (o : Option A) → IfSome o (λ x. Q (f x))
+    → IfSome (option_map f o) Q
 if_map Q f None h = h
 if_map Q f (Some x) h = h
 
@@ -48,11 +64,13 @@ pub if_or : {A : Type 0} (Q : A → Type 0) (a b : Option A) → IfSome a Q → 
 if_or Q None b h k = k
 if_or Q (Some x) b h k = h
 
-pub if_then : {A B : Type 0} (P : A → Type 0) (Q : B → Type 0) (f : A → Option B) (o : Option A) → ((x : A) → P x → IfSome (f x) Q) → IfSome o P → IfSome (option_and_then f o) Q
+pub if_then : {A B : Type 0} (P : A → Type 0) (Q : B → Type 0) (f : A → Option B) (o : Option A)
+    → ((x : A) → P x → IfSome (f x) Q) → IfSome o P → IfSome (option_and_then f o) Q
 if_then P Q f None g h = h
 if_then P Q f (Some x) g h = g x h
 
-pub if_any : {A B : Type 0} (Q : B → Type 0) (f : A → Option B) (o : Option A) → ((x : A) → IfSome (f x) Q) → IfSome (option_and_then f o) Q
+pub if_any : {A B : Type 0} (Q : B → Type 0) (f : A → Option B) (o : Option A) → ((x : A) → IfSome (f x) Q)
+    → IfSome (option_and_then f o) Q
 if_any Q f None g = tt
 if_any Q f (Some x) g = g x
 
@@ -64,11 +82,13 @@ pub if_all : {A : Type 0} {Q : A → Type 0} (o : Option A) → ((x : A) → Q x
 if_all None f = tt
 if_all (Some x) f = f x
 
-pub if_first : {A : Type 0} (P : A → Type 0) (test : A → Bool) (i : ℕ) (xs : List A) → AllByRecursion P xs → IfSome (first_from test i xs) (λ found. P found.1)
+pub if_first : {A : Type 0} (P : A → Type 0) (test : A → Bool) (i : ℕ) (xs : List A) → AllByRecursion P xs
+    → IfSome (first_from test i xs) (λ found. P found.1)
 if_first P test i [] h = h
 if_first {A} P test i (x ∷ xs) h = go (test x) (if_first P test (i + 1) xs h.1)
   where
-    go : (b : Bool) → IfSome (first_from test (i + 1) xs) (λ (found : ℕ × A). P found.1) → IfSome (cond b (Some (i, x)) (first_from test (i + 1) xs)) (λ (found : ℕ × A). P found.1)
+    go : (b : Bool) → IfSome (first_from test (i + 1) xs) (λ (found : ℕ × A). P found.1)
+        → IfSome (cond b (Some (i, x)) (first_from test (i + 1) xs)) (λ (found : ℕ × A). P found.1)
     go true rest = h.0
     go false rest = rest
 
@@ -77,9 +97,11 @@ if_get P [] i h = h
 if_get P (x ∷ xs) zero h = h.0
 if_get P (x ∷ xs) (suc i) h = if_get P xs i h.1
 
-if_last : (text : List ℕ) (i : ℕ) (found : Option (ℕ × Ty)) (vs : List Declared) → AllByRecursion IsKnownVariable vs → IfSome found (λ f. IsVariableType f.1) → IfSome (last_named text i found vs) (λ f. IsVariableType f.1)
+if_last : (text : List ℕ) (i : ℕ) (found : Option (ℕ × Ty)) (vs : List Declared) → AllByRecursion IsKnownVariable vs
+    → IfSome found (λ f. IsVariableType f.1) → IfSome (last_named text i found vs) (λ f. IsVariableType f.1)
 if_last text i found [] h k = k
-if_last text i found (v ∷ vs) h k = if_last text (i + 1) (cond (bytes_eq text v.name) (Some (i, v.of)) found) vs h.1 (go (bytes_eq text v.name))
+if_last text i found (v ∷ vs) h k =
+    if_last text (i + 1) (cond (bytes_eq text v.name) (Some (i, v.of)) found) vs h.1 (go (bytes_eq text v.name))
   where
     go : (b : Bool) → IfSome (cond b (Some (i, v.of)) found) (λ (f : ℕ × Ty). IsVariableType f.1)
     go true = h.0
@@ -126,25 +148,26 @@ outcome_known sort.Arithmetic (operands.Integers k) = refl
 outcome_known sort.Shift (operands.Integers k) = refl
 outcome_known _ _ = refl
 
-told : (t of : Ty) → is_known t ≡ true → Some t ≡ Some of → is_known of ≡ true
-told t of h e = subst (λ (x : Ty). is_known x ≡ true) (same_Some t of e) h
+known_if_some : (t of : Ty) → is_known t ≡ true → Some t ≡ Some of → is_known of ≡ true
+known_if_some t of h e = subst (λ (x : Ty). is_known x ≡ true) (same_Some t of e) h
 
-object_told : (b : Bool) (o : ObjectType) (of : Ty) → cond b (Some (ty.Handle o)) None ≡ Some of → is_known of ≡ true
-object_told true o of e = told (ty.Handle o) of refl e
-object_told false o of e = absurd (none-some of e)
+object_known : (b : Bool) (o : ObjectType) (of : Ty) → cond b (Some (ty.Handle o)) None ≡ Some of → is_known of ≡ true
+object_known true o of e = known_if_some (ty.Handle o) of refl e
+object_known false o of e = absurd (none-some of e)
 
 common_known : (a b of : Ty) → is_known a ≡ true → is_known b ≡ true → common a b ≡ Some of → is_known of ≡ true
 common_known ty.Unknown b of h k c = cc
-common_known (ty.Object o) b of h k c = object_told (gives_object o b) o of c
-common_known (ty.Handle o) b of h k c = object_told (gives_object o b) o of c
+common_known (ty.Object o) b of h k c = object_known (gives_object o b) o of c
+common_known (ty.Handle o) b of h k c = object_known (gives_object o b) o of c
 common_known a ty.Unknown of h k c = cc
-common_known ty.Bool ty.Bool of h k c = told ty.Bool of refl c
-common_known (ty.Integer j) (ty.Integer i) of h k c = told (ty.Integer (meeting j i)) of refl c
-common_known ty.Null (ty.Object o) of h k c = told (ty.Handle o) of refl c
-common_known ty.Null (ty.Handle o) of h k c = told (ty.Handle o) of refl c
+common_known ty.Bool ty.Bool of h k c = known_if_some ty.Bool of refl c
+common_known (ty.Integer j) (ty.Integer i) of h k c = known_if_some (ty.Integer (meeting j i)) of refl c
+common_known ty.Null (ty.Object o) of h k c = known_if_some (ty.Handle o) of refl c
+common_known ty.Null (ty.Handle o) of h k c = known_if_some (ty.Handle o) of refl c
 common_known a b of h k c = absurd (none-some of c)
 
-taken_known : (b : Bool) (k : Kind) (n : ℕ) (t : Term) → is_known t.ty ≡ true → is_known (cond b (record { ty = ty.Integer k; form = form.Number n; tree = Number k n }) t).ty ≡ true
+taken_known : (b : Bool) (k : Kind) (n : ℕ) (t : Term) → is_known t.ty ≡ true
+    → is_known (cond b (record { ty = ty.Integer k; form = form.Number n; tree = Number k n }) t).ty ≡ true
 taken_known true k n t h = refl
 taken_known false k n t h = h
 
@@ -153,35 +176,61 @@ taking_known (form.Number m) of (form.Number n) t h = h
 taking_known a (ty.Integer k) (form.Number n) t h = taken_known (holds k n) k n t h
 taking_known a of b t h = h
 
-pub beside_known : (s : Sort) (other t : Term) → is_known t.ty ≡ true → is_known (beside s other t).ty ≡ true
-beside_known sort.Shift other t h = h
-beside_known _ other t h = taking_known other.form other.ty t.form t h
+pub adapted_known : (s : Sort) (other t : Term) → is_known t.ty ≡ true → is_known (adapted_to s other t).ty ≡ true
+adapted_known sort.Shift other t h = h
+adapted_known _ other t h = taking_known other.form other.ty t.form t h
 
 -- members
 
 class_known : (env : Environment) → IsKnown env → IfSome (this_class env) (λ c. IsKnownClass c.1)
-class_known env known = if_any (λ (c : ℕ × Class). IsKnownClass c.1) (λ (i : ℕ). option_map (λ (c : Class). (i, c)) (slice_get env.heads.classes i)) env.this (λ i. if_map (λ (c : ℕ × Class). IsKnownClass c.1) (λ (c : Class). (i, c)) (slice_get env.heads.classes i) (if_get IsKnownClass env.heads.classes i known.classes))
+class_known env known =
+    if_any (λ (c : ℕ × Class). IsKnownClass c.1)
+    (λ (i : ℕ). option_map (λ (c : Class). (i, c)) (slice_get env.heads.classes i)) env.this (λ i.
+    if_map (λ (c : ℕ × Class). IsKnownClass c.1)
+    (λ (c : Class). (i, c)) (slice_get env.heads.classes i) (if_get IsKnownClass env.heads.classes i known.classes))
 
-field_known : (class : ℕ) (c : Class) (text : List ℕ) → IsKnownClass c → IfSome (field_in class c text) (λ found. IsVariableType found.1)
-field_known class c text known = if_map (λ (found : Member × Ty). IsVariableType found.1) (λ (found : ℕ × Declared). (Field class found.0 (var_type found.1.of), found.1.of)) (first_from (declares text) 0 c.fields) (if_first IsKnownVariable (declares text) 0 c.fields known.fields)
+field_known : (class : ℕ) (c : Class) (text : List ℕ) → IsKnownClass c
+    → IfSome (field_in class c text) (λ found. IsVariableType found.1)
+field_known class c text known =
+    if_map (λ (found : Member × Ty). IsVariableType found.1)
+    (λ (found : ℕ × Declared). (Field class found.0 (var_type found.1.of), found.1.of))
+    (first_from (declares text) 0 c.fields) (if_first IsKnownVariable (declares text) 0 c.fields known.fields)
 
-pub variable_known : (env : Environment) (text : List ℕ) → IsKnown env → IfSome (variable_in env text) (λ found. IsVariableType found.1)
+pub variable_known : (env : Environment) (text : List ℕ) → IsKnown env
+    → IfSome (variable_in env text) (λ found. IsVariableType found.1)
 unfolding variable_in
 variable_known env text known =
     let Q : Known → Type 0 = λ found. IsVariableType found.1 in
-    let local = if_map Q (λ (found : ℕ × Ty). (Read (Stored (variables.Local found.0 (var_type found.1))), found.1)) (last_named text 0 None env.locals) (if_last text 0 None env.locals known.locals tt) in
-    let own = if_then (λ (c : ℕ × Class). IsKnownClass c.1) Q (λ (c : ℕ × Class). option_map (λ (found : Member × Ty). (Read (Held (This c.0) found.0), found.1)) (field_in c.0 c.1 text)) (this_class env) (λ c h. if_map Q (λ (found : Member × Ty). (Read (Held (This c.0) found.0), found.1)) (field_in c.0 c.1 text) (field_known c.0 c.1 text h)) (class_known env known) in
-    let global = if_map Q (λ (found : ℕ × Declared). (Read (Stored (variables.Global found.0 (var_type found.1.of))), found.1.of)) (first_from (declares text) 0 env.heads.globals) (if_first IsKnownVariable (declares text) 0 env.heads.globals known.globals) in
-    if_or Q (local_in env.locals text) (option_or (own_field_in env text) (global_in env.heads.globals text)) local (if_or Q (own_field_in env text) (global_in env.heads.globals text) own global)
+    let local = if_map Q
+    (λ (found : ℕ × Ty). (Read (Stored (variables.Local found.0 (var_type found.1))), found.1))
+    (last_named text 0 None env.locals) (if_last text 0 None env.locals known.locals tt) in
+    let own = if_then (λ (c : ℕ × Class). IsKnownClass c.1) Q
+    (λ (c : ℕ × Class).
+    option_map (λ (found : Member × Ty). (Read (Held (This c.0) found.0), found.1)) (field_in c.0 c.1 text))
+    (this_class env)
+    (λ c h. if_map Q
+    (λ (found : Member × Ty). (Read (Held (This c.0) found.0), found.1)) (field_in c.0 c.1 text)
+    (field_known c.0 c.1 text h)) (class_known env known) in
+    let global =
+    if_map Q (λ (found : ℕ × Declared).
+    (Read (Stored (variables.Global found.0 (var_type found.1.of))), found.1.of))
+    (first_from (declares text) 0 env.heads.globals)
+    (if_first IsKnownVariable (declares text) 0 env.heads.globals known.globals) in
+    if_or Q (local_in env.locals text) (option_or (own_field_in env text) (global_in env.heads.globals text)) local
+    (if_or Q (own_field_in env text) (global_in env.heads.globals text) own global)
 
-function_known : (text : List ℕ) (fs : List Function) → AllByRecursion IsKnownFunction fs → IfSome (first_from (is_called text) 0 fs) (λ found. IsResultType found.1.result)
-function_known text fs known = if_weaker (first_from (is_called text) 0 fs) (λ found h. h.result) (if_first IsKnownFunction (is_called text) 0 fs known)
+function_known : (text : List ℕ) (fs : List Function) → AllByRecursion IsKnownFunction fs
+    → IfSome (first_from (is_called text) 0 fs) (λ found. IsResultType found.1.result)
+function_known text fs known =
+    if_weaker (first_from (is_called text) 0 fs)
+    (λ found h. h.result) (if_first IsKnownFunction (is_called text) 0 fs known)
 
 service_known : (call : host.Call) → IfSome (service_function call) (λ callee. IsResultType callee.result)
 service_known (host.AFunction service id operation) = result_known operation.result
 service_known _ = tt
 
-host_known : (calls : List host.Call) (call : host.Call) → IfSome (host_type calls call) (λ callee. IsResultType callee.result)
+host_known : (calls : List host.Call) (call : host.Call)
+    → IfSome (host_type calls call) (λ callee. IsResultType callee.result)
 host_known calls (host.AType text kind) = refl
 host_known calls _ = tt
 
@@ -193,16 +242,52 @@ host_method_known : (call : host.Call) → IfSome (host_method call) (λ m. IsRe
 host_method_known (host.AMethod of id operation) = result_known operation.result
 host_method_known _ = tt
 
-pub callee_known : (env : Environment) (text : List ℕ) → IsKnown env → IfSome (callee_in env text) (λ callee. IsResultType callee.result)
+pub callee_known : (env : Environment) (text : List ℕ) → IsKnown env
+    → IfSome (callee_in env text) (λ callee. IsResultType callee.result)
 unfolding callee_in
 callee_known env text known =
     let Q : Callee → Type 0 = λ callee. IsResultType callee.result in
-    let own = if_then (λ (c : ℕ × Class). IsKnownClass c.1) Q (λ (c : ℕ × Class). option_map (λ (found : ℕ × Function). record { target = callables.OwnMethod c.0 found.0 (result_type found.1.result); result = found.1.result; parameters = Some found.1.parameters }) (first_from (is_called text) 0 c.1.methods)) (this_class env) (λ c h. if_map Q (λ (found : ℕ × Function). record { target = callables.OwnMethod c.0 found.0 (result_type found.1.result); result = found.1.result; parameters = Some found.1.parameters }) (first_from (is_called text) 0 c.1.methods) (function_known text c.1.methods h.methods)) (class_known env known) in
-    let function = if_map Q (λ (found : ℕ × Function). record { target = callables.Target (targets.Function found.0 (result_type found.1.result)); result = found.1.result; parameters = Some found.1.parameters }) (first_from (is_called text) 0 env.heads.functions) (function_known text env.heads.functions known.functions) in
+    let own = if_then (λ (c : ℕ × Class). IsKnownClass c.1) Q
+    (λ (c : ℕ × Class).
+    option_map (λ (found : ℕ × Function).
+    record {
+      target = callables.OwnMethod c.0 found.0 (result_type found.1.result);
+      result = found.1.result;
+      parameters = Some found.1.parameters;
+    }) (first_from (is_called text) 0 c.1.methods)) (this_class env)
+    (λ c h. if_map Q
+    (λ (found : ℕ × Function).
+    record {
+      target = callables.OwnMethod c.0 found.0 (result_type found.1.result);
+      result = found.1.result;
+      parameters = Some found.1.parameters;
+    }) (first_from (is_called text) 0 c.1.methods) (function_known text c.1.methods h.methods))
+    (class_known env known) in
+    let function =
+    if_map Q (λ (found : ℕ × Function).
+    record {
+      target = callables.Target (targets.Function found.0 (result_type found.1.result));
+      result = found.1.result;
+      parameters = Some found.1.parameters;
+    }) (first_from (is_called text) 0 env.heads.functions)
+    (function_known text env.heads.functions known.functions) in
     let service = if_any Q service_function (named_in env.registered text) service_known in
-    let class = if_map Q (λ (found : ℕ × Class). record { target = callables.Target (targets.Class found.0); result = ty.Handle (OfClass found.0); parameters = Some found.1.parameters }) (first_from (is_class text) 0 env.heads.classes) (if_all (first_from (is_class text) 0 env.heads.classes) (λ found. refl)) in
+    let class = if_map Q
+    (λ (found : ℕ × Class).
+    record {
+      target = callables.Target (targets.Class found.0);
+      result = ty.Handle (OfClass found.0);
+      parameters = Some found.1.parameters;
+    }) (first_from (is_class text) 0 env.heads.classes)
+    (if_all (first_from (is_class text) 0 env.heads.classes) (λ found. refl)) in
     let kind = if_any Q (host_type env.registered) (named_in env.registered text) (host_known env.registered) in
-    if_or Q (own_method_in env text) (option_or (function_in env.heads.functions text) (callee_beside env text)) own (if_or Q (function_in env.heads.functions text) (callee_beside env text) function (if_or Q (option_and_then service_function (named_in env.registered text)) (option_or (class_in env.heads.classes text) (option_and_then (host_type env.registered) (named_in env.registered text))) service (if_or Q (class_in env.heads.classes text) (option_and_then (host_type env.registered) (named_in env.registered text)) class kind)))
+    if_or Q (own_method_in env text) (option_or (function_in env.heads.functions text) (callee_beside env text)) own
+    (if_or Q (function_in env.heads.functions text) (callee_beside env text) function
+    (if_or Q (option_and_then service_function (named_in env.registered text))
+    (option_or (class_in env.heads.classes text)
+    (option_and_then (host_type env.registered) (named_in env.registered text))) service
+    (if_or Q (class_in env.heads.classes text)
+    (option_and_then (host_type env.registered) (named_in env.registered text)) class kind)))
 
 array_result_known : (of : Element) (m : ArrayMethod) → IsResultType (array_method_of of m).result
 array_result_known of arrays.Length = refl
@@ -211,28 +296,63 @@ array_result_known of arrays.InsertLast = refl
 array_result_known of arrays.RemoveLast = refl
 array_result_known of arrays.IsEmpty = refl
 
-pub member_known : (env : Environment) (o : ObjectType) (text : List ℕ) → IsKnown env → IfSome (member_in env o text) (λ found. IsVariableType found.1)
+pub member_known : (env : Environment) (o : ObjectType) (text : List ℕ) → IsKnown env
+    → IfSome (member_in env o text) (λ found. IsVariableType found.1)
 unfolding member_in
-member_known env (OfClass i) text known = if_then IsKnownClass (λ (found : Member × Ty). IsVariableType found.1) (λ (c : Class). field_in i c text) (slice_get env.heads.classes i) (λ c h. field_known i c text h) (if_get IsKnownClass env.heads.classes i known.classes)
+member_known env (OfClass i) text known =
+    if_then IsKnownClass (λ (found : Member × Ty). IsVariableType found.1)
+    (λ (c : Class). field_in i c text) (slice_get env.heads.classes i)
+    (λ c h. field_known i c text h) (if_get IsKnownClass env.heads.classes i known.classes)
 member_known env (OfInterface i) text known = tt
 member_known env (OfArray of) text known = tt
-member_known env (OfHost i) text known = if_any (λ (found : Member × Ty). IsVariableType found.1) property (host_member_in env.registered i text) property_known
+member_known env (OfHost i) text known =
+    if_any (λ (found : Member × Ty). IsVariableType found.1) property (host_member_in env.registered i text)
+    property_known
 
-pub method_known : (env : Environment) (o : ObjectType) (text : List ℕ) → IsKnown env → IfSome (method_in env o text) (λ m. IsResultType m.result)
+pub method_known : (env : Environment) (o : ObjectType) (text : List ℕ) → IsKnown env
+    → IfSome (method_in env o text) (λ m. IsResultType m.result)
 unfolding method_in method_of_class method_of_interface method_of_array method_of_kind
-method_known env (OfClass i) text known = if_then IsKnownClass (λ (m : Invoked). IsResultType m.result) (class_method i text) (slice_get env.heads.classes i) (λ c h. if_map (λ (m : Invoked). IsResultType m.result) (λ (found : ℕ × Function). record { method = methods.Script i found.0 (result_type found.1.result); result = found.1.result; parameters = found.1.parameters }) (first_from (is_called text) 0 c.methods) (function_known text c.methods h.methods)) (if_get IsKnownClass env.heads.classes i known.classes)
-method_known env (OfInterface i) text known = if_then IsKnownInterface (λ (m : Invoked). IsResultType m.result) (interface_method i text) (slice_get env.heads.interfaces i) (λ of h. if_map (λ (m : Invoked). IsResultType m.result) (λ (found : ℕ × Function). record { method = methods.Interface i found.0 (result_type found.1.result); result = found.1.result; parameters = found.1.parameters }) (first_from (is_called text) 0 of.methods) (function_known text of.methods h.methods)) (if_get IsKnownInterface env.heads.interfaces i known.interfaces)
-method_known env (OfArray of) text known = let found = find (is_array_method text) (arrays.Length ∷ arrays.Resize ∷ arrays.InsertLast ∷ arrays.RemoveLast ∷ arrays.IsEmpty ∷ []) in if_map (λ (m : Invoked). IsResultType m.result) (array_method_of of) found (if_all found (array_result_known of))
-method_known env (OfHost i) text known = if_any (λ (m : Invoked). IsResultType m.result) host_method (host_member_in env.registered i text) host_method_known
+method_known env (OfClass i) text known =
+    if_then IsKnownClass (λ (m : Invoked). IsResultType m.result) (class_method i text) (slice_get env.heads.classes i)
+    (λ c h. if_map (λ (m : Invoked). IsResultType m.result)
+    (λ (found : ℕ × Function).
+    record {
+      method = methods.Script i found.0 (result_type found.1.result);
+      result = found.1.result;
+      parameters = found.1.parameters;
+    }) (first_from (is_called text) 0 c.methods) (function_known text c.methods h.methods))
+    (if_get IsKnownClass env.heads.classes i known.classes)
+method_known env (OfInterface i) text known =
+    if_then IsKnownInterface
+    (λ (m : Invoked). IsResultType m.result) (interface_method i text) (slice_get env.heads.interfaces i)
+    (λ of h. if_map (λ (m : Invoked). IsResultType m.result)
+    (λ (found : ℕ × Function).
+    record {
+      method = methods.Interface i found.0 (result_type found.1.result);
+      result = found.1.result;
+      parameters = found.1.parameters;
+    }) (first_from (is_called text) 0 of.methods) (function_known text of.methods h.methods))
+    (if_get IsKnownInterface env.heads.interfaces i known.interfaces)
+method_known env (OfArray of) text known = let found =
+    find (is_array_method text)
+    (arrays.Length ∷ arrays.Resize ∷ arrays.InsertLast ∷ arrays.RemoveLast ∷ arrays.IsEmpty ∷ []) in
+    if_map (λ (m : Invoked). IsResultType m.result) (array_method_of of) found (if_all found (array_result_known of))
+method_known env (OfHost i) text known =
+    if_any (λ (m : Invoked). IsResultType m.result) host_method (host_member_in env.registered i text) host_method_known
 
 mutual
-  pub known_type : {env : Environment} {left : Bool} {e : written.Expr} {t : Term} → HasType env left e t → IsKnown env → IsKnownType t.ty
+  pub known_type : {env : Environment} {left : Bool} {e : written.Expr} {t : Term} → HasType env left e t → IsKnown env
+      → IsKnownType t.ty
   known_type number known = refl
   known_type truth known = refl
   known_type null known = refl
   known_type (this h) known = refl
-  known_type {env} (name {text = text} {known = found} h) known = variable_is_known found.1 (at_some (λ found. IsVariableType found.1) (variable_in env text) found (variable_known env text known) h)
-  known_type {env} (call {text = text} {callee = callee} c q all args) known = result_is_known callee.result (at_some (λ callee. IsResultType callee.result) (callee_in env text) callee (callee_known env text known) c)
+  known_type {env} (name {text = text} {known = found} h) known =
+      variable_is_known found.1
+      (at_some (λ found. IsVariableType found.1) (variable_in env text) found (variable_known env text known) h)
+  known_type {env} (call {text = text} {callee = callee} c q all args) known =
+      result_is_known callee.result
+      (at_some (λ callee. IsResultType callee.result) (callee_in env text) callee (callee_known env text known) c)
   known_type (brackets h) known = known_type h known
   known_type (to_integer h i l) known = refl
   known_type (to_bool h i l) known = refl
@@ -248,21 +368,29 @@ mutual
   known_type (handle h i) known = refl
   known_type (handle_written h) known = known_type h known
   known_type (binary h ls) known = links_known ls known (known_type h known)
-  known_type (conditional {x = x} {y = y} {of = of} h i k l m) known = common_known x.ty y.ty of (known_type k known) (known_type l known) m
+  known_type (conditional {x = x} {y = y} {of = of} h i k l m) known =
+      common_known x.ty y.ty of (known_type k known) (known_type l known) m
   known_type (assign h i s k l) known = known_type h known
   known_type (update f h i s l m n) known = known_type h known
 
-  pub links_known : {env : Environment} {t : Term} {ls : written.Links} {u : Term} → LinksHaveType env t ls u → IsKnown env → IsKnownType t.ty → IsKnownType u.ty
+  pub links_known : {env : Environment} {t : Term} {ls : written.Links} {u : Term} → LinksHaveType env t ls u
+      → IsKnown env → IsKnownType t.ty → IsKnownType u.ty
   links_known no_more known h = h
   links_known (operated {op = op} {o = o} e m rest) known h = links_known rest known (outcome_known (sort_of op) o)
 
-  pub suffixes_known : {env : Environment} {t : Term} {ss : written.Suffixes} {u : Term} → SuffixesHaveType env t ss u → IsKnown env → IsKnownType t.ty → IsKnownType u.ty
+  pub suffixes_known : {env : Environment} {t : Term} {ss : written.Suffixes} {u : Term} → SuffixesHaveType env t ss u
+      → IsKnown env → IsKnownType t.ty → IsKnownType u.ty
   suffixes_known no_suffixes known h = h
   suffixes_known (suffixed s rest) known h = suffixes_known rest known (suffix_known s known)
 
-  pub suffix_known : {env : Environment} {t : Term} {s : written.Suffix} {u : Term} → SuffixHasType env t s u → IsKnown env → IsKnownType u.ty
-  suffix_known {env} (field {text = text} {o = o} {found = found} h i) known = variable_is_known found.1 (at_some (λ found. IsVariableType found.1) (member_in env o text) found (member_known env o text known) i)
-  suffix_known {env} (method {text = text} {o = o} {m = m} h i all args) known = result_is_known m.result (at_some (λ m. IsResultType m.result) (method_in env o text) m (method_known env o text known) i)
+  pub suffix_known : {env : Environment} {t : Term} {s : written.Suffix} {u : Term} → SuffixHasType env t s u
+      → IsKnown env → IsKnownType u.ty
+  suffix_known {env} (field {text = text} {o = o} {found = found} h i) known =
+      variable_is_known found.1
+      (at_some (λ found. IsVariableType found.1) (member_in env o text) found (member_known env o text known) i)
+  suffix_known {env} (method {text = text} {o = o} {m = m} h i all args) known =
+      result_is_known m.result
+      (at_some (λ m. IsResultType m.result) (method_in env o text) m (method_known env o text known) i)
   suffix_known (index {elements = of} h d i) known = variable_is_known (ty_of_element of) (element_known of)
   suffix_known (increment_after h i) known = refl
   suffix_known (decrement_after h i) known = refl

@@ -1,6 +1,6 @@
--- The words of the typing rules, beside those of the walk.
+-- The words of the typing rules, and those of the walk.
 use Rattle.std.proofs.lemmas.Option.{none-some, same_Some}
-use Rattle.std.proofs.Common.{◌≡◌, ℕ, IsOk, Bool, true, false, cond, Some, Ok, Err, refl, sym, subst}
+use Rattle.std.proofs.Common.{◌≡◌, ℕ, IsOk, true, Some, Ok, Err, refl, sym, subst}
 use Rattle.ash_tree.specs.declared.tree.operators.BinaryOp.{BinaryOp}
 use Rattle.ash_typing.specs.declared.fault.Fault.{Fault}
 use Rattle.ash_typed.specs.declared.types.Kind.{Kind}
@@ -9,18 +9,15 @@ use Rattle.ash_typing.specs.declared.types.Ty.{Ty}
 use Rattle.ash_typing.specs.declared.types.Ty.TheVariants as ty
 use Rattle.ash_typing.specs.declared.forms.Sort.{Sort}
 use Rattle.ash_typing.specs.declared.forms.Sort.TheVariants as sort
-use Rattle.ash_typing.specs.declared.forms.Form.{Form}
-use Rattle.ash_typing.specs.declared.forms.Form.TheVariants as form
 use Rattle.ash_typed.specs.declared.tree.operations.Calculator.{Calculator}
 use Rattle.ash_typed.specs.declared.tree.operations.Calculator.TheVariants as calculators
 use Rattle.ash_typed.specs.declared.tree.operations.Operands.{Operands}
 use Rattle.ash_typed.specs.declared.tree.operations.Operands.TheVariants as operands
 use Rattle.ash_typing.specs.Checking.{Checking, ◌>>=◌}
-use Rattle.ash_typing.specs.Types.{is_same_kind, meeting, holds, sort_of, binary_of, integers_in, meets, assumed}
-use Rattle.ash_typed.specs.Tree.{Number}
+use Rattle.ash_typing.specs.Types.{is_same_kind, meeting, sort_of, binary_of, integers_in, meets, assumed}
 use Rattle.ash_typing.specs.Expressions.{adapted, met, placed, term_of}
 use Rattle.ash_typing.specs.Typing.{is_known, Meet, right_of}
-use Rattle.ash_typing.specs.Terms.{Term, taking, beside, converted_to, right_by}
+use Rattle.ash_typing.specs.Terms.{Term, adapted_to, converted_to, right_by}
 
 -- answers
 
@@ -30,11 +27,13 @@ no_fault f x h = cc
 pub same_ok : {A : Type 0} (x y : A) → ◌≡◌ {A = Checking A} (Ok x) (Ok y) → x ≡ y
 same_ok x y h = cc
 
-pub bind_ok : {A B : Type 0} (o : Checking A) (f : A → Checking B) (y : B) → (o >>= f) ≡ Ok y → (x : A) × (o ≡ Ok x) × (f x ≡ Ok y)
+pub bind_ok : {A B : Type 0} (o : Checking A) (f : A → Checking B) (y : B) → (o >>= f) ≡ Ok y
+    → (x : A) × (o ≡ Ok x) × (f x ≡ Ok y)
 bind_ok (Ok x) f y h = (x, refl, h)
 bind_ok (Err e) f y h = absurd (no_fault e y h)
 
-pub bound : {A B : Type 0} (o : Checking A) (f : A → Checking B) (x : A) (r : Checking B) → o ≡ Ok x → f x ≡ r → (o >>= f) ≡ r
+pub bound : {A B : Type 0} (o : Checking A) (f : A → Checking B) (x : A) (r : Checking B) → o ≡ Ok x → f x ≡ r
+    → (o >>= f) ≡ r
 bound o f x r e h = subst (λ (m : Checking _). (m >>= f) ≡ r) (sym e) h
 
 -- an answer without a fault
@@ -58,18 +57,20 @@ unconverted k t h = rw h (rw (same_kind k) refl)
 
 -- operands
 
-pub beside_is : (s : Sort) (other t : Term) (at : ℕ) → adapted s other.form other.ty (placed at t) ≡ placed at (beside s other t)
+pub adapted_is : (s : Sort) (other t : Term) (at : ℕ)
+    → adapted s other.form other.ty (placed at t) ≡ placed at (adapted_to s other t)
 unfolding adapted
-beside_is s other t at = refl
+adapted_is s other t at = refl
 
-pub known_alone : (s : Sort) (beside of : Ty) → is_known of ≡ true → assumed s beside of ≡ of
+pub known_alone : (s : Sort) (adapted_to of : Ty) → is_known of ≡ true → assumed s adapted_to of ≡ of
 known_alone sort.Equality ty.Bool ty.Unknown h = cc
-known_alone sort.Identity beside ty.Unknown h = cc
-known_alone sort.Logic beside ty.Unknown h = cc
-known_alone s beside ty.Unknown h = cc
-known_alone s beside of h = refl
+known_alone sort.Identity adapted_to ty.Unknown h = cc
+known_alone sort.Logic adapted_to ty.Unknown h = cc
+known_alone s adapted_to ty.Unknown h = cc
+known_alone s adapted_to of h = refl
 
-pub meets_assumed : (s : Sort) (x y : Ty) (o : Operands) → meets s x y ≡ Some o → meets s (assumed s y x) (assumed s x y) ≡ Some o
+pub meets_assumed : (s : Sort) (x y : Ty) (o : Operands) → meets s x y ≡ Some o
+    → meets s (assumed s y x) (assumed s x y) ≡ Some o
 meets_assumed sort.Identity ty.Unknown ty.Unknown o h = h
 meets_assumed sort.Identity x ty.Unknown o h = h
 meets_assumed sort.Identity x y o h = h
@@ -80,9 +81,11 @@ meets_assumed s x y o h = h
 -- what calculates takes integers
 
 same_integers : (k : Kind) (o : Operands) → Some (operands.Integers k) ≡ Some o → o ≡ operands.Integers (integers_in o)
-same_integers k o h = subst (λ (x : Operands). x ≡ operands.Integers (integers_in x)) (same_Some (operands.Integers k) o h) refl
+same_integers k o h =
+    subst (λ (x : Operands). x ≡ operands.Integers (integers_in x)) (same_Some (operands.Integers k) o h) refl
 
-pub arithmetic_integers : (x y : Ty) (o : Operands) → meets sort.Arithmetic x y ≡ Some o → o ≡ operands.Integers (integers_in o)
+pub arithmetic_integers : (x y : Ty) (o : Operands) → meets sort.Arithmetic x y ≡ Some o
+    → o ≡ operands.Integers (integers_in o)
 arithmetic_integers (ty.Integer j) (ty.Integer k) o h = same_integers (meeting j k) o h
 arithmetic_integers _ _ o h = absurd (none-some o h)
 
@@ -90,7 +93,8 @@ pub shift_integers : (x y : Ty) (o : Operands) → meets sort.Shift x y ≡ Some
 shift_integers (ty.Integer j) (ty.Integer k) o h = same_integers j o h
 shift_integers _ _ o h = absurd (none-some o h)
 
-pub calculated_integers : (c : Calculator) (x y : Ty) (o : Operands) → meets (sort_of (binary_of c)) x y ≡ Some o → o ≡ operands.Integers (integers_in o)
+pub calculated_integers : (c : Calculator) (x y : Ty) (o : Operands) → meets (sort_of (binary_of c)) x y ≡ Some o
+    → o ≡ operands.Integers (integers_in o)
 calculated_integers calculators.Multiply x y o h = arithmetic_integers x y o h
 calculated_integers calculators.Divide x y o h = arithmetic_integers x y o h
 calculated_integers calculators.Remainder x y o h = arithmetic_integers x y o h
@@ -107,6 +111,14 @@ pub right_is : (s : Sort) (o : Operands) (b : ℕ) (u : Term) → right_by s o (
 right_is sort.Shift o b u = refl
 right_is _ o b u = refl
 
-pub met_is : (op : BinaryOp) (t u : Term) (o : Operands) (a b : ℕ) → Meet op t u o → met op (placed a t) (placed b u) ≡ Ok (record { left = placed a (beside (sort_of op) u t); operands = o; right = right_of op o t u })
+pub met_is : (op : BinaryOp) (t u : Term) (o : Operands) (a b : ℕ) → Meet op t u o
+    → met op (placed a t) (placed b u)
+    ≡ Ok (record { left = placed a (adapted_to (sort_of op) u t); operands = o; right = right_of op o t u })
 unfolding met
-met_is op t u o a b h = rw (beside_is (sort_of op) u t a, beside_is (sort_of op) t u b, meets_assumed (sort_of op) (beside (sort_of op) u t).ty (beside (sort_of op) t u).ty o h, right_is (sort_of op) o b (beside (sort_of op) t u)) refl
+met_is op t u o a b h =
+    rw (
+      adapted_is (sort_of op) u t a,
+      adapted_is (sort_of op) t u b,
+      meets_assumed (sort_of op) (adapted_to (sort_of op) u t).ty (adapted_to (sort_of op) t u).ty o h,
+      right_is (sort_of op) o b (adapted_to (sort_of op) t u),
+    ) refl

@@ -12,6 +12,6 @@ abbrev pub ◌>>=◌ : {A B : Type 0} → Checking A → (A → Checking B) → 
 (Ok x) >>= f = f x
 (Err e) >>= f = Err e
 
--- a rule that is broken at this offset
+-- `broken rule at` is the fault that a rule is broken at this offset.
 abbrev pub broken : {A : Type 0} → Rule → ℕ → Checking A
 broken rule at = Err (record { rule = rule; at = at })

@@ -1,5 +1,6 @@
 -- What an expression sees: what its module declares, what is registered, the class whose object runs, and the locals.
-use Rattle.std.specs.Prelude.{ℕ, codes, ◌+◌, Bool, List, [], ◌∷◌, Option, Some, None, map, find, slice_get, if◌then◌else◌}
+use Rattle.std.specs.Prelude.{ℕ, codes, ◌+◌, Bool, List, [], ◌∷◌, Option, Some, None, map, find, slice_get}
+use Rattle.std.specs.Prelude.{if◌then◌else◌}
 use Rattle.std.specs.Option.{option_and_then, option_map, option_or}
 use Rattle.std.specs.Str.{bytes_eq}
 use Rattle.ash_tree.specs.declared.tree.types.Primitive.{Primitive}
@@ -8,7 +9,8 @@ use Rattle.ash_typed.specs.declared.types.VarType.{VarType}
 use Rattle.ash_typed.specs.declared.types.ObjectType.{ObjectType}
 use Rattle.ash_typed.specs.declared.types.Kind.TheVariants.{Uint}
 use Rattle.ash_typed.specs.declared.types.Element.{Element}
-use Rattle.ash_typed.specs.declared.types.ObjectType.TheVariants.{Class as OfClass, Interface as OfInterface, Host as OfHost, Array as OfArray}
+use Rattle.ash_typed.specs.declared.types.ObjectType.TheVariants.{Class as OfClass, Interface as OfInterface}
+use Rattle.ash_typed.specs.declared.types.ObjectType.TheVariants.{Host as OfHost, Array as OfArray}
 use Rattle.ash_typing.specs.declared.types.Ty.{Ty}
 use Rattle.ash_typing.specs.declared.types.Ty.TheVariants as ty
 use Rattle.ash_typed.specs.declared.tree.operations.Variable.TheVariants as variables
@@ -25,7 +27,7 @@ use Rattle.ash_typing.specs.Types.{ty_of, ty_of_element, var_type, result_type}
 use Rattle.ash_typed.specs.Tree.{Expr, This, Read, Stored, Held}
 use Rattle.ash_typing.specs.Terms.{array_parameters}
 
--- a variable, a parameter or a field
+-- A variable, a parameter or a field has a name and a type.
 pub record Declared : Type 0 where
   pub name : List ℕ
   pub of : Ty
@@ -33,18 +35,18 @@ pub record Declared : Type 0 where
 abbrev pub type_declared : Declared → VarType
 type_declared v = var_type v.of
 
--- a function or a method, whose result is `Void` where it has none
+-- A function or a method has the result `Void` where it has none.
 pub record Function : Type 0 where
   pub name : List ℕ
   pub result : Ty
   pub parameters : List Ty
 
--- an interface, with the methods that it declares
+-- An interface has the methods that it declares.
 pub record Interface : Type 0 where
   pub name : List ℕ
   pub methods : List Function
 
--- a class, with the places of the interfaces that it lists, and the parameters that its construction takes
+-- A class has the places of the interfaces that it lists, and the parameters that its construction takes.
 pub record Class : Type 0 where
   pub name : List ℕ
   pub interfaces : List ℕ
@@ -52,7 +54,7 @@ pub record Class : Type 0 where
   pub methods : List Function
   pub parameters : List Ty
 
--- what a module declares
+-- A module declares these.
 pub record Heads : Type 0 where
   pub interfaces : List Interface
   pub classes : List Class
@@ -68,22 +70,23 @@ pub record Environment : Type 0 where
 abbrev pub with_locals : Environment → List Declared → Environment
 with_locals env locals = record { heads = env.heads; registered = env.registered; this = env.this; locals = locals }
 
--- what each item of a module sees
+-- `seen calls h` is what each item of a module sees.
 abbrev pub seen : List host.Call → Heads → Environment
 seen calls h = record { heads = h; registered = calls; this = None; locals = [] }
 
--- what the members of the class of a place see
+-- `inside env place` is what the members of the class of a place see.
 abbrev pub inside : Environment → ℕ → Environment
 inside env place = record { heads = env.heads; registered = env.registered; this = Some place; locals = [] }
 
 -- look-ups
 
--- the first that passes, with its place; the first of the list has place `i`
+-- `first_from test i xs` is the first that passes, with its place; the first of the list has place `i`.
 abbrev pub first_from : {A : Type 0} → (A → Bool) → ℕ → List A → Option (ℕ × A)
 first_from test i [] = None
 first_from test i (x ∷ xs) = if test x then Some (i, x) else first_from test (i + 1) xs
 
--- the place and the type of the last variable of a name, where `found` is the last one before
+-- `last_named name i found vs` is the place and the type of the last variable of a name, where `found` is the last one
+-- before.
 abbrev pub last_named : List ℕ → ℕ → Option (ℕ × Ty) → List Declared → Option (ℕ × Ty)
 last_named name i found [] = found
 last_named name i found (v ∷ vs) = last_named name (i + 1) (if bytes_eq name v.name then Some (i, v.of) else found) vs
@@ -100,36 +103,48 @@ is_class name c = bytes_eq name c.name
 abbrev pub is_interface_named : List ℕ → Interface → Bool
 is_interface_named name i = bytes_eq name i.name
 
--- the class whose object runs
+-- `this_class env` is the class whose object runs.
 abbrev pub this_class : Environment → Option (ℕ × Class)
-this_class env = option_and_then (λ (i : ℕ). option_map (λ (c : Class). (i, c)) (slice_get env.heads.classes i)) env.this
+this_class env =
+    option_and_then (λ (i : ℕ). option_map (λ (c : Class). (i, c)) (slice_get env.heads.classes i)) env.this
 
 -- A name alone is a local, the nearest one, else a field of the object that runs, else a global.
 
--- a variable, and its type
+-- A variable has a tree and a type.
 abbrev pub Known : Type 0
 Known = Expr × Ty
 
 abbrev pub local_in : List Declared → List ℕ → Option Known
-local_in locals name = option_map (λ (found : ℕ × Ty). (Read (Stored (variables.Local found.0 (var_type found.1))), found.1)) (last_named name 0 None locals)
+local_in locals name =
+    option_map (λ (found : ℕ × Ty). (Read (Stored (variables.Local found.0 (var_type found.1))), found.1))
+    (last_named name 0 None locals)
 
--- a field of the class of this place
+-- `field_in class c name` is a field of the class of this place.
 abbrev pub field_in : ℕ → Class → List ℕ → Option (Member × Ty)
-field_in class c name = option_map (λ (found : ℕ × Declared). (members.Field class found.0 (var_type found.1.of), found.1.of)) (first_from (declares name) 0 c.fields)
+field_in class c name =
+    option_map (λ (found : ℕ × Declared). (members.Field class found.0 (var_type found.1.of), found.1.of))
+    (first_from (declares name) 0 c.fields)
 
 abbrev pub own_field_in : Environment → List ℕ → Option Known
-own_field_in env name = option_and_then (λ (c : ℕ × Class). option_map (λ (found : Member × Ty). (Read (Held (This c.0) found.0), found.1)) (field_in c.0 c.1 name)) (this_class env)
+own_field_in env name =
+    option_and_then
+    (λ (c : ℕ × Class).
+    option_map (λ (found : Member × Ty). (Read (Held (This c.0) found.0), found.1)) (field_in c.0 c.1 name))
+    (this_class env)
 
 abbrev pub global_in : List Declared → List ℕ → Option Known
-global_in globals name = option_map (λ (found : ℕ × Declared). (Read (Stored (variables.Global found.0 (var_type found.1.of))), found.1.of)) (first_from (declares name) 0 globals)
+global_in globals name =
+    option_map (λ (found : ℕ × Declared). (Read (Stored (variables.Global found.0 (var_type found.1.of))), found.1.of))
+    (first_from (declares name) 0 globals)
 
 unfoldable pub variable_in : Environment → List ℕ → Option Known
-variable_in env name = option_or (local_in env.locals name) (option_or (own_field_in env name) (global_in env.heads.globals name))
+variable_in env name =
+    option_or (local_in env.locals name) (option_or (own_field_in env name) (global_in env.heads.globals name))
 
 -- A name before brackets is a method of the object that runs, a function of the module, a registered function, a class,
 -- or a registered type.
 
--- what is called, what it gives, and what it takes: nothing can be said of a type without factory
+-- What is called has a target, what it gives, and what it takes; a type without factory takes nothing that can be said.
 pub record Callee : Type 0 where
   pub target : Callable
   pub result : Ty
@@ -140,17 +155,42 @@ result_of None = ty.Void
 result_of (Some primitive) = ty_of primitive
 
 abbrev pub own_method_in : Environment → List ℕ → Option Callee
-own_method_in env name = option_and_then (λ (c : ℕ × Class). option_map (λ (found : ℕ × Function). record { target = callables.OwnMethod c.0 found.0 (result_type found.1.result); result = found.1.result; parameters = Some found.1.parameters }) (first_from (is_called name) 0 c.1.methods)) (this_class env)
+own_method_in env name =
+    option_and_then
+    (λ (c : ℕ × Class).
+    option_map (λ (found : ℕ × Function).
+    record {
+      target = callables.OwnMethod c.0 found.0 (result_type found.1.result);
+      result = found.1.result;
+      parameters = Some found.1.parameters;
+    }) (first_from (is_called name) 0 c.1.methods)) (this_class env)
 
 abbrev pub function_in : List Function → List ℕ → Option Callee
-function_in functions name = option_map (λ (found : ℕ × Function). record { target = callables.Target (targets.Function found.0 (result_type found.1.result)); result = found.1.result; parameters = Some found.1.parameters }) (first_from (is_called name) 0 functions)
+function_in functions name =
+    option_map (λ (found : ℕ × Function).
+    record {
+      target = callables.Target (targets.Function found.0 (result_type found.1.result));
+      result = found.1.result;
+      parameters = Some found.1.parameters;
+    }) (first_from (is_called name) 0 functions)
 
 abbrev pub service_function : host.Call → Option Callee
-service_function (host.AFunction service id operation) = Some (record { target = callables.Target (targets.Service service id (result_type (result_of operation.result))); result = result_of operation.result; parameters = Some (map ty_of operation.parameters) })
+service_function (host.AFunction service id operation) =
+    Some (record {
+      target = callables.Target (targets.Service service id (result_type (result_of operation.result)));
+      result = result_of operation.result;
+      parameters = Some (map ty_of operation.parameters);
+    })
 service_function _ = None
 
 abbrev pub class_in : List Class → List ℕ → Option Callee
-class_in classes name = option_map (λ (found : ℕ × Class). record { target = callables.Target (targets.Class found.0); result = ty.Handle (OfClass found.0); parameters = Some found.1.parameters }) (first_from (is_class name) 0 classes)
+class_in classes name =
+    option_map (λ (found : ℕ × Class).
+    record {
+      target = callables.Target (targets.Class found.0);
+      result = ty.Handle (OfClass found.0);
+      parameters = Some found.1.parameters;
+    }) (first_from (is_class name) 0 classes)
 
 abbrev pub factory_parameters : host.Call → Option (List Ty)
 factory_parameters (host.AFactory of parameters) = Some (map ty_of parameters)
@@ -160,18 +200,26 @@ unfoldable pub factory_in : List host.Call → List ℕ → Option (List Ty)
 factory_in calls of = option_and_then factory_parameters (find (host.is_factory_of of) calls)
 
 abbrev pub host_type : List host.Call → host.Call → Option Callee
-host_type calls (host.AType name kind) = Some (record { target = callables.Target (targets.Host kind); result = ty.Handle (OfHost kind); parameters = factory_in calls name })
+host_type calls (host.AType name kind) = Some (record {
+  target = callables.Target (targets.Host kind);
+  result = ty.Handle (OfHost kind);
+  parameters = factory_in calls name;
+})
 host_type calls _ = None
 
 abbrev pub named_in : List host.Call → List ℕ → Option host.Call
 named_in calls name = find (host.takes_name name) calls
 
--- what is neither a method nor a function of the module
+-- What is called is neither a method nor a function of the module.
 abbrev pub callee_beside : Environment → List ℕ → Option Callee
-callee_beside env name = option_or (option_and_then service_function (named_in env.registered name)) (option_or (class_in env.heads.classes name) (option_and_then (host_type env.registered) (named_in env.registered name)))
+callee_beside env name =
+    option_or (option_and_then service_function (named_in env.registered name))
+    (option_or (class_in env.heads.classes name)
+    (option_and_then (host_type env.registered) (named_in env.registered name)))
 
 unfoldable pub callee_in : Environment → List ℕ → Option Callee
-callee_in env name = option_or (own_method_in env name) (option_or (function_in env.heads.functions name) (callee_beside env name))
+callee_in env name =
+    option_or (own_method_in env name) (option_or (function_in env.heads.functions name) (callee_beside env name))
 
 -- Members of an object.
 
@@ -179,11 +227,11 @@ abbrev pub type_name : Option host.Call → List ℕ
 type_name (Some (host.AType name kind)) = name
 type_name _ = []
 
--- the name of a registered type, by its kind
+-- `name_of_kind calls kind` is the name of a registered type, by its kind.
 unfoldable pub name_of_kind : List host.Call → ℕ → List ℕ
 name_of_kind calls kind = type_name (find (host.takes_kind kind) calls)
 
--- a method or a property of a registered type
+-- `host_member_in calls kind name` is a method or a property of a registered type.
 unfoldable pub host_member_in : List host.Call → ℕ → List ℕ → Option host.Call
 host_member_in calls kind name = find (host.takes_member (name_of_kind calls kind) name) calls
 
@@ -191,31 +239,47 @@ abbrev pub property : host.Call → Option (Member × Ty)
 property (host.AProperty of id value name) = Some (members.Property id (var_type (ty_of value)), ty_of value)
 property _ = None
 
--- an interface and an array hold nothing that has a name
+-- `member_in env o name` is what an object holds by this name; an interface and an array hold nothing that has a name.
 unfoldable pub member_in : Environment → ObjectType → List ℕ → Option (Member × Ty)
 member_in env (OfClass i) name = option_and_then (λ (c : Class). field_in i c name) (slice_get env.heads.classes i)
 member_in env (OfInterface i) name = None
 member_in env (OfHost kind) name = option_and_then property (host_member_in env.registered kind name)
 member_in env (OfArray of) name = None
 
--- a method, what it gives and what it takes
+-- A method has what it gives and what it takes.
 pub record Invoked : Type 0 where
   pub method : Method
   pub result : Ty
   pub parameters : List Ty
 
 abbrev pub host_method : host.Call → Option Invoked
-host_method (host.AMethod of id operation) = Some (record { method = methods.Host id (result_type (result_of operation.result)); result = result_of operation.result; parameters = map ty_of operation.parameters })
+host_method (host.AMethod of id operation) = Some (record {
+  method = methods.Host id (result_type (result_of operation.result));
+  result = result_of operation.result;
+  parameters = map ty_of operation.parameters;
+})
 host_method _ = None
 
 abbrev pub class_method : ℕ → List ℕ → Class → Option Invoked
-class_method i name c = option_map (λ (found : ℕ × Function). record { method = methods.Script i found.0 (result_type found.1.result); result = found.1.result; parameters = found.1.parameters }) (first_from (is_called name) 0 c.methods)
+class_method i name c =
+    option_map (λ (found : ℕ × Function).
+    record {
+      method = methods.Script i found.0 (result_type found.1.result);
+      result = found.1.result;
+      parameters = found.1.parameters;
+    }) (first_from (is_called name) 0 c.methods)
 
 unfoldable pub method_of_class : List Class → ℕ → List ℕ → Option Invoked
 method_of_class classes i name = option_and_then (class_method i name) (slice_get classes i)
 
 abbrev pub interface_method : ℕ → List ℕ → Interface → Option Invoked
-interface_method i name of = option_map (λ (found : ℕ × Function). record { method = methods.Interface i found.0 (result_type found.1.result); result = found.1.result; parameters = found.1.parameters }) (first_from (is_called name) 0 of.methods)
+interface_method i name of =
+    option_map (λ (found : ℕ × Function).
+    record {
+      method = methods.Interface i found.0 (result_type found.1.result);
+      result = found.1.result;
+      parameters = found.1.parameters;
+    }) (first_from (is_called name) 0 of.methods)
 
 unfoldable pub method_of_interface : List Interface → ℕ → List ℕ → Option Invoked
 method_of_interface interfaces i name = option_and_then (interface_method i name) (slice_get interfaces i)
@@ -229,19 +293,26 @@ array_method_name arrays.InsertLast = codes "insertLast"
 array_method_name arrays.RemoveLast = codes "removeLast"
 array_method_name arrays.IsEmpty = codes "isEmpty"
 
--- what it gives, and what it takes, where the elements are of a type
+-- `array_method_of of method` is what a method of arrays gives and takes, where the elements are of a type.
 abbrev pub array_method_of : Element → ArrayMethod → Invoked
-array_method_of of arrays.Length = record { method = methods.Array arrays.Length; result = ty.Integer Uint; parameters = [] }
-array_method_of of arrays.Resize = record { method = methods.Array arrays.Resize; result = ty.Void; parameters = ty.Integer Uint ∷ [] }
-array_method_of of arrays.InsertLast = record { method = methods.Array arrays.InsertLast; result = ty.Void; parameters = ty_of_element of ∷ [] }
-array_method_of of arrays.RemoveLast = record { method = methods.Array arrays.RemoveLast; result = ty.Void; parameters = [] }
+array_method_of of arrays.Length =
+    record { method = methods.Array arrays.Length; result = ty.Integer Uint; parameters = [] }
+array_method_of of arrays.Resize =
+    record { method = methods.Array arrays.Resize; result = ty.Void; parameters = ty.Integer Uint ∷ [] }
+array_method_of of arrays.InsertLast =
+    record { method = methods.Array arrays.InsertLast; result = ty.Void; parameters = ty_of_element of ∷ [] }
+array_method_of of arrays.RemoveLast =
+    record { method = methods.Array arrays.RemoveLast; result = ty.Void; parameters = [] }
 array_method_of of arrays.IsEmpty = record { method = methods.Array arrays.IsEmpty; result = ty.Bool; parameters = [] }
 
 abbrev pub is_array_method : List ℕ → ArrayMethod → Bool
 is_array_method name m = bytes_eq name (array_method_name m)
 
 unfoldable pub method_of_array : Element → List ℕ → Option Invoked
-method_of_array of name = option_map (array_method_of of) (find (is_array_method name) (arrays.Length ∷ arrays.Resize ∷ arrays.InsertLast ∷ arrays.RemoveLast ∷ arrays.IsEmpty ∷ []))
+method_of_array of name =
+    option_map (array_method_of of)
+    (find (is_array_method name)
+    (arrays.Length ∷ arrays.Resize ∷ arrays.InsertLast ∷ arrays.RemoveLast ∷ arrays.IsEmpty ∷ []))
 
 unfoldable pub method_of_kind : List host.Call → ℕ → List ℕ → Option Invoked
 method_of_kind calls kind name = option_and_then host_method (host_member_in calls kind name)
@@ -255,7 +326,11 @@ method_in env (OfArray of) name = method_of_array of name
 -- Objects are constructed.
 
 abbrev pub class_built : ℕ → Class → Callee
-class_built place c = record { target = callables.Target (targets.Class place); result = ty.Handle (OfClass place); parameters = Some c.parameters }
+class_built place c = record {
+  target = callables.Target (targets.Class place);
+  result = ty.Handle (OfClass place);
+  parameters = Some c.parameters;
+}
 
 unfoldable pub class_construction : List Class → ℕ → Option Callee
 class_construction classes place = option_map (class_built place) (slice_get classes place)
@@ -264,9 +339,13 @@ unfoldable pub kind_construction : List host.Call → ℕ → Option Callee
 kind_construction calls kind = option_and_then (host_type calls) (find (host.takes_kind kind) calls)
 
 abbrev pub array_built : Element → ℕ → Callee
-array_built of count = record { target = callables.Target (targets.Array of); result = ty.Handle (OfArray of); parameters = Some (array_parameters count) }
+array_built of count = record {
+  target = callables.Target (targets.Array of);
+  result = ty.Handle (OfArray of);
+  parameters = Some (array_parameters count);
+}
 
--- the construction of an object by so many arguments
+-- `construction env o count` is the construction of an object by so many arguments.
 unfoldable pub construction : Environment → ObjectType → ℕ → Option Callee
 construction env (OfClass place) count = class_construction env.heads.classes place
 construction env (OfInterface place) count = None

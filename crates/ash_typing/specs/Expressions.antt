@@ -1,7 +1,8 @@
--- The typing of expressions (AngelScript manual, "Expressions"), as a function whose order is that of the walk: the parts
--- of a phrase in the order of the text, then the phrase. Of several faults of one phrase the one at the earliest token
--- is told.
-use Rattle.std.specs.Prelude.{ℕ, List, [], ◌∷◌, Bool, true, false, Option, Some, None, Ok, map, length, nat_eq, if◌then◌else◌}
+-- The typing of expressions (AngelScript manual, "Expressions"), as a function whose order is that of the walk: the
+-- parts of a phrase in the order of the text, then the phrase. Of several faults of one phrase the one at the earliest
+-- token is reported.
+use Rattle.std.specs.Prelude.{ℕ, List, [], ◌∷◌, Bool, true, false, Option, Some, None, Ok, map, length, nat_eq}
+use Rattle.std.specs.Prelude.{if◌then◌else◌}
 use Rattle.ash_tree.specs.declared.tree.types.Primitive.{Primitive}
 use Rattle.ash_tree.specs.declared.tree.operators.UnaryOp.{UnaryOp}
 use Rattle.ash_tree.specs.declared.tree.operators.UnaryOp.TheVariants as unary
@@ -9,7 +10,8 @@ use Rattle.ash_tree.specs.declared.tree.operators.BinaryOp.{BinaryOp}
 use Rattle.ash_tree.specs.declared.tree.operators.AssignOp.{AssignOp}
 use Rattle.ash_tree.specs.declared.tree.operators.AssignOp.TheVariants as assigns
 use Rattle.ash_tree.specs.Tree as written
-use Rattle.ash_typing.specs.declared.fault.Rule.TheVariants.{UnknownName, UnknownType, TypeMismatch, WrongArgumentCount, NotAssignable, Misplaced, NoFactory}
+use Rattle.ash_typing.specs.declared.fault.Rule.TheVariants.{UnknownName, UnknownType, TypeMismatch, WrongArgumentCount}
+use Rattle.ash_typing.specs.declared.fault.Rule.TheVariants.{NotAssignable, Misplaced, NoFactory}
 use Rattle.ash_typed.specs.declared.types.Kind.{Kind}
 use Rattle.ash_typed.specs.declared.types.Kind.TheVariants as kinds
 use Rattle.ash_typed.specs.declared.types.Element.{Element}
@@ -29,21 +31,26 @@ use Rattle.ash_typed.specs.declared.tree.operations.Operands.{Operands}
 use Rattle.ash_typed.specs.declared.tree.operations.Step.{Step}
 use Rattle.ash_typed.specs.declared.tree.operations.Step.TheVariants as steps
 use Rattle.ash_typing.specs.Checking.{Checking, ◌>>=◌, broken}
-use Rattle.ash_typing.specs.Types.{var_type, signed, common, ty_of, ty_of_element, sort_of, binary_of, integers_in, takes, assumed, meets, outcome}
-use Rattle.ash_typed.specs.Tree.{Expr, Truth, Null, This, Read, Invoke, Cast, Alter, Conditional, Assign, Update, Count, Place, Held, Indexed, Exprs, no_expr, expr}
+use Rattle.ash_typing.specs.Types.{var_type, signed, common, ty_of, ty_of_element, sort_of, binary_of, integers_in}
+use Rattle.ash_typing.specs.Types.{takes, assumed, meets, outcome}
+use Rattle.ash_typed.specs.Tree.{Expr, Truth, Null, This, Read, Invoke, Cast, Alter, Conditional, Assign, Update, Count}
+use Rattle.ash_typed.specs.Tree.{Place, Held, Indexed, Exprs, no_expr, expr}
 use Rattle.ash_typing.specs.Fitting.{fits}
 use Rattle.ash_typing.specs.Heads.{object_named, element_named}
-use Rattle.ash_typing.specs.Environment.{Environment, Class, Known, Callee, Invoked, variable_in, callee_in, member_in, method_in, array_built}
-use Rattle.ash_typing.specs.Terms.{operand_type, applied, assignable, bracketed, handle_form, operator_of, is_stored, call_of, array_parameters, Term, term, read_term, number_term, converted_to, right_by, beside_by}
+use Rattle.ash_typing.specs.Environment.{Environment, Class, Known, Callee, Invoked, variable_in, callee_in, member_in}
+use Rattle.ash_typing.specs.Environment.{method_in, array_built}
+use Rattle.ash_typing.specs.Terms.{operand_type, applied, assignable, bracketed, handle_form, operator_of, is_stored}
+use Rattle.ash_typing.specs.Terms.{call_of, array_parameters, Term, term, read_term, number_term, converted_to}
+use Rattle.ash_typing.specs.Terms.{right_by, adapted_by}
 
--- a typed expression, with the offset of its first token and what it is by itself
+-- A typed expression has the offset of its first token, and what it is by itself.
 pub record Typed : Type 0 where
   pub at : ℕ
   pub ty : Ty
   pub form : Form
   pub tree : Expr
 
--- a term, of an expression whose first token is at this offset
+-- `placed at t` is a term of an expression whose first token is at this offset.
 abbrev pub placed : ℕ → Term → Typed
 placed at t = record { at = at; ty = t.ty; form = t.form; tree = t.tree }
 
@@ -61,7 +68,7 @@ read_at at of tree = placed at (read_term of tree)
 abbrev pub brought : Ty → Typed → Expr
 brought to t = converted_to to (term_of t)
 
--- as in an assignment to a variable of this type
+-- The expression is converted as in an assignment to a variable of this type.
 unfoldable pub fitted : List Class → Ty → Typed → Checking Expr
 fitted classes to t = if fits classes to t.ty then Ok (brought to t) else broken TypeMismatch t.at
 
@@ -77,20 +84,20 @@ bool_of at ty.Bool = Ok true
 bool_of at ty.Unknown = Ok true
 bool_of at _ = broken TypeMismatch at
 
--- the type of a handle of what an expression gives
+-- `handle_of at of` is the type of a handle of what an expression gives.
 abbrev pub handle_of : ℕ → Ty → Checking Ty
 handle_of at (ty.Object o) = Ok (ty.Handle o)
 handle_of at (ty.Handle o) = Ok (ty.Handle o)
 handle_of at ty.Unknown = Ok ty.Unknown
 handle_of at _ = broken TypeMismatch at
 
--- the operand of an operator, beside one of this form and type
+-- `adapted s other of t` is the operand of an operator, where the other operand has this form and type.
 unfoldable pub adapted : Sort → Form → Ty → Typed → Typed
-adapted s other of t = placed t.at (beside_by s other of (term_of t))
+adapted s other of t = placed t.at (adapted_by s other of (term_of t))
 
 -- operators between two operands
 
--- the operands, and what an operator takes them for
+-- Two operands are taken for operands of a class by an operator.
 pub record Met : Type 0 where
   pub left : Typed
   pub operands : Operands
@@ -107,7 +114,9 @@ unfoldable pub met : BinaryOp → Typed → Typed → Checking Met
 met op a b = met_by (sort_of op) (adapted (sort_of op) b.form b.ty a) (adapted (sort_of op) a.form a.ty b)
 
 abbrev pub operated : BinaryOp → Met → Typed
-operated op m = made m.left.at (outcome (sort_of op) m.operands) (applied op m.operands (brought (operand_type m.operands) m.left) m.right)
+operated op m =
+    made m.left.at (outcome (sort_of op) m.operands)
+    (applied op m.operands (brought (operand_type m.operands) m.left) m.right)
 
 unfoldable pub operate : BinaryOp → Typed → Typed → Checking Typed
 operate op a b = met op a b >>= λ m. Ok (operated op m)
@@ -121,7 +130,7 @@ counted at step t (Some p) = integer_of t.at t.ty >>= λ k. Ok (made at (ty.Inte
 abbrev pub altered : ℕ → Kind → Change → Typed → Typed
 altered at k change t = made at (ty.Integer k) (Alter change (brought (ty.Integer k) t))
 
--- the value alone, which can't be assigned
+-- `integer_at at k t` is the value alone, which can't be assigned.
 abbrev pub integer_at : ℕ → Kind → Typed → Typed
 integer_at at k t = made at (ty.Integer k) (brought (ty.Integer k) t)
 
@@ -138,7 +147,7 @@ unary_at left at unary.Increment t = counted at steps.Increment t (assignable t.
 unary_at left at unary.Decrement t = counted at steps.Decrement t (assignable t.form t.tree)
 unary_at left at unary.Handle t = handle_at left at t
 
--- `prim(e)`
+-- `prim(e)` converts so.
 abbrev pub converting : ℕ → Ty → Typed → Checking Typed
 converting at (ty.Integer k) t = integer_of t.at t.ty >>= λ j. Ok (integer_at at k t)
 converting at _ t = bool_of t.at t.ty >>= λ yes. Ok (made at ty.Bool t.tree)
@@ -161,9 +170,11 @@ choice c a b = bool_of c.at c.ty >>= λ yes. chosen c a b (common a.ty b.ty)
 
 -- assignments
 
--- what stands at a place is an operand of its type
+-- What is at a place is an operand of its type.
 abbrev pub updated : ℕ → Ty → Place → Calculator → Typed → Checking Typed
-updated at of p c v = met (binary_of c) (made at of Null) v >>= λ m. integer_of at of >>= λ k. Ok (made at (ty.Integer k) (Update p k (record { operator = c; of = integers_in m.operands }) m.right))
+updated at of p c v =
+    met (binary_of c) (made at of Null) v >>= λ m. integer_of at of
+    >>= λ k. Ok (made at (ty.Integer k) (Update p k (record { operator = c; of = integers_in m.operands }) m.right))
 
 unfoldable pub stored : List Class → ℕ → Ty → Place → Option Calculator → Typed → Checking Typed
 stored classes at of p None v = fitted classes of v >>= λ e. Ok (made at of (Assign p e))
@@ -171,7 +182,8 @@ stored classes at of p (Some op) v = updated at of p op v
 
 abbrev pub assigned_to : List Class → Typed → AssignOp → Typed → Option Place → Checking Typed
 assigned_to classes t op v None = broken NotAssignable t.at
-assigned_to classes t op v (Some p) = if is_stored t.form t.ty then stored classes t.at t.ty p (operator_of op) v else broken NotAssignable t.at
+assigned_to classes t op v (Some p) =
+    if is_stored t.form t.ty then stored classes t.at t.ty p (operator_of op) v else broken NotAssignable t.at
 
 unfoldable pub assigned : List Class → Typed → AssignOp → Typed → Checking Typed
 assigned classes t op v = assigned_to classes t op v (assignable t.form t.tree)
@@ -187,11 +199,14 @@ all_fitted classes (p ∷ ps) (t ∷ ts) = fitted classes p t >>= λ e. all_fitt
 all_fitted classes _ _ = Ok no_expr
 
 unfoldable pub arguments_at : List Class → ℕ → List Ty → List Typed → Checking Exprs
-arguments_at classes at parameters ts = if nat_eq (length parameters) (length ts) then all_fitted classes parameters ts else broken WrongArgumentCount at
+arguments_at classes at parameters ts =
+    if nat_eq (length parameters) (length ts) then all_fitted classes parameters ts else broken WrongArgumentCount at
 
 unfoldable pub called : List Class → ℕ → Callee → List Typed → Option (List Ty) → Checking Typed
 called classes at callee ts None = broken NoFactory at
-called classes at callee ts (Some parameters) = arguments_at classes at parameters ts >>= λ es. Ok (made at callee.result (call_of callee.target (map var_type parameters) es))
+called classes at callee ts (Some parameters) =
+    arguments_at classes at parameters ts
+    >>= λ es. Ok (made at callee.result (call_of callee.target (map var_type parameters) es))
 
 abbrev pub callee_at : ℕ → Option Callee → Checking Callee
 callee_at at None = broken UnknownName at
@@ -216,10 +231,11 @@ member_at t at (Some (member, of)) = Ok (read_at t.at of (Read (Held t.tree memb
 unfoldable pub field_of : Environment → Typed → Ty → ℕ → List ℕ → Checking Typed
 field_of env t (ty.Object o) at name = member_at t at (member_in env o name)
 field_of env t (ty.Handle o) at name = member_at t at (member_in env o name)
-field_of env t ty.Unknown at name = Ok (read_at t.at ty.Unknown (Read (Held t.tree (members.Field 0 0 (var_type ty.Unknown)))))
+field_of env t ty.Unknown at name =
+    Ok (read_at t.at ty.Unknown (Read (Held t.tree (members.Field 0 0 (var_type ty.Unknown)))))
 field_of env t _ at name = broken TypeMismatch t.at
 
--- the method, or nothing where the type of the object is unknown
+-- `invoked_at at found` is the method, or nothing where the type of the object is unknown.
 abbrev pub invoked_at : ℕ → Option Invoked → Checking (Option Invoked)
 invoked_at at None = broken UnknownName at
 invoked_at at (Some m) = Ok (Some m)
@@ -232,21 +248,26 @@ method_of env t _ at name = broken TypeMismatch t.at
 
 unfoldable pub invoked : List Class → Typed → ℕ → List Typed → Option Invoked → Checking Typed
 invoked classes t at ts None = Ok (made t.at ty.Unknown Null)
-invoked classes t at ts (Some m) = arguments_at classes at m.parameters ts >>= λ es. Ok (made t.at m.result (Invoke t.tree m.method (map var_type m.parameters) es))
+invoked classes t at ts (Some m) =
+    arguments_at classes at m.parameters ts
+    >>= λ es. Ok (made t.at m.result (Invoke t.tree m.method (map var_type m.parameters) es))
 
 abbrev pub in_brackets : ℕ → Typed → Typed
 in_brackets at t = record { at = at; ty = t.ty; form = bracketed t.form; tree = t.tree }
 
 -- A call, whose arguments are walked once its name is known.
 abbrev pub call_typed : Environment → ℕ → List ℕ → Checking (List Typed) → Checking Typed
-call_typed env at name arguments = callee_at at (callee_in env name) >>= λ callee. arguments >>= λ ts. called env.heads.classes at callee ts callee.parameters
+call_typed env at name arguments =
+    callee_at at (callee_in env name) >>= λ callee. arguments
+    >>= λ ts. called env.heads.classes at callee ts callee.parameters
 
 abbrev pub invocation_typed : Environment → Typed → ℕ → List ℕ → Checking (List Typed) → Checking Typed
-invocation_typed env t at name arguments = method_of env t t.ty at name >>= λ m. arguments >>= λ ts. invoked env.heads.classes t at ts m
+invocation_typed env t at name arguments =
+    method_of env t t.ty at name >>= λ m. arguments >>= λ ts. invoked env.heads.classes t at ts m
 
 -- arrays
 
--- what is at an index, which is converted to `uint`
+-- `index_in i` is an index, which is converted to `uint`.
 abbrev pub index_in : Typed → Checking Expr
 index_in i = integer_of i.at i.ty >>= λ k. Ok (brought (ty.Integer kinds.Uint) i)
 
@@ -271,24 +292,26 @@ abbrev pub known_element : ℕ → Option Element → Checking Element
 known_element at None = broken UnknownType at
 known_element at (Some e) = Ok e
 
--- `array<T>(e ..)`
+-- `array<T>(e ..)` is typed so.
 abbrev pub array_typed : Environment → ℕ → written.Element → Checking (List Typed) → Checking Typed
-array_typed env at of arguments = known_element (at_element of) (element_named env.registered env.heads of) >>= λ e. arguments >>= λ ts. called env.heads.classes at (array_built e (length ts)) ts (Some (array_parameters (length ts)))
+array_typed env at of arguments =
+    known_element (at_element of) (element_named env.registered env.heads of) >>= λ e. arguments
+    >>= λ ts. called env.heads.classes at (array_built e (length ts)) ts (Some (array_parameters (length ts)))
 
 -- `cast<T>(e)`
 
--- a class or an interface, whose name is at this offset
+-- `cast_type at named` is a class or an interface, whose name is at this offset.
 abbrev pub cast_type : ℕ → Option ObjectType → Checking ObjectType
 cast_type at (Some (objects.Class class)) = Ok (objects.Class class)
 cast_type at (Some (objects.Interface interface)) = Ok (objects.Interface interface)
 cast_type at (Some _) = broken TypeMismatch at
 cast_type at None = broken UnknownType at
 
--- of an object or a handle
+-- An object or a handle is cast.
 unfoldable pub cast_at : ℕ → ObjectType → Typed → Checking Typed
 cast_at at to t = handle_of t.at t.ty >>= λ h. Ok (made at (ty.Handle to) (Cast to t.tree))
 
--- The walk. `left` is whether the expression stands left of `=`.
+-- The walk. `left` is whether the expression is left of `=`.
 abbrev mutual
   pub typed : Environment → Bool → written.Expr → Checking Typed
   typed env left (written.Number p n) = Ok (placed p.at (number_term n))
@@ -300,22 +323,27 @@ abbrev mutual
   typed env left (written.Brackets p e) = typed env false e >>= λ t. Ok (in_brackets p.at t)
   typed env left (written.Convert p to e) = typed env false e >>= λ t. convert_at p.at to t
   typed env left (written.NewArray p of es) = array_typed env p.at of (all_typed env es)
-  typed env left (written.Cast p to e) = cast_type to.place.at (object_named env.registered env.heads to.name) >>= λ o. typed env false e >>= λ t. cast_at p.at o t
+  typed env left (written.Cast p to e) =
+      cast_type to.place.at (object_named env.registered env.heads to.name) >>= λ o. typed env false e
+      >>= λ t. cast_at p.at o t
   typed env left (written.Postfix p e ss) = typed env false e >>= λ t. suffixes_typed env t ss
   typed env left (written.Unary p op e) = typed env false e >>= λ t. unary_at left p.at op t
   typed env left (written.Binary p e ls) = typed env false e >>= λ t. links_typed env t ls
-  typed env left (written.Conditional p c a b) = typed env false c >>= λ t. typed env false a >>= λ x. typed env false b >>= λ y. choice t x y
-  typed env left (written.Assign p e op v) = typed env (is_assign op) e >>= λ target. typed env false v >>= λ value. assigned env.heads.classes target op value
+  typed env left (written.Conditional p c a b) =
+      typed env false c >>= λ t. typed env false a >>= λ x. typed env false b >>= λ y. choice t x y
+  typed env left (written.Assign p e op v) =
+      typed env (is_assign op) e >>= λ target. typed env false v >>= λ value. assigned env.heads.classes target op value
 
   -- arguments, each in its turn
   pub all_typed : Environment → written.Exprs → Checking (List Typed)
   all_typed env written.no_expr = Ok []
   all_typed env (written.expr e es) = typed env false e >>= λ t. all_typed env es >>= λ ts. Ok (t ∷ ts)
 
-  -- operators of one level, each with what stands before it
+  -- operators of one level, each with what is before it
   pub links_typed : Environment → Typed → written.Links → Checking Typed
   links_typed env t written.no_link = Ok t
-  links_typed env t (written.link op e ls) = typed env false e >>= λ operand. operate op t operand >>= λ both. links_typed env both ls
+  links_typed env t (written.link op e ls) =
+      typed env false e >>= λ operand. operate op t operand >>= λ both. links_typed env both ls
 
   pub suffixes_typed : Environment → Typed → written.Suffixes → Checking Typed
   suffixes_typed env t written.no_suffix = Ok t
@@ -330,7 +358,7 @@ abbrev mutual
 
 -- offsets
 
--- where the first token of an expression stands
+-- `first_at e` is where the first token of an expression is.
 abbrev pub first_at : written.Expr → ℕ
 first_at (written.Postfix p e ss) = first_at e
 first_at (written.Binary p e ls) = first_at e
@@ -338,7 +366,7 @@ first_at (written.Conditional p c a b) = first_at c
 first_at (written.Assign p e op v) = first_at e
 first_at e = (written.place_of e).at
 
--- what the walk answers of terms
+-- `all_placed es ts` is what the walk gives of terms.
 abbrev pub all_placed : written.Exprs → List Term → List Typed
 all_placed (written.expr e es) (t ∷ ts) = placed (first_at e) t ∷ all_placed es ts
 all_placed _ _ = []

@@ -1,6 +1,8 @@
--- What is wrong where the fault of a module is told, for each rule: a phrase that breaks the rule stands there, with what
--- it sees. It is not said that nothing before is wrong: which fault is the first is in the definitions of the walk.
-use Rattle.std.specs.Prelude.{◌≡◌, ℕ, ◌+◌, Bool, true, false, ◌&&◌, ◌||◌, List, [], ◌∷◌, Option, Some, None, Ok, option_map, length, nat_eq, nat_le}
+-- What is wrong where the fault of a module is reported, for each rule: a phrase that breaks the rule is there, with
+-- what it sees. It is not said that nothing before is wrong: which fault is the first is in the definitions of the
+-- walk.
+use Rattle.std.specs.Prelude.{◌≡◌, ℕ, ◌+◌, Bool, true, false, ◌&&◌, ◌||◌, List, [], ◌∷◌, Option, Some, None, Ok}
+use Rattle.std.specs.Prelude.{option_map, length, nat_eq, nat_le}
 use Rattle.std.specs.List.{Any, list_any}
 use Rattle.std.specs.Option.{is_some}
 use Rattle.std.specs.Str.{bytes_eq}
@@ -24,7 +26,8 @@ use Rattle.ash_typing.specs.declared.fault.Fault.{Fault}
 use Rattle.ash_typing.specs.declared.types.Ty.{Ty}
 use Rattle.ash_typing.specs.declared.types.Ty.TheVariants as ty
 use Rattle.ash_typing.specs.Types.{is_interface, object_of}
-use Rattle.ash_typing.specs.Environment.{Environment, Callee, Invoked, declares, variable_in, callee_in, member_in, method_in, construction}
+use Rattle.ash_typing.specs.Environment.{Environment, Callee, Invoked, declares, variable_in, callee_in, member_in}
+use Rattle.ash_typing.specs.Environment.{method_in, construction}
 use Rattle.ash_typing.specs.Heads.{heads, object_named, ty_named}
 use Rattle.ash_typing.specs.Expressions.{Typed, is_void, is_assign, typed}
 use Rattle.ash_typing.specs.Terms.{assignable, is_stored, array_parameters}
@@ -37,27 +40,28 @@ use Rattle.ash_typing.specs.Returning.{returns_in}
 use Rattle.ash_typing.specs.Items.{is_taken}
 use Rattle.ash_tree.specs.Items.{Routine, classes_of, interfaces_of}
 use Rattle.ash_typing.specs.FaultPlaces.{breaks_at}
-use Rattle.ash_typing.specs.Mismatches.{counts_behind, Mismatches}
-use Rattle.ash_typing.specs.Phrases.{names_behind, names_of_members, names_of_methods, names_listed, Phrase, Expression, Suffixes, Initializer, Locals, Statement, Cases, Parameters, ARoutine, Variables, Methods, Interfaces, ClassMembers, Items, Stands}
+use Rattle.ash_typing.specs.Mismatches.{counts_after, Mismatches}
+use Rattle.ash_typing.specs.Phrases.{names_before, names_of_members, names_of_methods, names_listed, Phrase, Expression}
+use Rattle.ash_typing.specs.Phrases.{Suffixes, Initializer, Locals, Statement, Cases, Parameters, ARoutine, Variables}
+use Rattle.ash_typing.specs.Phrases.{Methods, Interfaces, ClassMembers, Items, Occurs}
 
--- how many arguments are given
+-- `argument_count es` is how many arguments there are.
+abbrev pub argument_count : written.Exprs → ℕ
+argument_count written.no_expr = 0
+argument_count (written.expr e es) = argument_count es + 1
 
-abbrev pub given : written.Exprs → ℕ
-given written.no_expr = 0
-given (written.expr e es) = given es + 1
+-- `initial_count i` is how many arguments the object takes that a variable begins with.
+abbrev pub initial_count : written.Initializer → ℕ
+initial_count written.Default = 0
+initial_count (written.Value e) = 1
+initial_count (written.Arguments es) = argument_count (written.exprs es)
 
--- to the object that a variable begins with
-abbrev pub given_first : written.Initializer → ℕ
-given_first written.Default = 0
-given_first (written.Value e) = 1
-given_first (written.Arguments es) = given (written.exprs es)
-
--- whether what is constructed takes something: of a type without factory nothing can be said
+-- What is constructed takes something: of a type without factory nothing can be said.
 abbrev pub is_constructible : Option Callee → Bool
 is_constructible None = false
 is_constructible (Some callee) = is_some callee.parameters
 
--- a class or an interface, where the names in types mean that
+-- The name of a type means a class or an interface.
 abbrev pub is_declared : Option ObjectType → Bool
 is_declared (Some (objects.Class place)) = true
 is_declared (Some (objects.Interface place)) = true
@@ -74,7 +78,7 @@ pub record Naming : Type 0 where
 abbrev pub naming : Place → List ℕ → Bool → Option Naming
 naming p text b = Some (record { at = p.at; text = text; is_refused = b })
 
--- whether a constructor stands among the members before
+-- A constructor is among the members before.
 abbrev pub has_constructor : List written.Member → Bool
 has_constructor [] = false
 has_constructor (written.AConstructor c ∷ ms) = true
@@ -85,11 +89,15 @@ has_constructor (written.AField v ∷ ms) = has_constructor ms
 -- before, a method of the interface before, an interface that the class lists before, a parameter before, or a local of
 -- the block. A class has one constructor.
 abbrev pub named_by : Phrase → Option Naming
-named_by (Items env before (written.AClass c ∷ is)) = naming c.place c.name (is_taken (names_behind env.registered before) c.name)
-named_by (Items env before (written.AnInterface i ∷ is)) = naming i.place i.name (is_taken (names_behind env.registered before) i.name)
-named_by (Items env before (written.AFunction f ∷ is)) = naming f.place f.name (is_taken (names_behind env.registered before) f.name)
+named_by (Items env before (written.AClass c ∷ is)) =
+    naming c.place c.name (is_taken (names_before env.registered before) c.name)
+named_by (Items env before (written.AnInterface i ∷ is)) =
+    naming i.place i.name (is_taken (names_before env.registered before) i.name)
+named_by (Items env before (written.AFunction f ∷ is)) =
+    naming f.place f.name (is_taken (names_before env.registered before) f.name)
 named_by (Variables env at of names (d ∷ ds)) = naming d.place d.name (is_taken names d.name)
-named_by (ClassMembers env class before (written.AMethod f ∷ ms)) = naming f.place f.name (is_taken (names_of_members before) f.name)
+named_by (ClassMembers env class before (written.AMethod f ∷ ms)) =
+    naming f.place f.name (is_taken (names_of_members before) f.name)
 named_by (ClassMembers env class before (written.AConstructor c ∷ ms)) = naming c.place c.name (has_constructor before)
 named_by (Methods env before (m ∷ ms)) = naming m.place m.name (is_taken (names_of_methods before) m.name)
 named_by (Interfaces env place before (n ∷ ns)) = naming n.place n.name (is_taken (names_listed before) n.name)
@@ -100,10 +108,13 @@ named_by _ = None
 -- What the first of these declares, where there may be only so many, and whether there are that many before it: 256
 -- classes and interfaces and 256 variables in a module, 32 members of a class or methods of an interface.
 abbrev pub counted_by : Phrase → Option Naming
-counted_by (Items env before (written.AClass c ∷ is)) = naming c.place c.name (nat_le 256 (length (classes_of before) + length (interfaces_of before)))
-counted_by (Items env before (written.AnInterface i ∷ is)) = naming i.place i.name (nat_le 256 (length (classes_of before) + length (interfaces_of before)))
+counted_by (Items env before (written.AClass c ∷ is)) =
+    naming c.place c.name (nat_le 256 (length (classes_of before) + length (interfaces_of before)))
+counted_by (Items env before (written.AnInterface i ∷ is)) =
+    naming i.place i.name (nat_le 256 (length (classes_of before) + length (interfaces_of before)))
 counted_by (Variables env at of names (d ∷ ds)) = naming d.place d.name (nat_eq names.room 0)
-counted_by (ClassMembers env class before (written.AMethod f ∷ ms)) = naming f.place f.name (nat_eq (names_of_members before).room 0)
+counted_by (ClassMembers env class before (written.AMethod f ∷ ms)) =
+    naming f.place f.name (nat_eq (names_of_members before).room 0)
 counted_by (Methods env before (m ∷ ms)) = naming m.place m.name (nat_eq (names_of_methods before).room 0)
 counted_by _ = None
 
@@ -114,33 +125,33 @@ pub record TypeUse : Type 0 where
   pub of : written.Named
   pub is_passed : Bool
 
--- the type of variables
-abbrev pub kept : written.Named → TypeUse
-kept of = record { of = of; is_passed = false }
+-- `stored_use of` is the type of variables.
+abbrev pub stored_use : written.Named → TypeUse
+stored_use of = record { of = of; is_passed = false }
 
--- the type of a parameter or of a result
+-- `passed of` is the type of a parameter or of a result.
 abbrev pub passed : written.Named → TypeUse
 passed of = record { of = of; is_passed = true }
 
--- the type that the first of these is declared by
+-- `written_by phrase` is the type that the first of these is declared by.
 abbrev pub written_by : Phrase → Option TypeUse
-written_by (Statement scope (written.Declare p v)) = Some (kept v.of)
-written_by (Items env before (written.AGlobal v ∷ is)) = Some (kept v.of)
-written_by (ClassMembers env class before (written.AField v ∷ ms)) = Some (kept v.of)
+written_by (Statement scope (written.Declare p v)) = Some (stored_use v.of)
+written_by (Items env before (written.AGlobal v ∷ is)) = Some (stored_use v.of)
+written_by (ClassMembers env class before (written.AField v ∷ ms)) = Some (stored_use v.of)
 written_by (Parameters env before (x ∷ xs)) = Some (passed x.of)
 written_by (Items env before (written.AFunction f ∷ is)) = option_map passed f.result
 written_by (ClassMembers env class before (written.AMethod f ∷ ms)) = option_map passed f.result
 written_by (Methods env before (m ∷ ms)) = option_map passed m.result
 written_by _ = None
 
--- whether an object of this type may not stand so: objects are passed by handles, and no variable stands for an object
--- of an interface
+-- An object of this type may not be so: objects are passed by handles, and no variable is itself an object of an
+-- interface.
 abbrev pub is_misplaced : TypeUse → ObjectType → Bool
 is_misplaced used o = used.is_passed || is_interface o
 
 -- what is written to
 
--- whether something may be assigned to what is typed so: to a place, of a type that takes a value
+-- Something may be assigned to what is typed so: to a place, of a type that takes a value.
 abbrev pub takes_value : Typed → Bool
 takes_value t = is_some (assignable t.form t.tree) && is_stored t.form t.ty
 
@@ -155,169 +166,181 @@ counts _ = false
 pub data IsWrong (calls : List Call) (script : List written.Item) : Rule → ℕ → Meaning → Type 0 where
   -- no local, field or global has this name
   no_variable : {env : Environment} {p : Place} {text : List ℕ}
-      → Stands calls script (Expression env (written.Name p text))
+      → Occurs calls script (Expression env (written.Name p text))
       → variable_in env text ≡ None
       → IsWrong calls script rules.UnknownName p.at (name text)
   -- no method, function, class or registered type or function has this name
   no_callee : {env : Environment} {p : Place} {text : List ℕ} {es : written.Exprs}
-      → Stands calls script (Expression env (written.Call p text es))
+      → Occurs calls script (Expression env (written.Call p text es))
       → callee_in env text ≡ None
       → IsWrong calls script rules.UnknownName p.at (name text)
-  -- objects of the type of what stands before the point have no field and no property of this name, or no method
+  -- objects of the type of what is before the point have no field and no property of this name, or no method
   no_member : {env : Environment} {t : Typed} {p : Place} {text : List ℕ} {ss : written.Suffixes} {o : ObjectType}
-      → Stands calls script (Suffixes env t (written.suffix (written.Field p text) ss))
+      → Occurs calls script (Suffixes env t (written.suffix (written.Field p text) ss))
       → object_of t.ty ≡ Some o
       → member_in env o text ≡ None
       → IsWrong calls script rules.UnknownName p.at (name text)
-  no_method : {env : Environment} {t : Typed} {p : Place} {text : List ℕ} {es : written.Exprs} {ss : written.Suffixes} {o : ObjectType}
-      → Stands calls script (Suffixes env t (written.suffix (written.Method p text es) ss))
+  no_method : {env : Environment} {t : Typed} {p : Place} {text : List ℕ} {es : written.Exprs} {ss : written.Suffixes}
+      {o : ObjectType}
+      → Occurs calls script (Suffixes env t (written.suffix (written.Method p text es) ss))
       → object_of t.ty ≡ Some o
       → method_in env o text ≡ None
       → IsWrong calls script rules.UnknownName p.at (name text)
   -- no class, interface or registered type has this name
   no_type : {x : Phrase} {used : TypeUse} {text : List ℕ}
-      → Stands calls script x
+      → Occurs calls script x
       → written_by x ≡ Some used
       → object_named calls (heads calls script) text ≡ None
       → IsWrong calls script rules.UnknownType (at_type_name used.of) (name text)
   no_cast_type : {env : Environment} {p : Place} {to : written.TypeName} {e : written.Expr}
-      → Stands calls script (Expression env (written.Cast p to e))
+      → Occurs calls script (Expression env (written.Cast p to e))
       → object_named calls (heads calls script) to.name ≡ None
       → IsWrong calls script rules.UnknownType to.place.at (name to.name)
   no_element_type : {env : Environment} {p at : Place} {text : List ℕ} {es : written.Exprs}
-      → Stands calls script (Expression env (written.NewArray p (written.HandleElement at text) es))
+      → Occurs calls script (Expression env (written.NewArray p (written.HandleElement at text) es))
       → object_named calls (heads calls script) text ≡ None
       → IsWrong calls script rules.UnknownType at.at (name text)
   -- a class lists what is neither an interface nor a class
-  no_interface : {env : Environment} {place : ℕ} {before : List written.TypeName} {n : written.TypeName} {ns : List written.TypeName}
-      → Stands calls script (Interfaces env place before (n ∷ ns))
+  no_interface : {env : Environment} {place : ℕ} {before : List written.TypeName} {n : written.TypeName}
+      {ns : List written.TypeName}
+      → Occurs calls script (Interfaces env place before (n ∷ ns))
       → is_declared (object_named calls (heads calls script) n.name) ≡ false
       → IsWrong calls script rules.UnknownType n.place.at (name n.name)
   -- another one of its space has the name that is declared
   taken : {x : Phrase} {n : Naming}
-      → Stands calls script x
+      → Occurs calls script x
       → named_by x ≡ Some n
       → n.is_refused ≡ true
       → IsWrong calls script rules.NameTaken n.at (name n.text)
   -- there are as many before as there may be
   too_many : {x : Phrase} {n : Naming}
-      → Stands calls script x
+      → Occurs calls script x
       → counted_by x ≡ Some n
       → n.is_refused ≡ true
       → IsWrong calls script rules.TooMany n.at (name n.text)
   -- what gives a value may end without one
   no_return : {env : Environment} {of : Ty} {r : Routine}
-      → Stands calls script (ARoutine env of r)
+      → Occurs calls script (ARoutine env of r)
       → is_void of ≡ false
       → returns_in r.body ≡ false
       → IsWrong calls script rules.NoReturn r.place.at (name r.name)
   -- what is called takes another number of arguments than it is given
-  call_count : {env : Environment} {p : Place} {text : List ℕ} {es : written.Exprs} {callee : Callee} {parameters : List Ty}
-      → Stands calls script (Expression env (written.Call p text es))
+  call_count : {env : Environment} {p : Place} {text : List ℕ} {es : written.Exprs} {callee : Callee}
+      {parameters : List Ty}
+      → Occurs calls script (Expression env (written.Call p text es))
       → callee_in env text ≡ Some callee
       → callee.parameters ≡ Some parameters
-      → nat_eq (length parameters) (given es) ≡ false
+      → nat_eq (length parameters) (argument_count es) ≡ false
       → IsWrong calls script rules.WrongArgumentCount p.at (name text)
-  method_count : {env : Environment} {t : Typed} {p : Place} {text : List ℕ} {es : written.Exprs} {ss : written.Suffixes} {o : ObjectType} {m : Invoked}
-      → Stands calls script (Suffixes env t (written.suffix (written.Method p text es) ss))
+  method_count : {env : Environment} {t : Typed} {p : Place} {text : List ℕ} {es : written.Exprs}
+      {ss : written.Suffixes} {o : ObjectType} {m : Invoked}
+      → Occurs calls script (Suffixes env t (written.suffix (written.Method p text es) ss))
       → object_of t.ty ≡ Some o
       → method_in env o text ≡ Some m
-      → nat_eq (length m.parameters) (given es) ≡ false
+      → nat_eq (length m.parameters) (argument_count es) ≡ false
       → IsWrong calls script rules.WrongArgumentCount p.at (name text)
   array_count : {env : Environment} {p : Place} {of : written.Element} {es : written.Exprs}
-      → Stands calls script (Expression env (written.NewArray p of es))
-      → nat_eq (length (array_parameters (given es))) (given es) ≡ false
+      → Occurs calls script (Expression env (written.NewArray p of es))
+      → nat_eq (length (array_parameters (argument_count es))) (argument_count es) ≡ false
       → IsWrong calls script rules.WrongArgumentCount p.at (reserved words.Array)
-  variable_count : {env : Environment} {of_at at : ℕ} {o : ObjectType} {i : written.Initializer} {callee : Callee} {parameters : List Ty} {m : Meaning}
-      → Stands calls script (Initializer env of_at at (ty.Object o) i)
-      → construction env o (given_first i) ≡ Some callee
+  variable_count : {env : Environment} {of_at at : ℕ} {o : ObjectType} {i : written.Initializer} {callee : Callee}
+      {parameters : List Ty} {m : Meaning}
+      → Occurs calls script (Initializer env of_at at (ty.Object o) i)
+      → construction env o (initial_count i) ≡ Some callee
       → callee.parameters ≡ Some parameters
-      → nat_eq (length parameters) (given_first i) ≡ false
+      → nat_eq (length parameters) (initial_count i) ≡ false
       → IsWrong calls script rules.WrongArgumentCount of_at m
   -- a registered type is constructed, and has no factory
   call_factory : {env : Environment} {p : Place} {text : List ℕ} {es : written.Exprs} {callee : Callee}
-      → Stands calls script (Expression env (written.Call p text es))
+      → Occurs calls script (Expression env (written.Call p text es))
       → callee_in env text ≡ Some callee
       → callee.parameters ≡ None
       → IsWrong calls script rules.NoFactory p.at (name text)
   variable_factory : {env : Environment} {of_at at : ℕ} {o : ObjectType} {i : written.Initializer} {m : Meaning}
-      → Stands calls script (Initializer env of_at at (ty.Object o) i)
-      → is_constructible (construction env o (given_first i)) ≡ false
+      → Occurs calls script (Initializer env of_at at (ty.Object o) i)
+      → is_constructible (construction env o (initial_count i)) ≡ false
       → IsWrong calls script rules.NoFactory of_at m
   -- the type of the value of a `switch` does not hold the constant of a label
-  out_of_range : {scope : Scope} {kind : Option Kind} {before : List Label} {p : Place} {l : Label} {ss : written.Stmts} {cs : written.Cases} {m : Meaning}
-      → Stands calls script (Cases scope kind before (written.next_case (written.labelled p l ss) cs))
+  out_of_range : {scope : Scope} {kind : Option Kind} {before : List Label} {p : Place} {l : Label} {ss : written.Stmts}
+      {cs : written.Cases} {m : Meaning}
+      → Occurs calls script (Cases scope kind before (written.next_case (written.labelled p l ss) cs))
       → is_within kind l ≡ false
       → IsWrong calls script rules.ConstantOutOfRange p.at m
   -- a label before has the same constant
-  duplicate : {scope : Scope} {kind : Option Kind} {before : List Label} {p : Place} {l : Label} {ss : written.Stmts} {cs : written.Cases} {m : Meaning}
-      → Stands calls script (Cases scope kind before (written.next_case (written.labelled p l ss) cs))
+  duplicate : {scope : Scope} {kind : Option Kind} {before : List Label} {p : Place} {l : Label} {ss : written.Stmts}
+      {cs : written.Cases} {m : Meaning}
+      → Occurs calls script (Cases scope kind before (written.next_case (written.labelled p l ss) cs))
       → list_any (is_same_constant l) before ≡ true
       → IsWrong calls script rules.DuplicateCase p.at m
   -- `this` where no object runs
   no_object : {env : Environment} {p : Place}
-      → Stands calls script (Expression env (written.This p))
+      → Occurs calls script (Expression env (written.This p))
       → env.this ≡ None
       → IsWrong calls script rules.Misplaced p.at (reserved words.This)
   -- `break` and `continue` where there is nothing that they leave
   no_loop_to_leave : {scope : Scope} {p : Place}
-      → Stands calls script (Statement scope (written.Break p))
+      → Occurs calls script (Statement scope (written.Break p))
       → (scope.in_loop || scope.in_switch) ≡ false
       → IsWrong calls script rules.Misplaced p.at (reserved words.Break)
   no_loop : {scope : Scope} {p : Place}
-      → Stands calls script (Statement scope (written.Continue p))
+      → Occurs calls script (Statement scope (written.Continue p))
       → scope.in_loop ≡ false
       → IsWrong calls script rules.Misplaced p.at (reserved words.Continue)
   -- `default` before another label
-  early_default : {scope : Scope} {kind : Option Kind} {before : List Label} {p : Place} {ss : written.Stmts} {cs : written.Cases}
-      → Stands calls script (Cases scope kind before (written.next_case (written.labelled p labels.Default ss) cs))
+  early_default : {scope : Scope} {kind : Option Kind} {before : List Label} {p : Place} {ss : written.Stmts}
+      {cs : written.Cases}
+      → Occurs calls script (Cases scope kind before (written.next_case (written.labelled p labels.Default ss) cs))
       → is_last cs ≡ false
       → IsWrong calls script rules.Misplaced p.at (reserved words.Default)
-  -- a type of objects is written where none of them may stand
+  -- a type of objects is written where none of them may be
   misplaced_type : {x : Phrase} {used : TypeUse} {o : ObjectType} {m : Meaning}
-      → Stands calls script x
+      → Occurs calls script x
       → written_by x ≡ Some used
       → ty_named calls (heads calls script) used.of ≡ ty.Object o
       → is_misplaced used o ≡ true
       → IsWrong calls script rules.Misplaced (at_type used.of) m
   -- a class lists a class
-  listed_class : {env : Environment} {place class : ℕ} {before : List written.TypeName} {n : written.TypeName} {ns : List written.TypeName}
-      → Stands calls script (Interfaces env place before (n ∷ ns))
+  listed_class : {env : Environment} {place class : ℕ} {before : List written.TypeName} {n : written.TypeName}
+      {ns : List written.TypeName}
+      → Occurs calls script (Interfaces env place before (n ∷ ns))
       → object_named calls (heads calls script) n.name ≡ Some (objects.Class class)
       → IsWrong calls script rules.Misplaced n.place.at (name n.name)
   -- a constructor has another name than its class
-  other_constructor : {env : Environment} {class : List ℕ} {before : List written.Member} {c : written.Constructor} {ms : List written.Member}
-      → Stands calls script (ClassMembers env class before (written.AConstructor c ∷ ms))
+  other_constructor : {env : Environment} {class : List ℕ} {before : List written.Member} {c : written.Constructor}
+      {ms : List written.Member}
+      → Occurs calls script (ClassMembers env class before (written.AConstructor c ∷ ms))
       → bytes_eq c.name class ≡ false
       → IsWrong calls script rules.Misplaced c.place.at (name c.name)
-  -- the type of an expression does not fit where it stands
+  -- the type of an expression does not fit where it is
   mismatch : {at : ℕ} {m : Meaning}
       → Mismatches calls script at
       → IsWrong calls script rules.TypeMismatch at m
-  -- what stands left of `=` or of `op=` takes no value
+  -- what is left of `=` or of `op=` takes no value
   takes_none : {env : Environment} {p : Place} {op : AssignOp} {e v : written.Expr} {t : Typed} {m : Meaning}
-      → Stands calls script (Expression env (written.Assign p e op v))
+      → Occurs calls script (Expression env (written.Assign p e op v))
       → typed env (is_assign op) e ≡ Ok t
       → takes_value t ≡ false
       → IsWrong calls script rules.NotAssignable t.at m
   -- what is counted up or down is no place
   no_place : {env : Environment} {p : Place} {op : UnaryOp} {e : written.Expr} {t : Typed} {m : Meaning}
-      → Stands calls script (Expression env (written.Unary p op e))
+      → Occurs calls script (Expression env (written.Unary p op e))
       → counts op ≡ true
       → typed env false e ≡ Ok t
       → assignable t.form t.tree ≡ None
       → IsWrong calls script rules.NotAssignable t.at m
   no_place_before : {env : Environment} {t : Typed} {s : written.Suffix} {ss : written.Suffixes} {m : Meaning}
-      → Stands calls script (Suffixes env t (written.suffix s ss))
-      → counts_behind s ≡ true
+      → Occurs calls script (Suffixes env t (written.suffix s ss))
+      → counts_after s ≡ true
       → assignable t.form t.tree ≡ None
       → IsWrong calls script rules.NotAssignable t.at m
   -- a variable of objects begins with a value: objects are constructed
   object_assigned : {env : Environment} {of_at at : ℕ} {o : ObjectType} {e : written.Expr} {m : Meaning}
-      → Stands calls script (Initializer env of_at at (ty.Object o) (written.Value e))
+      → Occurs calls script (Initializer env of_at at (ty.Object o) (written.Value e))
       → IsWrong calls script rules.NotAssignable at m
 
--- A token of the list has its first byte at the offset of the fault, means what one of its rule may, and there the rule is
--- broken.
+-- A token of the list has its first byte at the offset of the fault, means what one of its rule may, and there the rule
+-- is broken.
 abbrev pub IsBrokenAt : List Call → List written.Item → Tokens → Fault → Type 0
-IsBrokenAt calls script tokens f = Any (λ token. (token.1.at ≡ f.at) × (breaks_at f.rule token.0 ≡ true) × IsWrong calls script f.rule f.at token.0) tokens
+IsBrokenAt calls script tokens f =
+    Any (λ token. (token.1.at ≡ f.at) × (breaks_at f.rule token.0 ≡ true) × IsWrong calls script f.rule f.at token.0)
+    tokens

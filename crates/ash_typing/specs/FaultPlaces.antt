@@ -62,8 +62,8 @@ begins_misplaced (reserved words.Default) = true
 begins_misplaced (reserved words.Array) = true
 begins_misplaced m = is_name m
 
--- A fault of this rule may be at a token that means this: where the rule is of names, at a name; where it is of the type
--- of a value or of what is written to, at the first token of an expression, or of `return`.
+-- A fault of this rule may be at a token that means this: where the rule is of names, at a name; where it is of the
+-- type of a value or of what is written to, at the first token of an expression, or of `return`.
 abbrev pub breaks_at : Rule → Meaning → Bool
 breaks_at rules.UnknownName m = is_name m
 breaks_at rules.UnknownType m = is_name m

@@ -12,11 +12,11 @@ use Rattle.ash_typing.specs.Environment.{Class}
 abbrev pub has_interface : ℕ → Class → Bool
 has_interface interface c = list_any (nat_eq interface) c.interfaces
 
--- the class of the first place lists the interface of the second
+-- The class of the first place lists the interface of the second.
 unfoldable pub lists : List Class → ℕ → ℕ → Bool
 lists classes class interface = option_map_or (has_interface interface) (slice_get classes class) false
 
--- whether an object of the second type is one of the first
+-- An object of the second type is one of the first.
 abbrev pub is_of : List Class → ObjectType → ObjectType → Bool
 is_of classes (OfInterface interface) (OfClass class) = lists classes class interface
 is_of classes o p = is_same_object o p

@@ -1,5 +1,5 @@
 -- What a module declares, as each of its items sees it: items see each other in any order. Of several items of one name
--- the first counts, and what is of an unknown type is told where it is declared.
+-- the first counts, and what is of an unknown type is reported where it is declared.
 use Rattle.std.specs.Prelude.{ℕ, List, [], ◌∷◌, ◌++◌, Option, Some, None, map, find}
 use Rattle.std.specs.Option.{option_and_then, option_map, option_or}
 use Rattle.ash_registrations.specs.Calls as host
@@ -10,12 +10,15 @@ use Rattle.ash_tree.specs.declared.tree.types.Primitive.TheVariants as primitive
 use Rattle.ash_typed.specs.declared.types.Kind.TheVariants.{Int, Uint, Int64, Uint64}
 use Rattle.ash_typed.specs.declared.types.Element.{Element}
 use Rattle.ash_typed.specs.declared.types.Element.TheVariants as elements
-use Rattle.ash_typed.specs.declared.types.ObjectType.TheVariants.{Class as OfClass, Interface as OfInterface, Host as OfHost, Array as OfArray}
+use Rattle.ash_typed.specs.declared.types.ObjectType.TheVariants.{Class as OfClass, Interface as OfInterface}
+use Rattle.ash_typed.specs.declared.types.ObjectType.TheVariants.{Host as OfHost, Array as OfArray}
 use Rattle.ash_typing.specs.declared.types.Ty.{Ty}
 use Rattle.ash_typing.specs.declared.types.Ty.TheVariants as ty
 use Rattle.ash_typing.specs.Types.{ty_of}
-use Rattle.ash_typing.specs.Environment.{Declared, Function, Interface, Class, Heads, first_from, is_class, is_interface_named, Environment}
-use Rattle.ash_tree.specs.Items.{classes_of, interfaces_of, functions_of, globals_of, fields_of, methods_of, constructors_of}
+use Rattle.ash_typing.specs.Environment.{Declared, Function, Interface, Class, Heads, first_from, is_class}
+use Rattle.ash_typing.specs.Environment.{is_interface_named, Environment}
+use Rattle.ash_tree.specs.Items.{classes_of, interfaces_of, functions_of, globals_of, fields_of, methods_of}
+use Rattle.ash_tree.specs.Items.{constructors_of}
 
 -- types by their names
 
@@ -27,11 +30,14 @@ host_object (host.AType name kind) = Some (OfHost kind)
 host_object _ = None
 
 abbrev pub interface_type : List Interface → List ℕ → Option ObjectType
-interface_type interfaces name = option_map (λ (found : ℕ × Interface). OfInterface found.0) (first_from (is_interface_named name) 0 interfaces)
+interface_type interfaces name =
+    option_map (λ (found : ℕ × Interface). OfInterface found.0) (first_from (is_interface_named name) 0 interfaces)
 
--- a class of the module, else an interface, else a registered type
+-- The name is that of a class of the module, else of an interface, else of a registered type.
 unfoldable pub object_named : List host.Call → Heads → List ℕ → Option ObjectType
-object_named calls named name = option_or (class_type named.classes name) (option_or (interface_type named.interfaces name) (option_and_then host_object (find (host.takes_name name) calls)))
+object_named calls named name =
+    option_or (class_type named.classes name)
+    (option_or (interface_type named.interfaces name) (option_and_then host_object (find (host.takes_name name) calls)))
 
 -- what the elements of an array are of
 
@@ -63,7 +69,7 @@ abbrev pub handle_ty : Option ObjectType → Ty
 handle_ty None = ty.Unknown
 handle_ty (Some o) = ty.Handle o
 
--- the type that is written
+-- `ty_named calls named of` is the type that is written.
 unfoldable pub ty_named : List host.Call → Heads → written.Named → Ty
 ty_named calls named (written.Prim p primitive) = ty_of primitive
 ty_named calls named (written.Object p name) = object_ty (object_named calls named name)
@@ -71,14 +77,14 @@ ty_named calls named (written.Handle p name) = handle_ty (object_named calls nam
 ty_named calls named (written.Array p of) = object_ty (array_named calls named of)
 ty_named calls named (written.ArrayHandle p of) = handle_ty (array_named calls named of)
 
--- what a function gives
+-- `result_named calls named result` is what a function gives.
 abbrev pub result_named : List host.Call → Heads → Option written.Named → Ty
 result_named calls named None = ty.Void
 result_named calls named (Some of) = ty_named calls named of
 
 -- the same where they are seen
 
--- the type that is written
+-- `ty_in env of` is the type that is written, where it is seen.
 abbrev pub ty_in : Environment → written.Named → Ty
 ty_in env of = ty_named env.registered env.heads of
 
@@ -93,7 +99,7 @@ declared of d = record { name = d.name; of = of }
 abbrev pub variables : List host.Call → Heads → written.Vars → List Declared
 variables calls named v = map (declared (ty_named calls named v.of)) v.decls
 
--- the variables of several declarations
+-- `all_variables calls named vs` are the variables of several declarations.
 abbrev pub all_variables : List host.Call → Heads → List written.Vars → List Declared
 all_variables calls named [] = []
 all_variables calls named (v ∷ vs) = variables calls named v ++ all_variables calls named vs
@@ -102,15 +108,23 @@ abbrev pub parameter_ty : List host.Call → Heads → written.Parameter → Ty
 parameter_ty calls named p = ty_named calls named p.of
 
 abbrev pub function_head : List host.Call → Heads → written.Function → Function
-function_head calls named f = record { name = f.name; result = result_named calls named f.result; parameters = map (parameter_ty calls named) f.parameters }
+function_head calls named f = record {
+  name = f.name;
+  result = result_named calls named f.result;
+  parameters = map (parameter_ty calls named) f.parameters;
+}
 
 abbrev pub signature_head : List host.Call → Heads → written.InterfaceMethod → Function
-signature_head calls named m = record { name = m.name; result = result_named calls named m.result; parameters = map (parameter_ty calls named) m.parameters }
+signature_head calls named m = record {
+  name = m.name;
+  result = result_named calls named m.result;
+  parameters = map (parameter_ty calls named) m.parameters;
+}
 
 abbrev pub interface_head : List host.Call → Heads → written.Interface → Interface
 interface_head calls named i = record { name = i.name; methods = map (signature_head calls named) i.methods }
 
--- what the construction of an object takes: nothing where no constructor is written
+-- `constructed_by calls named cs` is what the construction of an object takes: nothing where no constructor is written.
 abbrev pub constructed_by : List host.Call → Heads → List written.Constructor → List Ty
 constructed_by calls named [] = []
 constructed_by calls named (c ∷ cs) = map (parameter_ty calls named) c.parameters
@@ -127,10 +141,17 @@ with_place (Some place) places = place ∷ places
 
 abbrev pub listed_in : List host.Call → Heads → List written.TypeName → List ℕ
 listed_in calls named [] = []
-listed_in calls named (n ∷ ns) = with_place (interface_place (object_named calls named n.name)) (listed_in calls named ns)
+listed_in calls named (n ∷ ns) =
+    with_place (interface_place (object_named calls named n.name)) (listed_in calls named ns)
 
 abbrev pub class_head : List host.Call → Heads → written.Class → Class
-class_head calls named c = record { name = c.name; interfaces = listed_in calls named c.interfaces; fields = all_variables calls named (fields_of c.members); methods = map (function_head calls named) (methods_of c.members); parameters = constructed_by calls named (constructors_of c.members) }
+class_head calls named c = record {
+  name = c.name;
+  interfaces = listed_in calls named c.interfaces;
+  fields = all_variables calls named (fields_of c.members);
+  methods = map (function_head calls named) (methods_of c.members);
+  parameters = constructed_by calls named (constructors_of c.members);
+}
 
 -- a class and an interface of which only the name is known, since types name no more of them
 
@@ -140,12 +161,22 @@ named_class c = record { name = c.name; interfaces = []; fields = []; methods = 
 abbrev pub named_interface : written.Interface → Interface
 named_interface i = record { name = i.name; methods = [] }
 
--- what types name
+-- `names_in is` is what types name.
 abbrev pub names_in : List written.Item → Heads
-names_in is = record { interfaces = map named_interface (interfaces_of is); classes = map named_class (classes_of is); functions = []; globals = [] }
+names_in is = record {
+  interfaces = map named_interface (interfaces_of is);
+  classes = map named_class (classes_of is);
+  functions = [];
+  globals = [];
+}
 
 abbrev pub heads_by : List host.Call → Heads → List written.Item → Heads
-heads_by calls named is = record { interfaces = map (interface_head calls named) (interfaces_of is); classes = map (class_head calls named) (classes_of is); functions = map (function_head calls named) (functions_of is); globals = all_variables calls named (globals_of is) }
+heads_by calls named is = record {
+  interfaces = map (interface_head calls named) (interfaces_of is);
+  classes = map (class_head calls named) (classes_of is);
+  functions = map (function_head calls named) (functions_of is);
+  globals = all_variables calls named (globals_of is);
+}
 
 unfoldable pub heads : List host.Call → List written.Item → Heads
 heads calls is = heads_by calls (names_in is) is

@@ -10,11 +10,11 @@ are_same [] [] = true
 are_same (t ∷ ts) (u ∷ us) = is_same t u && are_same ts us
 are_same _ _ = false
 
--- whether a method has the result and the parameters of another
+-- A method has the result and the parameters of another.
 abbrev pub has_types_of : Function → Function → Bool
 has_types_of f g = is_same f.result g.result && are_same f.parameters g.parameters
 
--- the place of the method of a class that a method of an interface runs
+-- `matching f found` is the place of the method of a class that a method of an interface runs.
 abbrev pub matching : Function → Option (ℕ × Function) → Option ℕ
 matching f None = None
 matching f (Some (place, g)) = if has_types_of f g then Some place else None
@@ -26,7 +26,7 @@ abbrev pub with_first : Option ℕ → Option (List ℕ) → Option (List ℕ)
 with_first (Some place) (Some places) = Some (place ∷ places)
 with_first _ _ = None
 
--- the places of those for each method of an interface, where the class has them all
+-- `methods_for methods fs` are the places of those for each method of an interface, where the class has them all.
 abbrev pub methods_for : List Function → List Function → Option (List ℕ)
 methods_for methods [] = Some []
 methods_for methods (f ∷ fs) = with_first (method_for methods f) (methods_for methods fs)
@@ -37,6 +37,8 @@ methods_of_class c = c.methods
 abbrev pub methods_of_interface : Interface → List Function
 methods_of_interface i = i.methods
 
--- the class of this place has the methods of the interface of that place
+-- The class of this place has the methods of the interface of that place.
 unfoldable pub implemented : Environment → ℕ → ℕ → Option (List ℕ)
-implemented env class interface = methods_for (option_map_or methods_of_class (slice_get env.heads.classes class) []) (option_map_or methods_of_interface (slice_get env.heads.interfaces interface) [])
+implemented env class interface =
+    methods_for (option_map_or methods_of_class (slice_get env.heads.classes class) [])
+    (option_map_or methods_of_interface (slice_get env.heads.interfaces interface) [])

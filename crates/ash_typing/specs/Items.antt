@@ -1,13 +1,15 @@
 -- The typing of a module, or its first fault. Items are walked in source order: an item's types and names in the order
 -- of the text, then its body. The members of a class, and the variables of one declaration, are items of their own. Of
--- several faults of one name the one that stands first in the list of rules is told.
-use Rattle.std.specs.Prelude.{ℕ, ◌+◌, ◌-◌, List, [], ◌∷◌, ◌++◌, Bool, ◌||◌, Option, Some, None, Ok, map, length, nat_eq, nat_le, if◌then◌else◌}
+-- several faults of one name the one that comes first in the list of rules is reported.
+use Rattle.std.specs.Prelude.{ℕ, ◌+◌, ◌-◌, List, [], ◌∷◌, ◌++◌, Bool, ◌||◌, Option, Some, None, Ok, map, length, nat_eq}
+use Rattle.std.specs.Prelude.{nat_le, if◌then◌else◌}
 use Rattle.std.specs.List.{list_any}
 use Rattle.std.specs.Option.{is_some}
 use Rattle.std.specs.Str.{bytes_eq}
 use Rattle.ash_registrations.specs.Calls as host
 use Rattle.ash_tree.specs.Tree as written
-use Rattle.ash_typing.specs.declared.fault.Rule.TheVariants.{UnknownType, NameTaken, TypeMismatch, NoReturn, Misplaced, TooMany}
+use Rattle.ash_typing.specs.declared.fault.Rule.TheVariants.{UnknownType, NameTaken, TypeMismatch, NoReturn, Misplaced}
+use Rattle.ash_typing.specs.declared.fault.Rule.TheVariants.{TooMany}
 use Rattle.ash_typing.specs.declared.types.Ty.{Ty}
 use Rattle.ash_typing.specs.declared.types.Ty.TheVariants as ty
 use Rattle.ash_typed.specs.declared.types.ObjectType.{ObjectType}
@@ -40,20 +42,24 @@ pub record Names : Type 0 where
 abbrev pub is_taken : Names → List ℕ → Bool
 is_taken names name = is_some (named_in names.registered name) || list_any (bytes_eq name) names.taken
 
--- a name at this offset that was not taken, and is from now on
+-- The name at this offset was not taken, and is from now on.
 unfoldable pub untaken : Names → ℕ → List ℕ → Checking Names
-untaken names at name = if is_taken names name then broken NameTaken at else Ok (record { registered = names.registered; taken = names.taken ++ name ∷ []; room = names.room })
+untaken names at name =
+    if is_taken names name then broken NameTaken at
+    else Ok (record { registered = names.registered; taken = names.taken ++ name ∷ []; room = names.room })
 
--- one more, at this offset
+-- There may be one more, at this offset.
 unfoldable pub one_more : Names → ℕ → Checking Names
-one_more names at = if nat_eq names.room 0 then broken TooMany at else Ok (record { registered = names.registered; taken = names.taken; room = names.room - 1 })
+one_more names at =
+    if nat_eq names.room 0 then broken TooMany at
+    else Ok (record { registered = names.registered; taken = names.taken; room = names.room - 1 })
 
 abbrev pub placed : Names → ℕ → List ℕ → Checking Names
 placed names at name = untaken names at name >>= λ next. one_more next at
 
 -- types
 
--- the type of a parameter or of a result: objects are passed by handles
+-- A parameter or a result may be of this type: objects are passed by handles.
 unfoldable pub passed_ty : written.Named → Ty → Checking Ty
 passed_ty of ty.Unknown = broken UnknownType (at_type_name of)
 passed_ty of (ty.Object o) = broken Misplaced (at_type of)
@@ -65,7 +71,7 @@ result_typed env (Some of) = passed_ty of (ty_in env of)
 
 -- variables of a module or of a class
 
--- variables so far
+-- A row has the variables so far.
 pub record Row : Type 0 where
   pub names : Names
   pub variables : Variables
@@ -75,59 +81,79 @@ with_variable v value = record { line = v.line; values = v.values ++ value ∷ [
 
 abbrev pub decls_typed : Environment → ℕ → Ty → Row → List written.Decl → Checking Row
 decls_typed env at of row [] = Ok row
-decls_typed env at of row (d ∷ ds) = placed row.names d.place.at d.name >>= λ names. decl_typed env at of d >>= λ value. decls_typed env at of (record { names = names; variables = with_variable row.variables value }) ds
+decls_typed env at of row (d ∷ ds) =
+    placed row.names d.place.at d.name >>= λ names. decl_typed env at of d
+    >>= λ value. decls_typed env at of (record { names = names; variables = with_variable row.variables value }) ds
 
 abbrev pub no_variables : written.Named → Variables
 no_variables of = record { line = (written.place_of_type of).line; values = [] }
 
 unfoldable pub vars_typed : Environment → Names → written.Vars → Checking Row
-vars_typed env names v = known_ty v.of (ty_in env v.of) >>= λ of. decls_typed env (at_type v.of) of (record { names = names; variables = no_variables v.of }) v.decls
+vars_typed env names v =
+    known_ty v.of (ty_in env v.of)
+    >>= λ of. decls_typed env (at_type v.of) of (record { names = names; variables = no_variables v.of }) v.decls
 
 -- functions
 
 abbrev pub parameters_typed : Environment → List Declared → List written.Parameter → Checking (List Declared)
 parameters_typed env before [] = Ok before
-parameters_typed env before (p ∷ ps) = passed_ty p.of (ty_in env p.of) >>= λ of. if list_any (declares p.name) before then broken NameTaken p.place.at else parameters_typed env (before ++ record { name = p.name; of = of } ∷ []) ps
+parameters_typed env before (p ∷ ps) =
+    passed_ty p.of (ty_in env p.of) >>= λ of. if list_any (declares p.name) before then broken NameTaken p.place.at
+    else parameters_typed env (before ++ record { name = p.name; of = of } ∷ []) ps
 
--- a function with a result has to return
+-- A function with a result has to return.
 unfoldable pub returning : ℕ → Ty → List written.Stmt → Body → Checking Body
 returning at of statements body = if is_void of || returns_in statements then Ok body else broken NoReturn at
 
 unfoldable pub routine_typed : Environment → Ty → Routine → Checking Function
-routine_typed env of c = parameters_typed env [] c.parameters >>= λ locals. body_typed (with_locals env locals) of c.body >>= λ body. returning c.place.at of c.body body >>= λ done. Ok (record { name = c.name; line = c.place.line; result = result_type of; parameters = map type_declared locals; body = done })
+routine_typed env of c =
+    parameters_typed env [] c.parameters >>= λ locals. body_typed (with_locals env locals) of c.body
+    >>= λ body. returning c.place.at of c.body body
+    >>= λ done. Ok (record {
+      name = c.name;
+      line = c.place.line;
+      result = result_type of;
+      parameters = map type_declared locals;
+      body = done;
+    })
 
 -- interfaces
 
--- an interface so far
+-- These are the names and the methods of an interface so far.
 pub record Signatures : Type 0 where
   pub names : Names
   pub methods : List Signature
 
 abbrev pub signature_of : List ℕ → Ty → List Declared → Signature
-signature_of name of parameters = record { name = name; result = result_type of; parameters = map type_declared parameters }
+signature_of name of parameters =
+    record { name = name; result = result_type of; parameters = map type_declared parameters }
 
--- a method that an interface declares, behind those before it
+-- An interface declares a method, after those before it.
 unfoldable pub signature_typed : Environment → Signatures → written.InterfaceMethod → Checking Signatures
-signature_typed env ss m = result_typed env m.result >>= λ of. placed ss.names m.place.at m.name >>= λ names. parameters_typed env [] m.parameters >>= λ parameters. Ok (record { names = names; methods = ss.methods ++ signature_of m.name of parameters ∷ [] })
+signature_typed env ss m =
+    result_typed env m.result >>= λ of. placed ss.names m.place.at m.name
+    >>= λ names. parameters_typed env [] m.parameters
+    >>= λ parameters. Ok (record { names = names; methods = ss.methods ++ signature_of m.name of parameters ∷ [] })
 
 abbrev pub signatures_typed : Environment → Signatures → List written.InterfaceMethod → Checking Signatures
 signatures_typed env ss [] = Ok ss
 signatures_typed env ss (m ∷ ms) = signature_typed env ss m >>= λ next. signatures_typed env next ms
 
--- there are at most 32 methods in an interface
+-- An interface has at most 32 methods.
 abbrev pub no_signatures : Signatures
 no_signatures = record { names = record { registered = []; taken = []; room = 32 }; methods = [] }
 
 abbrev pub interface_of : written.Interface → ℕ → Signatures → Interface
-interface_of i classes ss = record { name = i.name; line = i.place.line; classes_before = classes; methods = ss.methods }
+interface_of i classes ss =
+    record { name = i.name; line = i.place.line; classes_before = classes; methods = ss.methods }
 
--- an interface behind so many classes
+-- An interface comes after so many classes.
 unfoldable pub interface_typed : Environment → ℕ → written.Interface → Checking Interface
 interface_typed env classes i = signatures_typed env no_signatures i.methods >>= λ ss. Ok (interface_of i classes ss)
 
 -- the interfaces that a class lists
 
--- an interface, whose name is at this offset
+-- The name of an interface is at this offset.
 abbrev pub listed_at : ℕ → Option ObjectType → Checking ℕ
 listed_at at (Some (OfInterface place)) = Ok place
 listed_at at (Some (OfClass place)) = broken Misplaced at
@@ -137,14 +163,18 @@ abbrev pub implemented_at : ℕ → ℕ → Option (List ℕ) → Checking Imple
 implemented_at at interface None = broken TypeMismatch at
 implemented_at at interface (Some methods) = Ok (record { interface = interface; methods = methods })
 
--- the interfaces so far
+-- These are the interfaces so far.
 pub record Listed : Type 0 where
   pub names : Names
   pub interfaces : List Implementation
 
--- one of those that the class of this place lists, behind those before it
+-- The class of this place lists an interface, after those before it.
 unfoldable pub listed_typed : Environment → ℕ → Listed → written.TypeName → Checking Listed
-listed_typed env class listed n = listed_at n.place.at (object_named env.registered env.heads n.name) >>= λ interface. untaken listed.names n.place.at n.name >>= λ names. implemented_at n.place.at interface (implemented env class interface) >>= λ implementation. Ok (record { names = names; interfaces = listed.interfaces ++ implementation ∷ [] })
+listed_typed env class listed n =
+    listed_at n.place.at (object_named env.registered env.heads n.name)
+    >>= λ interface. untaken listed.names n.place.at n.name
+    >>= λ names. implemented_at n.place.at interface (implemented env class interface)
+    >>= λ implementation. Ok (record { names = names; interfaces = listed.interfaces ++ implementation ∷ [] })
 
 abbrev pub all_listed : Environment → ℕ → Listed → List written.TypeName → Checking Listed
 all_listed env class listed [] = Ok listed
@@ -155,81 +185,140 @@ none_listed = record { names = record { registered = []; taken = []; room = 0 };
 
 -- classes
 
--- a class so far
+-- These are the members of a class so far.
 pub record Members : Type 0 where
   pub names : Names
   pub class : Class
 
 abbrev pub with_fields : Class → Variables → Class
-with_fields c v = record { name = c.name; line = c.line; interfaces = c.interfaces; fields = c.fields ++ v.values; constructor = c.constructor; methods = c.methods }
+with_fields c v = record {
+  name = c.name;
+  line = c.line;
+  interfaces = c.interfaces;
+  fields = c.fields ++ v.values;
+  constructor = c.constructor;
+  methods = c.methods;
+}
 
 abbrev pub with_method : Class → Function → Class
-with_method c f = record { name = c.name; line = c.line; interfaces = c.interfaces; fields = c.fields; constructor = c.constructor; methods = c.methods ++ f ∷ [] }
+with_method c f = record {
+  name = c.name;
+  line = c.line;
+  interfaces = c.interfaces;
+  fields = c.fields;
+  constructor = c.constructor;
+  methods = c.methods ++ f ∷ [];
+}
 
 abbrev pub with_constructor : Class → Function → Class
-with_constructor c f = record { name = c.name; line = c.line; interfaces = c.interfaces; fields = c.fields; constructor = Some f; methods = c.methods }
+with_constructor c f = record {
+  name = c.name;
+  line = c.line;
+  interfaces = c.interfaces;
+  fields = c.fields;
+  constructor = Some f;
+  methods = c.methods;
+}
 
--- a class has one constructor, which has its name
+-- A class has one constructor, which has its name.
 unfoldable pub constructor_named : Class → written.Constructor → Checking Routine
-constructor_named class c = if is_some class.constructor then broken NameTaken c.place.at else (if bytes_eq c.name class.name then Ok (constructing c) else broken Misplaced c.place.at)
+constructor_named class c =
+    if is_some class.constructor then broken NameTaken c.place.at
+    else (if bytes_eq c.name class.name then Ok (constructing c) else broken Misplaced c.place.at)
 
 unfoldable pub member_typed : Environment → Members → written.Member → Checking Members
-member_typed env ms (written.AField v) = vars_typed env ms.names v >>= λ row. Ok (record { names = row.names; class = with_fields ms.class row.variables })
-member_typed env ms (written.AMethod f) = result_typed env f.result >>= λ of. placed ms.names f.place.at f.name >>= λ names. routine_typed env of (routine_of f) >>= λ t. Ok (record { names = names; class = with_method ms.class t })
-member_typed env ms (written.AConstructor c) = constructor_named ms.class c >>= λ named. routine_typed env ty.Void named >>= λ t. Ok (record { names = ms.names; class = with_constructor ms.class t })
+member_typed env ms (written.AField v) =
+    vars_typed env ms.names v >>= λ row. Ok (record { names = row.names; class = with_fields ms.class row.variables })
+member_typed env ms (written.AMethod f) =
+    result_typed env f.result >>= λ of. placed ms.names f.place.at f.name
+    >>= λ names. routine_typed env of (routine_of f)
+    >>= λ t. Ok (record { names = names; class = with_method ms.class t })
+member_typed env ms (written.AConstructor c) =
+    constructor_named ms.class c >>= λ named. routine_typed env ty.Void named
+    >>= λ t. Ok (record { names = ms.names; class = with_constructor ms.class t })
 
 abbrev pub members_typed : Environment → Members → List written.Member → Checking Members
 members_typed env ms [] = Ok ms
 members_typed env ms (m ∷ rest) = member_typed env ms m >>= λ next. members_typed env next rest
 
--- there are at most 32 fields and methods in a class
+-- A class has at most 32 fields and methods.
 abbrev pub no_members : written.Class → List Implementation → Members
-no_members c listed = record { names = record { registered = []; taken = []; room = 32 }; class = record { name = c.name; line = c.place.line; interfaces = listed; fields = []; constructor = None; methods = [] } }
+no_members c listed = record {
+  names = record { registered = []; taken = []; room = 32 };
+  class = record {
+    name = c.name;
+    line = c.place.line;
+    interfaces = listed;
+    fields = [];
+    constructor = None;
+    methods = [];
+  };
+}
 
 abbrev pub class_of_members : Members → Class
 class_of_members ms = ms.class
 
--- the class of this place
+-- The class of this place is typed so.
 unfoldable pub class_typed : Environment → ℕ → written.Class → Checking Class
-class_typed env place c = all_listed env place none_listed c.interfaces >>= λ listed. members_typed (inside env place) (no_members c listed.interfaces) c.members >>= λ ms. Ok (class_of_members ms)
+class_typed env place c =
+    all_listed env place none_listed c.interfaces
+    >>= λ listed. members_typed (inside env place) (no_members c listed.interfaces) c.members
+    >>= λ ms. Ok (class_of_members ms)
 
 -- modules
 
--- a module so far
+-- These are the items of a module so far.
 pub record Walked : Type 0 where
   pub names : Names
   pub typed : Module
 
--- there are at most 256 classes and interfaces in a module
+-- A module has at most 256 classes and interfaces.
 unfoldable pub room_for_type : ℕ → Module → Checking ℕ
-room_for_type at m = if nat_le 256 (length m.classes + length m.interfaces) then broken TooMany at else Ok (length m.classes)
+room_for_type at m =
+    if nat_le 256 (length m.classes + length m.interfaces) then broken TooMany at else Ok (length m.classes)
 
 abbrev pub with_interface : Module → Interface → Module
-with_interface m i = record { interfaces = m.interfaces ++ i ∷ []; classes = m.classes; functions = m.functions; globals = m.globals }
+with_interface m i =
+    record { interfaces = m.interfaces ++ i ∷ []; classes = m.classes; functions = m.functions; globals = m.globals }
 
 abbrev pub with_class : Module → Class → Module
-with_class m c = record { interfaces = m.interfaces; classes = m.classes ++ c ∷ []; functions = m.functions; globals = m.globals }
+with_class m c =
+    record { interfaces = m.interfaces; classes = m.classes ++ c ∷ []; functions = m.functions; globals = m.globals }
 
 abbrev pub with_function : Module → Function → Module
-with_function m f = record { interfaces = m.interfaces; classes = m.classes; functions = m.functions ++ f ∷ []; globals = m.globals }
+with_function m f =
+    record { interfaces = m.interfaces; classes = m.classes; functions = m.functions ++ f ∷ []; globals = m.globals }
 
 abbrev pub with_globals : Module → Variables → Module
-with_globals m v = record { interfaces = m.interfaces; classes = m.classes; functions = m.functions; globals = m.globals ++ v ∷ [] }
+with_globals m v =
+    record { interfaces = m.interfaces; classes = m.classes; functions = m.functions; globals = m.globals ++ v ∷ [] }
 
--- the next item
+-- The next item is typed so.
 unfoldable pub item_typed : Environment → Walked → written.Item → Checking Walked
-item_typed env w (written.AClass c) = untaken w.names c.place.at c.name >>= λ names. room_for_type c.place.at w.typed >>= λ place. class_typed env place c >>= λ t. Ok (record { names = names; typed = with_class w.typed t })
-item_typed env w (written.AnInterface i) = untaken w.names i.place.at i.name >>= λ names. room_for_type i.place.at w.typed >>= λ classes. interface_typed env classes i >>= λ t. Ok (record { names = names; typed = with_interface w.typed t })
-item_typed env w (written.AFunction f) = result_typed env f.result >>= λ of. untaken w.names f.place.at f.name >>= λ names. routine_typed env of (routine_of f) >>= λ t. Ok (record { names = names; typed = with_function w.typed t })
-item_typed env w (written.AGlobal v) = vars_typed env w.names v >>= λ row. Ok (record { names = row.names; typed = with_globals w.typed row.variables })
+item_typed env w (written.AClass c) =
+    untaken w.names c.place.at c.name >>= λ names. room_for_type c.place.at w.typed >>= λ place. class_typed env place c
+    >>= λ t. Ok (record { names = names; typed = with_class w.typed t })
+item_typed env w (written.AnInterface i) =
+    untaken w.names i.place.at i.name >>= λ names. room_for_type i.place.at w.typed
+    >>= λ classes. interface_typed env classes i
+    >>= λ t. Ok (record { names = names; typed = with_interface w.typed t })
+item_typed env w (written.AFunction f) =
+    result_typed env f.result >>= λ of. untaken w.names f.place.at f.name
+    >>= λ names. routine_typed env of (routine_of f)
+    >>= λ t. Ok (record { names = names; typed = with_function w.typed t })
+item_typed env w (written.AGlobal v) =
+    vars_typed env w.names v >>= λ row. Ok (record { names = row.names; typed = with_globals w.typed row.variables })
 
 abbrev pub items_typed : Environment → Walked → List written.Item → Checking Walked
 items_typed env w [] = Ok w
 items_typed env w (i ∷ is) = item_typed env w i >>= λ next. items_typed env next is
 
--- there are at most 256 variables in a module
+-- A module has at most 256 variables.
 abbrev pub nothing : List host.Call → Walked
-nothing calls = record { names = record { registered = calls; taken = []; room = 256 }; typed = record { interfaces = []; classes = []; functions = []; globals = [] } }
+nothing calls = record {
+  names = record { registered = calls; taken = []; room = 256 };
+  typed = record { interfaces = []; classes = []; functions = []; globals = [] };
+}
 
 abbrev pub module_walked : Walked → Module
 module_walked w = w.typed

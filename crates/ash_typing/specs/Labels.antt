@@ -8,20 +8,20 @@ use Rattle.ash_typed.specs.declared.types.Kind.TheVariants.{Int, Uint, Int64, Ui
 use Rattle.ash_typing.specs.Types.{holds}
 use Rattle.ash_tree.specs.Tree as written
 
--- whether a type holds what is this much below zero
+-- The type holds what is this much below zero.
 abbrev pub holds_minus : Kind → ℕ → Bool
 holds_minus Int n = nat_le n (2 ^ 31)
 holds_minus Uint n = nat_eq n 0
 holds_minus Int64 n = nat_le n (2 ^ 63)
 holds_minus Uint64 n = nat_eq n 0
 
--- whether a type holds the constant of a label
+-- The type holds the constant of a label.
 abbrev pub holds_label : Kind → Label → Bool
 holds_label k (labels.Case n) = holds k n
 holds_label k (labels.CaseMinus n) = holds_minus k n
 holds_label k labels.Default = true
 
--- whether two labels have equal constants: `-0` is `0`
+-- Two labels have equal constants: `-0` is `0`.
 abbrev pub is_same_constant : Label → Label → Bool
 is_same_constant (labels.Case m) (labels.Case n) = nat_eq m n
 is_same_constant (labels.Case m) (labels.CaseMinus n) = nat_eq m 0 && nat_eq n 0

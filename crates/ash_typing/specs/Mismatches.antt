@@ -1,6 +1,7 @@
--- Where the types of a phrase of a module do not fit: the parts of the phrase have types, and one of them is none that the
--- phrase takes. Types that are unknown fit, since the fault is at the type.
-use Rattle.std.specs.Prelude.{◌≡◌, ℕ, List, [], ◌∷◌, Bool, true, false, Option, Some, None, Ok, length, nat_eq, if◌then◌else◌}
+-- Where the types of a phrase of a module do not fit: the parts of the phrase have types, and one of them is none that
+-- the phrase takes. Types that are unknown fit, since the fault is at the type.
+use Rattle.std.specs.Prelude.{◌≡◌, ℕ, List, [], ◌∷◌, Bool, true, false, Option, Some, None, Ok, length, nat_eq}
+use Rattle.std.specs.Prelude.{if◌then◌else◌}
 use Rattle.ash_registrations.specs.Calls.{Call}
 use Rattle.ash_tree.specs.Tree as written
 use Rattle.ash_tree.specs.declared.tree.places.Place.{Place}
@@ -27,7 +28,7 @@ use Rattle.ash_typing.specs.Terms.{operator_of, array_parameters}
 use Rattle.ash_typing.specs.Scopes.{Scope, block_of, behind}
 use Rattle.ash_typing.specs.Statements.{gives_nothing}
 use Rattle.ash_typing.specs.Implementations.{implemented}
-use Rattle.ash_typing.specs.Phrases.{Expression, Statement, Interfaces, Stands, Links, Suffixes, Initializer}
+use Rattle.ash_typing.specs.Phrases.{Expression, Statement, Interfaces, Occurs, Links, Suffixes, Initializer}
 
 -- what a part may be
 
@@ -57,36 +58,36 @@ may_be_array (ty.Handle o) = is_array_object o
 may_be_array ty.Unknown = true
 may_be_array _ = false
 
--- what `cast` makes
+-- A `cast` makes an object of this type.
 abbrev pub is_cast_type : ObjectType → Bool
 is_cast_type (objects.Class class) = true
 is_cast_type (objects.Interface interface) = true
 is_cast_type _ = false
 
--- what an operator before an operand takes
+-- An operator before an operand takes this type.
 abbrev pub takes_operand : UnaryOp → Ty → Bool
 takes_operand unary.Not t = may_be_bool t
 takes_operand unary.Handle t = may_be_object t
 takes_operand _ t = may_be_integer t
 
--- what becomes a value of a primitive type
+-- A value of the second type becomes one of the first, which is primitive.
 abbrev pub converts : Ty → Ty → Bool
 converts (ty.Integer k) t = may_be_integer t
 converts _ t = may_be_bool t
 
--- `++` and `--` behind a place
-abbrev pub counts_behind : written.Suffix → Bool
-counts_behind written.Increment = true
-counts_behind written.Decrement = true
-counts_behind _ = false
+-- The suffix is `++` or `--`.
+abbrev pub counts_after : written.Suffix → Bool
+counts_after written.Increment = true
+counts_after written.Decrement = true
+counts_after _ = false
 
--- what names a member of an object
+-- The suffix names a member of an object.
 abbrev pub names_member : written.Suffix → Bool
 names_member (written.Field p text) = true
 names_member (written.Method p text es) = true
 names_member _ = false
 
--- the condition of a statement that has one, but of a `for`
+-- `condition_of s` is the condition of a statement that has one, but of a `for`.
 abbrev pub condition_of : written.Stmt → Option written.Expr
 condition_of (written.If p c s) = Some c
 condition_of (written.IfElse p c s t) = Some c
@@ -106,166 +107,172 @@ pub data IsUnfit (classes : List Class) : List Ty → List Typed → ℕ → Typ
 -- Types do not fit at this offset: in the module of this script, where these calls are registered.
 pub data Mismatches (calls : List Call) (script : List written.Item) : ℕ → Type 0 where
   -- an argument does not fit its parameter
-  of_call : {env : Environment} {p : Place} {text : List ℕ} {es : written.Exprs} {callee : Callee} {parameters : List Ty} {ts : List Typed} {at : ℕ}
-      → Stands calls script (Expression env (written.Call p text es))
+  of_call : {env : Environment} {p : Place} {text : List ℕ} {es : written.Exprs} {callee : Callee}
+      {parameters : List Ty} {ts : List Typed} {at : ℕ}
+      → Occurs calls script (Expression env (written.Call p text es))
       → callee_in env text ≡ Some callee
       → callee.parameters ≡ Some parameters
       → all_typed env es ≡ Ok ts
       → IsUnfit env.heads.classes parameters ts at
       → Mismatches calls script at
-  of_method : {env : Environment} {t : Typed} {p : Place} {text : List ℕ} {es : written.Exprs} {ss : written.Suffixes} {o : ObjectType} {m : Invoked} {ts : List Typed} {at : ℕ}
-      → Stands calls script (Suffixes env t (written.suffix (written.Method p text es) ss))
+  of_method : {env : Environment} {t : Typed} {p : Place} {text : List ℕ} {es : written.Exprs} {ss : written.Suffixes}
+      {o : ObjectType} {m : Invoked} {ts : List Typed} {at : ℕ}
+      → Occurs calls script (Suffixes env t (written.suffix (written.Method p text es) ss))
       → object_of t.ty ≡ Some o
       → method_in env o text ≡ Some m
       → all_typed env es ≡ Ok ts
       → IsUnfit env.heads.classes m.parameters ts at
       → Mismatches calls script at
   of_array : {env : Environment} {p : Place} {of : written.Element} {es : written.Exprs} {ts : List Typed} {at : ℕ}
-      → Stands calls script (Expression env (written.NewArray p of es))
+      → Occurs calls script (Expression env (written.NewArray p of es))
       → all_typed env es ≡ Ok ts
       → IsUnfit env.heads.classes (array_parameters (length ts)) ts at
       → Mismatches calls script at
-  of_variable : {env : Environment} {of_at at : ℕ} {o : ObjectType} {es : List written.Expr} {callee : Callee} {parameters : List Ty} {ts : List Typed} {arg_at : ℕ}
-      → Stands calls script (Initializer env of_at at (ty.Object o) (written.Arguments es))
+  of_variable : {env : Environment} {of_at at : ℕ} {o : ObjectType} {es : List written.Expr} {callee : Callee}
+      {parameters : List Ty} {ts : List Typed} {arg_at : ℕ}
+      → Occurs calls script (Initializer env of_at at (ty.Object o) (written.Arguments es))
       → all_typed env (written.exprs es) ≡ Ok ts
       → construction env o (length ts) ≡ Some callee
       → callee.parameters ≡ Some parameters
       → IsUnfit env.heads.classes parameters ts arg_at
       → Mismatches calls script arg_at
-  -- an operand is of no type that its operator takes; of two operands the one is told that the operator takes nowhere
+  -- an operand is of no type that its operator takes; of two operands the fault is at the one that the operator takes
+  -- nowhere
   operand : {env : Environment} {p : Place} {op : UnaryOp} {e : written.Expr} {t : Typed}
-      → Stands calls script (Expression env (written.Unary p op e))
+      → Occurs calls script (Expression env (written.Unary p op e))
       → typed env false e ≡ Ok t
       → takes_operand op t.ty ≡ false
       → Mismatches calls script t.at
   operand_before : {env : Environment} {t : Typed} {s : written.Suffix} {ss : written.Suffixes}
-      → Stands calls script (Suffixes env t (written.suffix s ss))
-      → counts_behind s ≡ true
+      → Occurs calls script (Suffixes env t (written.suffix s ss))
+      → counts_after s ≡ true
       → may_be_integer t.ty ≡ false
       → Mismatches calls script t.at
   operands : {env : Environment} {t u : Typed} {op : BinaryOp} {e : written.Expr} {ls : written.Links} {at : ℕ}
-      → Stands calls script (Links env t (written.link op e ls))
+      → Occurs calls script (Links env t (written.link op e ls))
       → typed env false e ≡ Ok u
       → met op t u ≡ broken TypeMismatch at
       → Mismatches calls script at
   converted : {env : Environment} {p : Place} {to : Primitive} {e : written.Expr} {t : Typed}
-      → Stands calls script (Expression env (written.Convert p to e))
+      → Occurs calls script (Expression env (written.Convert p to e))
       → typed env false e ≡ Ok t
       → converts (ty_of to) t.ty ≡ false
       → Mismatches calls script t.at
   -- `cast`, of an object to a class or an interface
   cast_from : {env : Environment} {p : Place} {to : written.TypeName} {e : written.Expr} {t : Typed}
-      → Stands calls script (Expression env (written.Cast p to e))
+      → Occurs calls script (Expression env (written.Cast p to e))
       → typed env false e ≡ Ok t
       → may_be_object t.ty ≡ false
       → Mismatches calls script t.at
   cast_to : {env : Environment} {p : Place} {to : written.TypeName} {e : written.Expr} {o : ObjectType}
-      → Stands calls script (Expression env (written.Cast p to e))
+      → Occurs calls script (Expression env (written.Cast p to e))
       → object_named calls (heads calls script) to.name ≡ Some o
       → is_cast_type o ≡ false
       → Mismatches calls script to.place.at
   -- c ? a : b
   choice_condition : {env : Environment} {p : Place} {c a b : written.Expr} {t : Typed}
-      → Stands calls script (Expression env (written.Conditional p c a b))
+      → Occurs calls script (Expression env (written.Conditional p c a b))
       → typed env false c ≡ Ok t
       → may_be_bool t.ty ≡ false
       → Mismatches calls script t.at
   branches : {env : Environment} {p : Place} {c a b : written.Expr} {x y : Typed}
-      → Stands calls script (Expression env (written.Conditional p c a b))
+      → Occurs calls script (Expression env (written.Conditional p c a b))
       → typed env false a ≡ Ok x
       → typed env false b ≡ Ok y
       → common x.ty y.ty ≡ None
       → Mismatches calls script (if is_void x.ty then x.at else y.at)
   -- what is assigned does not fit the place, or does not meet with it under the operator of `op=`
   assigned : {env : Environment} {p : Place} {op : AssignOp} {e v : written.Expr} {t u : Typed}
-      → Stands calls script (Expression env (written.Assign p e op v))
+      → Occurs calls script (Expression env (written.Assign p e op v))
       → typed env (is_assign op) e ≡ Ok t
       → typed env false v ≡ Ok u
       → operator_of op ≡ None
       → fits env.heads.classes t.ty u.ty ≡ false
       → Mismatches calls script u.at
   updated : {env : Environment} {p : Place} {op : AssignOp} {c : Calculator} {e v : written.Expr} {t u : Typed} {at : ℕ}
-      → Stands calls script (Expression env (written.Assign p e op v))
+      → Occurs calls script (Expression env (written.Assign p e op v))
       → typed env (is_assign op) e ≡ Ok t
       → typed env false v ≡ Ok u
       → operator_of op ≡ Some c
       → met (binary_of c) (made t.at t.ty Null) u ≡ broken TypeMismatch at
       → Mismatches calls script at
   updated_place : {env : Environment} {p : Place} {op : AssignOp} {c : Calculator} {e v : written.Expr} {t : Typed}
-      → Stands calls script (Expression env (written.Assign p e op v))
+      → Occurs calls script (Expression env (written.Assign p e op v))
       → typed env (is_assign op) e ≡ Ok t
       → operator_of op ≡ Some c
       → may_be_integer t.ty ≡ false
       → Mismatches calls script t.at
   -- members and elements of what is no object, and of what is no array; and an index
   no_object : {env : Environment} {t : Typed} {s : written.Suffix} {ss : written.Suffixes}
-      → Stands calls script (Suffixes env t (written.suffix s ss))
+      → Occurs calls script (Suffixes env t (written.suffix s ss))
       → names_member s ≡ true
       → may_be_object t.ty ≡ false
       → Mismatches calls script t.at
   no_array : {env : Environment} {t : Typed} {e : written.Expr} {ss : written.Suffixes}
-      → Stands calls script (Suffixes env t (written.suffix (written.Index e) ss))
+      → Occurs calls script (Suffixes env t (written.suffix (written.Index e) ss))
       → may_be_array t.ty ≡ false
       → Mismatches calls script t.at
   no_index : {env : Environment} {t u : Typed} {e : written.Expr} {ss : written.Suffixes}
-      → Stands calls script (Suffixes env t (written.suffix (written.Index e) ss))
+      → Occurs calls script (Suffixes env t (written.suffix (written.Index e) ss))
       → typed env false e ≡ Ok u
       → may_be_integer u.ty ≡ false
       → Mismatches calls script u.at
   -- what a variable begins with; but of objects, its brackets have one value, and of a handle it has none
   initial_value : {env : Environment} {of_at at : ℕ} {of : Ty} {e : written.Expr} {t : Typed}
-      → Stands calls script (Initializer env of_at at of (written.Value e))
+      → Occurs calls script (Initializer env of_at at of (written.Value e))
       → typed env false e ≡ Ok t
       → fits env.heads.classes of t.ty ≡ false
       → Mismatches calls script t.at
   initial_argument : {env : Environment} {of_at at : ℕ} {of : Ty} {es : List written.Expr} {t : Typed}
-      → Stands calls script (Initializer env of_at at of (written.Arguments es))
+      → Occurs calls script (Initializer env of_at at of (written.Arguments es))
       → all_typed env (written.exprs es) ≡ Ok (t ∷ [])
       → fits env.heads.classes of t.ty ≡ false
       → Mismatches calls script t.at
   brackets : {env : Environment} {of_at at : ℕ} {of : Ty} {es : List written.Expr} {ts : List Typed}
-      → Stands calls script (Initializer env of_at at of (written.Arguments es))
+      → Occurs calls script (Initializer env of_at at of (written.Arguments es))
       → is_object of ≡ false
       → all_typed env (written.exprs es) ≡ Ok ts
       → nat_eq (length ts) 1 ≡ false
       → Mismatches calls script at
   handle_brackets : {env : Environment} {of_at at : ℕ} {o : ObjectType} {es : List written.Expr}
-      → Stands calls script (Initializer env of_at at (ty.Handle o) (written.Arguments es))
+      → Occurs calls script (Initializer env of_at at (ty.Handle o) (written.Arguments es))
       → Mismatches calls script at
   -- conditions, and the value of a `switch`
   condition : {scope : Scope} {s : written.Stmt} {c : written.Expr} {t : Typed}
-      → Stands calls script (Statement scope s)
+      → Occurs calls script (Statement scope s)
       → condition_of s ≡ Some c
       → typed scope.env false c ≡ Ok t
       → may_be_bool t.ty ≡ false
       → Mismatches calls script t.at
-  for_condition : {scope : Scope} {p : Place} {f s : written.Stmt} {c : written.Expr} {es : List written.Expr} {t : Typed}
-      → Stands calls script (Statement scope (written.For p f (Some c) es s))
+  for_condition : {scope : Scope} {p : Place} {f s : written.Stmt} {c : written.Expr} {es : List written.Expr}
+      {t : Typed}
+      → Occurs calls script (Statement scope (written.For p f (Some c) es s))
       → typed (behind (block_of scope) f).env false c ≡ Ok t
       → may_be_bool t.ty ≡ false
       → Mismatches calls script t.at
   switch_value : {scope : Scope} {p : Place} {e : written.Expr} {cs : written.Cases} {t : Typed}
-      → Stands calls script (Statement scope (written.Switch p e cs))
+      → Occurs calls script (Statement scope (written.Switch p e cs))
       → typed scope.env false e ≡ Ok t
       → may_be_integer t.ty ≡ false
       → Mismatches calls script t.at
   -- `return`: a value that does not fit, one where none is given, and none where one is
   returned : {scope : Scope} {p : Place} {e : written.Expr} {t : Typed}
-      → Stands calls script (Statement scope (written.Return p (Some e)))
+      → Occurs calls script (Statement scope (written.Return p (Some e)))
       → typed scope.env false e ≡ Ok t
       → fits scope.env.heads.classes scope.gives t.ty ≡ false
       → Mismatches calls script t.at
   returned_value : {scope : Scope} {p : Place} {e : written.Expr}
-      → Stands calls script (Statement scope (written.Return p (Some e)))
+      → Occurs calls script (Statement scope (written.Return p (Some e)))
       → is_void scope.gives ≡ true
       → Mismatches calls script p.at
   returned_nothing : {scope : Scope} {p : Place}
-      → Stands calls script (Statement scope (written.Return p None))
+      → Occurs calls script (Statement scope (written.Return p None))
       → gives_nothing scope.gives ≡ false
       → Mismatches calls script p.at
   -- a class lacks a method of an interface that it lists, or has it with other types
-  lacks_method : {env : Environment} {place interface : ℕ} {before : List written.TypeName} {n : written.TypeName} {ns : List written.TypeName}
-      → Stands calls script (Interfaces env place before (n ∷ ns))
+  lacks_method : {env : Environment} {place interface : ℕ} {before : List written.TypeName} {n : written.TypeName}
+      {ns : List written.TypeName}
+      → Occurs calls script (Interfaces env place before (n ∷ ns))
       → object_named calls (heads calls script) n.name ≡ Some (objects.Interface interface)
       → implemented env place interface ≡ None
       → Mismatches calls script n.place.at

@@ -1,8 +1,9 @@
 -- Where variables are declared: in a block or in the head of a loop, as the grammar has it, and not where a single
--- statement stands, as after a condition or a label.
+-- statement is, as after a condition or a label.
 use Rattle.std.specs.Prelude.{List}
 use Rattle.std.specs.List.{AllByRecursion}
-use Rattle.ash_tree.specs.Tree.{Stmt, Declare, Block, If, IfElse, While, DoWhile, For, Switch, Stmts, no_stmt, stmt, stmts, labelled, Cases, no_case, next_case, Function, Constructor, Class, Item}
+use Rattle.ash_tree.specs.Tree.{Stmt, Declare, Block, If, IfElse, While, DoWhile, For, Switch, Stmts, no_stmt, stmt}
+use Rattle.ash_tree.specs.Tree.{stmts, labelled, Cases, no_case, next_case, Function, Constructor, Class, Item}
 use Rattle.ash_tree.specs.Items.{classes_of, functions_of, methods_of, constructors_of}
 
 abbrev pub IsNoDeclaration : Stmt → Type 0
@@ -29,7 +30,7 @@ abbrev mutual
   CasesDeclareInBlocks no_case = Unit {0}
   CasesDeclareInBlocks (next_case (labelled p l ss) cs) = LabelledDeclareInBlocks ss × CasesDeclareInBlocks cs
 
-  -- the statements behind a label
+  -- the statements after a label
   pub LabelledDeclareInBlocks : Stmts → Type 0
   LabelledDeclareInBlocks no_stmt = Unit {0}
   LabelledDeclareInBlocks (stmt s ss) = IsNoDeclaration s × DeclaresInBlocks s × LabelledDeclareInBlocks ss

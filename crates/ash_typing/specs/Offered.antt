@@ -10,34 +10,38 @@ use Rattle.ash_typing.specs.Environment.{name_of_kind}
 abbrev pub host_signature : host.Operation → HostSignature
 host_signature o = record { result = o.result; parameters = o.parameters }
 
--- the kind of a registered type
+-- `kind_in call` is the kind of a registered type.
 abbrev pub kind_in : host.Call → Option ℕ
 kind_in (host.AType name kind) = Some kind
 kind_in _ = None
 
--- what the factory of a registered type of this kind takes
-abbrev pub factory_taking : host.Call → Option (List Primitive)
-factory_taking (host.AFactory of parameters) = Some parameters
-factory_taking _ = None
+-- `parameters_of_factory call` is what the factory of a registered type takes.
+abbrev pub parameters_of_factory : host.Call → Option (List Primitive)
+parameters_of_factory (host.AFactory of parameters) = Some parameters
+parameters_of_factory _ = None
 
 abbrev pub factory_at : List host.Call → ℕ → host.Call → Option (List Primitive)
-factory_at calls kind (host.AType name other) = if nat_eq kind other then option_and_then factory_taking (find (host.is_factory_of name) calls) else None
+factory_at calls kind (host.AType name other) =
+    if nat_eq kind other then option_and_then parameters_of_factory (find (host.is_factory_of name) calls) else None
 factory_at calls kind _ = None
 
--- the method, the property and the function of a number
+-- The method of the type has this number.
 abbrev pub method_at : List ℕ → ℕ → host.Call → Option HostSignature
-method_at of id (host.AMethod other taken operation) = if bytes_eq of other && nat_eq id taken then Some (host_signature operation) else None
+method_at of id (host.AMethod other taken operation) =
+    if bytes_eq of other && nat_eq id taken then Some (host_signature operation) else None
 method_at of id _ = None
 
 abbrev pub property_at : List ℕ → ℕ → host.Call → Option Primitive
-property_at of id (host.AProperty other taken value name) = if bytes_eq of other && nat_eq id taken then Some value else None
+property_at of id (host.AProperty other taken value name) =
+    if bytes_eq of other && nat_eq id taken then Some value else None
 property_at of id _ = None
 
 abbrev pub function_at : ℕ → ℕ → host.Call → Option HostSignature
-function_at service id (host.AFunction other taken operation) = if nat_eq service other && nat_eq id taken then Some (host_signature operation) else None
+function_at service id (host.AFunction other taken operation) =
+    if nat_eq service other && nat_eq id taken then Some (host_signature operation) else None
 function_at service id _ = None
 
--- what is offered where these calls are accepted
+-- `offered calls` is what is offered where these calls are accepted.
 abbrev pub offered : List host.Call → Host
 offered calls = record {
   kinds = filter_map kind_in calls;

@@ -1,5 +1,5 @@
 -- The phrases of a module, and what each of them sees: of the module all that its items declare, of a class that its
--- object runs, and of a body the variables before the phrase. It is not said that what stands before is free of faults.
+-- object runs, and of a body the variables before the phrase. It is not said that what comes before is free of faults.
 use Rattle.std.specs.Prelude.{◌≡◌, ℕ, ◌-◌, List, [], ◌∷◌, ◌++◌, map, length, false, Option, Some, Ok}
 use Rattle.ash_registrations.specs.Calls.{Call}
 use Rattle.ash_tree.specs.Tree as written
@@ -19,18 +19,21 @@ use Rattle.ash_typing.specs.Declarations.{at_type, known_ty}
 use Rattle.ash_typing.specs.Switches.{kind_in}
 use Rattle.ash_typing.specs.Scopes.{Scope, block_of, loop_of, switch_of, with_variables, behind, body_scope}
 use Rattle.ash_typing.specs.Items.{Names, passed_ty, result_typed, parameters_typed}
-use Rattle.ash_tree.specs.Items.{Routine, routine_of, constructing, classes_of, globals_of, variable_names, member_names, item_names}
+use Rattle.ash_tree.specs.Items.{Routine, routine_of, constructing, classes_of, globals_of, variable_names}
+use Rattle.ash_tree.specs.Items.{member_names, item_names}
 use Rattle.ash_typing.specs.TypedModules.{signature_name, listed_name, environment}
 
 -- names that are taken
 
 -- Those that are registered, and those of the items before. There are at most 256 variables in a module.
-abbrev pub names_behind : List Call → List written.Item → Names
-names_behind calls before = record { registered = calls; taken = item_names before; room = 256 - length (variable_names (globals_of before)) }
+abbrev pub names_before : List Call → List written.Item → Names
+names_before calls before =
+    record { registered = calls; taken = item_names before; room = 256 - length (variable_names (globals_of before)) }
 
 -- Those of the members before. There are at most 32 fields and methods in a class.
 abbrev pub names_of_members : List written.Member → Names
-names_of_members before = record { registered = []; taken = member_names before; room = 32 - length (member_names before) }
+names_of_members before =
+    record { registered = []; taken = member_names before; room = 32 - length (member_names before) }
 
 -- Those of the methods before. There are at most 32 in an interface.
 abbrev pub names_of_methods : List written.InterfaceMethod → Names
@@ -48,7 +51,7 @@ with_decl names d = record { registered = names.registered; taken = names.taken 
 pub data Phrase : Type 0 where
   Expression : Environment → written.Expr → Phrase
   Arguments : Environment → written.Exprs → Phrase
-  -- behind what is typed so
+  -- after what is typed so
   Links : Environment → Typed → written.Links → Phrase
   Suffixes : Environment → Typed → written.Suffixes → Phrase
   -- of a variable at the second offset, whose type is written at the first
@@ -57,24 +60,24 @@ pub data Phrase : Type 0 where
   Locals : Scope → ℕ → Ty → List written.Decl → Phrase
   Statement : Scope → written.Stmt → Phrase
   Statements : Scope → written.Stmts → Phrase
-  -- labels of a `switch` over a value of this type, behind those
+  -- labels of a `switch` over a value of this type, after those
   Cases : Scope → Option Kind → List Label → written.Cases → Phrase
-  -- behind these
+  -- after these
   Parameters : Environment → List Declared → List written.Parameter → Phrase
   -- what gives this type
   ARoutine : Environment → Ty → Routine → Phrase
   -- variables of a module or of a class, whose type is written at the offset, where these names are taken
   Variables : Environment → ℕ → Ty → Names → List written.Decl → Phrase
-  -- what an interface declares, behind these
+  -- what an interface declares, after these
   Methods : Environment → List written.InterfaceMethod → List written.InterfaceMethod → Phrase
-  -- the interfaces that the class of this place lists, behind these
+  -- the interfaces that the class of this place lists, after these
   Interfaces : Environment → ℕ → List written.TypeName → List written.TypeName → Phrase
-  -- the members of the class of this name, behind these
+  -- the members of the class of this name, after these
   ClassMembers : Environment → List ℕ → List written.Member → List written.Member → Phrase
-  -- items, behind these
+  -- items, after these
   Items : Environment → List written.Item → List written.Item → Phrase
 
--- what a phrase sees
+-- `environment_of phrase` is what a phrase sees.
 abbrev pub environment_of : Phrase → Environment
 environment_of (Expression env e) = env
 environment_of (Arguments env es) = env
@@ -93,228 +96,239 @@ environment_of (Interfaces env place before ns) = env
 environment_of (ClassMembers env class before ms) = env
 environment_of (Items env before is) = env
 
--- A phrase stands in the module of this script, where these calls are registered, and sees this.
-pub data Stands (calls : List Call) (script : List written.Item) : Phrase → Type 0 where
+-- A phrase is one of the module of this script, where these calls are registered, and sees this.
+pub data Occurs (calls : List Call) (script : List written.Item) : Phrase → Type 0 where
   -- expressions
   call_arguments : {env : Environment} {p : Place} {text : List ℕ} {es : written.Exprs}
-      → Stands calls script (Expression env (written.Call p text es))
-      → Stands calls script (Arguments env es)
+      → Occurs calls script (Expression env (written.Call p text es))
+      → Occurs calls script (Arguments env es)
   in_brackets : {env : Environment} {p : Place} {e : written.Expr}
-      → Stands calls script (Expression env (written.Brackets p e))
-      → Stands calls script (Expression env e)
+      → Occurs calls script (Expression env (written.Brackets p e))
+      → Occurs calls script (Expression env e)
   converted : {env : Environment} {p : Place} {to : Primitive} {e : written.Expr}
-      → Stands calls script (Expression env (written.Convert p to e))
-      → Stands calls script (Expression env e)
+      → Occurs calls script (Expression env (written.Convert p to e))
+      → Occurs calls script (Expression env e)
   array_arguments : {env : Environment} {p : Place} {of : written.Element} {es : written.Exprs}
-      → Stands calls script (Expression env (written.NewArray p of es))
-      → Stands calls script (Arguments env es)
+      → Occurs calls script (Expression env (written.NewArray p of es))
+      → Occurs calls script (Arguments env es)
   cast : {env : Environment} {p : Place} {to : written.TypeName} {e : written.Expr}
-      → Stands calls script (Expression env (written.Cast p to e))
-      → Stands calls script (Expression env e)
+      → Occurs calls script (Expression env (written.Cast p to e))
+      → Occurs calls script (Expression env e)
   before_suffixes : {env : Environment} {p : Place} {e : written.Expr} {ss : written.Suffixes}
-      → Stands calls script (Expression env (written.Postfix p e ss))
-      → Stands calls script (Expression env e)
+      → Occurs calls script (Expression env (written.Postfix p e ss))
+      → Occurs calls script (Expression env e)
   suffixes : {env : Environment} {p : Place} {e : written.Expr} {ss : written.Suffixes} {t : Typed}
-      → Stands calls script (Expression env (written.Postfix p e ss))
+      → Occurs calls script (Expression env (written.Postfix p e ss))
       → typed env false e ≡ Ok t
-      → Stands calls script (Suffixes env t ss)
+      → Occurs calls script (Suffixes env t ss)
   operand : {env : Environment} {p : Place} {op : UnaryOp} {e : written.Expr}
-      → Stands calls script (Expression env (written.Unary p op e))
-      → Stands calls script (Expression env e)
+      → Occurs calls script (Expression env (written.Unary p op e))
+      → Occurs calls script (Expression env e)
   first_operand : {env : Environment} {p : Place} {e : written.Expr} {ls : written.Links}
-      → Stands calls script (Expression env (written.Binary p e ls))
-      → Stands calls script (Expression env e)
+      → Occurs calls script (Expression env (written.Binary p e ls))
+      → Occurs calls script (Expression env e)
   links : {env : Environment} {p : Place} {e : written.Expr} {ls : written.Links} {t : Typed}
-      → Stands calls script (Expression env (written.Binary p e ls))
+      → Occurs calls script (Expression env (written.Binary p e ls))
       → typed env false e ≡ Ok t
-      → Stands calls script (Links env t ls)
+      → Occurs calls script (Links env t ls)
   condition : {env : Environment} {p : Place} {c a b : written.Expr}
-      → Stands calls script (Expression env (written.Conditional p c a b))
-      → Stands calls script (Expression env c)
+      → Occurs calls script (Expression env (written.Conditional p c a b))
+      → Occurs calls script (Expression env c)
   chosen : {env : Environment} {p : Place} {c a b : written.Expr}
-      → Stands calls script (Expression env (written.Conditional p c a b))
-      → Stands calls script (Expression env a)
+      → Occurs calls script (Expression env (written.Conditional p c a b))
+      → Occurs calls script (Expression env a)
   otherwise : {env : Environment} {p : Place} {c a b : written.Expr}
-      → Stands calls script (Expression env (written.Conditional p c a b))
-      → Stands calls script (Expression env b)
+      → Occurs calls script (Expression env (written.Conditional p c a b))
+      → Occurs calls script (Expression env b)
   target : {env : Environment} {p : Place} {op : AssignOp} {e v : written.Expr}
-      → Stands calls script (Expression env (written.Assign p e op v))
-      → Stands calls script (Expression env e)
+      → Occurs calls script (Expression env (written.Assign p e op v))
+      → Occurs calls script (Expression env e)
   value : {env : Environment} {p : Place} {op : AssignOp} {e v : written.Expr}
-      → Stands calls script (Expression env (written.Assign p e op v))
-      → Stands calls script (Expression env v)
+      → Occurs calls script (Expression env (written.Assign p e op v))
+      → Occurs calls script (Expression env v)
   argument : {env : Environment} {e : written.Expr} {es : written.Exprs}
-      → Stands calls script (Arguments env (written.expr e es))
-      → Stands calls script (Expression env e)
+      → Occurs calls script (Arguments env (written.expr e es))
+      → Occurs calls script (Expression env e)
   other_arguments : {env : Environment} {e : written.Expr} {es : written.Exprs}
-      → Stands calls script (Arguments env (written.expr e es))
-      → Stands calls script (Arguments env es)
+      → Occurs calls script (Arguments env (written.expr e es))
+      → Occurs calls script (Arguments env es)
   linked : {env : Environment} {t : Typed} {op : BinaryOp} {e : written.Expr} {ls : written.Links}
-      → Stands calls script (Links env t (written.link op e ls))
-      → Stands calls script (Expression env e)
+      → Occurs calls script (Links env t (written.link op e ls))
+      → Occurs calls script (Expression env e)
   other_links : {env : Environment} {t u next : Typed} {op : BinaryOp} {e : written.Expr} {ls : written.Links}
-      → Stands calls script (Links env t (written.link op e ls))
+      → Occurs calls script (Links env t (written.link op e ls))
       → typed env false e ≡ Ok u
       → operate op t u ≡ Ok next
-      → Stands calls script (Links env next ls)
-  method_arguments : {env : Environment} {t : Typed} {p : Place} {text : List ℕ} {es : written.Exprs} {ss : written.Suffixes}
-      → Stands calls script (Suffixes env t (written.suffix (written.Method p text es) ss))
-      → Stands calls script (Arguments env es)
+      → Occurs calls script (Links env next ls)
+  method_arguments : {env : Environment} {t : Typed} {p : Place} {text : List ℕ} {es : written.Exprs}
+      {ss : written.Suffixes}
+      → Occurs calls script (Suffixes env t (written.suffix (written.Method p text es) ss))
+      → Occurs calls script (Arguments env es)
   index : {env : Environment} {t : Typed} {e : written.Expr} {ss : written.Suffixes}
-      → Stands calls script (Suffixes env t (written.suffix (written.Index e) ss))
-      → Stands calls script (Expression env e)
+      → Occurs calls script (Suffixes env t (written.suffix (written.Index e) ss))
+      → Occurs calls script (Expression env e)
   other_suffixes : {env : Environment} {t next : Typed} {s : written.Suffix} {ss : written.Suffixes}
-      → Stands calls script (Suffixes env t (written.suffix s ss))
+      → Occurs calls script (Suffixes env t (written.suffix s ss))
       → suffix_typed env t s ≡ Ok next
-      → Stands calls script (Suffixes env next ss)
+      → Occurs calls script (Suffixes env next ss)
   -- variables
   initial_value : {env : Environment} {of_at at : ℕ} {of : Ty} {e : written.Expr}
-      → Stands calls script (Initializer env of_at at of (written.Value e))
-      → Stands calls script (Expression env e)
+      → Occurs calls script (Initializer env of_at at of (written.Value e))
+      → Occurs calls script (Expression env e)
   initial_arguments : {env : Environment} {of_at at : ℕ} {of : Ty} {es : List written.Expr}
-      → Stands calls script (Initializer env of_at at of (written.Arguments es))
-      → Stands calls script (Arguments env (written.exprs es))
+      → Occurs calls script (Initializer env of_at at of (written.Arguments es))
+      → Occurs calls script (Arguments env (written.exprs es))
   local : {scope : Scope} {at : ℕ} {of : Ty} {d : written.Decl} {ds : List written.Decl}
-      → Stands calls script (Locals scope at of (d ∷ ds))
-      → Stands calls script (Initializer scope.env at d.place.at of d.initializer)
+      → Occurs calls script (Locals scope at of (d ∷ ds))
+      → Occurs calls script (Initializer scope.env at d.place.at of d.initializer)
   other_locals : {scope : Scope} {at : ℕ} {of : Ty} {d : written.Decl} {ds : List written.Decl}
-      → Stands calls script (Locals scope at of (d ∷ ds))
-      → Stands calls script (Locals (with_variables scope (declared of d ∷ [])) at of ds)
+      → Occurs calls script (Locals scope at of (d ∷ ds))
+      → Occurs calls script (Locals (with_variables scope (declared of d ∷ [])) at of ds)
   -- statements
   locals : {scope : Scope} {p : Place} {v : written.Vars} {of : Ty}
-      → Stands calls script (Statement scope (written.Declare p v))
+      → Occurs calls script (Statement scope (written.Declare p v))
       → known_ty v.of (ty_in scope.env v.of) ≡ Ok of
-      → Stands calls script (Locals scope (at_type v.of) of v.decls)
+      → Occurs calls script (Locals scope (at_type v.of) of v.decls)
   evaluated : {scope : Scope} {p : Place} {e : written.Expr}
-      → Stands calls script (Statement scope (written.Evaluate p e))
-      → Stands calls script (Expression scope.env e)
+      → Occurs calls script (Statement scope (written.Evaluate p e))
+      → Occurs calls script (Expression scope.env e)
   block : {scope : Scope} {p : Place} {ss : written.Stmts}
-      → Stands calls script (Statement scope (written.Block p ss))
-      → Stands calls script (Statements (block_of scope) ss)
+      → Occurs calls script (Statement scope (written.Block p ss))
+      → Occurs calls script (Statements (block_of scope) ss)
   if_condition : {scope : Scope} {p : Place} {c : written.Expr} {s : written.Stmt}
-      → Stands calls script (Statement scope (written.If p c s))
-      → Stands calls script (Expression scope.env c)
+      → Occurs calls script (Statement scope (written.If p c s))
+      → Occurs calls script (Expression scope.env c)
   if_body : {scope : Scope} {p : Place} {c : written.Expr} {s : written.Stmt}
-      → Stands calls script (Statement scope (written.If p c s))
-      → Stands calls script (Statement scope s)
+      → Occurs calls script (Statement scope (written.If p c s))
+      → Occurs calls script (Statement scope s)
   else_condition : {scope : Scope} {p : Place} {c : written.Expr} {s t : written.Stmt}
-      → Stands calls script (Statement scope (written.IfElse p c s t))
-      → Stands calls script (Expression scope.env c)
+      → Occurs calls script (Statement scope (written.IfElse p c s t))
+      → Occurs calls script (Expression scope.env c)
   then_body : {scope : Scope} {p : Place} {c : written.Expr} {s t : written.Stmt}
-      → Stands calls script (Statement scope (written.IfElse p c s t))
-      → Stands calls script (Statement scope s)
+      → Occurs calls script (Statement scope (written.IfElse p c s t))
+      → Occurs calls script (Statement scope s)
   else_body : {scope : Scope} {p : Place} {c : written.Expr} {s t : written.Stmt}
-      → Stands calls script (Statement scope (written.IfElse p c s t))
-      → Stands calls script (Statement scope t)
+      → Occurs calls script (Statement scope (written.IfElse p c s t))
+      → Occurs calls script (Statement scope t)
   while_condition : {scope : Scope} {p : Place} {c : written.Expr} {s : written.Stmt}
-      → Stands calls script (Statement scope (written.While p c s))
-      → Stands calls script (Expression scope.env c)
+      → Occurs calls script (Statement scope (written.While p c s))
+      → Occurs calls script (Expression scope.env c)
   while_body : {scope : Scope} {p : Place} {c : written.Expr} {s : written.Stmt}
-      → Stands calls script (Statement scope (written.While p c s))
-      → Stands calls script (Statement (loop_of scope) s)
+      → Occurs calls script (Statement scope (written.While p c s))
+      → Occurs calls script (Statement (loop_of scope) s)
   do_condition : {scope : Scope} {p : Place} {c : written.Expr} {s : written.Stmt}
-      → Stands calls script (Statement scope (written.DoWhile p s c))
-      → Stands calls script (Expression scope.env c)
+      → Occurs calls script (Statement scope (written.DoWhile p s c))
+      → Occurs calls script (Expression scope.env c)
   do_body : {scope : Scope} {p : Place} {c : written.Expr} {s : written.Stmt}
-      → Stands calls script (Statement scope (written.DoWhile p s c))
-      → Stands calls script (Statement (loop_of scope) s)
+      → Occurs calls script (Statement scope (written.DoWhile p s c))
+      → Occurs calls script (Statement (loop_of scope) s)
   for_head : {scope : Scope} {p : Place} {f s : written.Stmt} {c : Option written.Expr} {es : List written.Expr}
-      → Stands calls script (Statement scope (written.For p f c es s))
-      → Stands calls script (Statement (block_of scope) f)
+      → Occurs calls script (Statement scope (written.For p f c es s))
+      → Occurs calls script (Statement (block_of scope) f)
   for_condition : {scope : Scope} {p : Place} {f s : written.Stmt} {c : written.Expr} {es : List written.Expr}
-      → Stands calls script (Statement scope (written.For p f (Some c) es s))
-      → Stands calls script (Expression (behind (block_of scope) f).env c)
+      → Occurs calls script (Statement scope (written.For p f (Some c) es s))
+      → Occurs calls script (Expression (behind (block_of scope) f).env c)
   for_steps : {scope : Scope} {p : Place} {f s : written.Stmt} {c : Option written.Expr} {es : List written.Expr}
-      → Stands calls script (Statement scope (written.For p f c es s))
-      → Stands calls script (Arguments (behind (block_of scope) f).env (written.exprs es))
+      → Occurs calls script (Statement scope (written.For p f c es s))
+      → Occurs calls script (Arguments (behind (block_of scope) f).env (written.exprs es))
   for_body : {scope : Scope} {p : Place} {f s : written.Stmt} {c : Option written.Expr} {es : List written.Expr}
-      → Stands calls script (Statement scope (written.For p f c es s))
-      → Stands calls script (Statement (loop_of (behind (block_of scope) f)) s)
+      → Occurs calls script (Statement scope (written.For p f c es s))
+      → Occurs calls script (Statement (loop_of (behind (block_of scope) f)) s)
   switch_value : {scope : Scope} {p : Place} {e : written.Expr} {cs : written.Cases}
-      → Stands calls script (Statement scope (written.Switch p e cs))
-      → Stands calls script (Expression scope.env e)
+      → Occurs calls script (Statement scope (written.Switch p e cs))
+      → Occurs calls script (Expression scope.env e)
   cases : {scope : Scope} {p : Place} {e : written.Expr} {cs : written.Cases} {t : Typed}
-      → Stands calls script (Statement scope (written.Switch p e cs))
+      → Occurs calls script (Statement scope (written.Switch p e cs))
       → typed scope.env false e ≡ Ok t
-      → Stands calls script (Cases (switch_of scope) (kind_in t.ty) [] cs)
+      → Occurs calls script (Cases (switch_of scope) (kind_in t.ty) [] cs)
   returned : {scope : Scope} {p : Place} {e : written.Expr}
-      → Stands calls script (Statement scope (written.Return p (Some e)))
-      → Stands calls script (Expression scope.env e)
+      → Occurs calls script (Statement scope (written.Return p (Some e)))
+      → Occurs calls script (Expression scope.env e)
   statement : {scope : Scope} {s : written.Stmt} {ss : written.Stmts}
-      → Stands calls script (Statements scope (written.stmt s ss))
-      → Stands calls script (Statement scope s)
+      → Occurs calls script (Statements scope (written.stmt s ss))
+      → Occurs calls script (Statement scope s)
   other_statements : {scope : Scope} {s : written.Stmt} {ss : written.Stmts}
-      → Stands calls script (Statements scope (written.stmt s ss))
-      → Stands calls script (Statements (behind scope s) ss)
-  labelled : {scope : Scope} {kind : Option Kind} {before : List Label} {p : Place} {l : Label} {ss : written.Stmts} {cs : written.Cases}
-      → Stands calls script (Cases scope kind before (written.next_case (written.labelled p l ss) cs))
-      → Stands calls script (Statements scope ss)
-  other_cases : {scope : Scope} {kind : Option Kind} {before : List Label} {p : Place} {l : Label} {ss : written.Stmts} {cs : written.Cases}
-      → Stands calls script (Cases scope kind before (written.next_case (written.labelled p l ss) cs))
-      → Stands calls script (Cases scope kind (before ++ l ∷ []) cs)
+      → Occurs calls script (Statements scope (written.stmt s ss))
+      → Occurs calls script (Statements (behind scope s) ss)
+  labelled : {scope : Scope} {kind : Option Kind} {before : List Label} {p : Place} {l : Label} {ss : written.Stmts}
+      {cs : written.Cases}
+      → Occurs calls script (Cases scope kind before (written.next_case (written.labelled p l ss) cs))
+      → Occurs calls script (Statements scope ss)
+  other_cases : {scope : Scope} {kind : Option Kind} {before : List Label} {p : Place} {l : Label} {ss : written.Stmts}
+      {cs : written.Cases}
+      → Occurs calls script (Cases scope kind before (written.next_case (written.labelled p l ss) cs))
+      → Occurs calls script (Cases scope kind (before ++ l ∷ []) cs)
   -- functions
   parameters : {env : Environment} {of : Ty} {r : Routine}
-      → Stands calls script (ARoutine env of r)
-      → Stands calls script (Parameters env [] r.parameters)
-  other_parameters : {env : Environment} {before : List Declared} {x : written.Parameter} {xs : List written.Parameter} {of : Ty}
-      → Stands calls script (Parameters env before (x ∷ xs))
+      → Occurs calls script (ARoutine env of r)
+      → Occurs calls script (Parameters env [] r.parameters)
+  other_parameters : {env : Environment} {before : List Declared} {x : written.Parameter} {xs : List written.Parameter}
+      {of : Ty}
+      → Occurs calls script (Parameters env before (x ∷ xs))
       → passed_ty x.of (ty_in env x.of) ≡ Ok of
-      → Stands calls script (Parameters env (before ++ record { name = x.name; of = of } ∷ []) xs)
+      → Occurs calls script (Parameters env (before ++ record { name = x.name; of = of } ∷ []) xs)
   body : {env : Environment} {of : Ty} {r : Routine} {passed : List Declared}
-      → Stands calls script (ARoutine env of r)
+      → Occurs calls script (ARoutine env of r)
       → parameters_typed env [] r.parameters ≡ Ok passed
-      → Stands calls script (Statements (body_scope (with_locals env passed) of) (written.stmts r.body))
+      → Occurs calls script (Statements (body_scope (with_locals env passed) of) (written.stmts r.body))
   -- variables of a module or of a class
   variable : {env : Environment} {at : ℕ} {of : Ty} {names : Names} {d : written.Decl} {ds : List written.Decl}
-      → Stands calls script (Variables env at of names (d ∷ ds))
-      → Stands calls script (Initializer env at d.place.at of d.initializer)
+      → Occurs calls script (Variables env at of names (d ∷ ds))
+      → Occurs calls script (Initializer env at d.place.at of d.initializer)
   other_variables : {env : Environment} {at : ℕ} {of : Ty} {names : Names} {d : written.Decl} {ds : List written.Decl}
-      → Stands calls script (Variables env at of names (d ∷ ds))
-      → Stands calls script (Variables env at of (with_decl names d) ds)
+      → Occurs calls script (Variables env at of names (d ∷ ds))
+      → Occurs calls script (Variables env at of (with_decl names d) ds)
   -- interfaces
-  method_parameters : {env : Environment} {before : List written.InterfaceMethod} {m : written.InterfaceMethod} {ms : List written.InterfaceMethod}
-      → Stands calls script (Methods env before (m ∷ ms))
-      → Stands calls script (Parameters env [] m.parameters)
-  other_methods : {env : Environment} {before : List written.InterfaceMethod} {m : written.InterfaceMethod} {ms : List written.InterfaceMethod}
-      → Stands calls script (Methods env before (m ∷ ms))
-      → Stands calls script (Methods env (before ++ m ∷ []) ms)
+  method_parameters : {env : Environment} {before : List written.InterfaceMethod} {m : written.InterfaceMethod}
+      {ms : List written.InterfaceMethod}
+      → Occurs calls script (Methods env before (m ∷ ms))
+      → Occurs calls script (Parameters env [] m.parameters)
+  other_methods : {env : Environment} {before : List written.InterfaceMethod} {m : written.InterfaceMethod}
+      {ms : List written.InterfaceMethod}
+      → Occurs calls script (Methods env before (m ∷ ms))
+      → Occurs calls script (Methods env (before ++ m ∷ []) ms)
   -- classes
-  other_interfaces : {env : Environment} {place : ℕ} {before : List written.TypeName} {n : written.TypeName} {ns : List written.TypeName}
-      → Stands calls script (Interfaces env place before (n ∷ ns))
-      → Stands calls script (Interfaces env place (before ++ n ∷ []) ns)
-  fields : {env : Environment} {class : List ℕ} {before : List written.Member} {v : written.Vars} {ms : List written.Member} {of : Ty}
-      → Stands calls script (ClassMembers env class before (written.AField v ∷ ms))
+  other_interfaces : {env : Environment} {place : ℕ} {before : List written.TypeName} {n : written.TypeName}
+      {ns : List written.TypeName}
+      → Occurs calls script (Interfaces env place before (n ∷ ns))
+      → Occurs calls script (Interfaces env place (before ++ n ∷ []) ns)
+  fields : {env : Environment} {class : List ℕ} {before : List written.Member} {v : written.Vars}
+      {ms : List written.Member} {of : Ty}
+      → Occurs calls script (ClassMembers env class before (written.AField v ∷ ms))
       → known_ty v.of (ty_in env v.of) ≡ Ok of
-      → Stands calls script (Variables env (at_type v.of) of (names_of_members before) v.decls)
-  method : {env : Environment} {class : List ℕ} {before : List written.Member} {f : written.Function} {ms : List written.Member} {of : Ty}
-      → Stands calls script (ClassMembers env class before (written.AMethod f ∷ ms))
+      → Occurs calls script (Variables env (at_type v.of) of (names_of_members before) v.decls)
+  method : {env : Environment} {class : List ℕ} {before : List written.Member} {f : written.Function}
+      {ms : List written.Member} {of : Ty}
+      → Occurs calls script (ClassMembers env class before (written.AMethod f ∷ ms))
       → result_typed env f.result ≡ Ok of
-      → Stands calls script (ARoutine env of (routine_of f))
-  constructor : {env : Environment} {class : List ℕ} {before : List written.Member} {c : written.Constructor} {ms : List written.Member}
-      → Stands calls script (ClassMembers env class before (written.AConstructor c ∷ ms))
-      → Stands calls script (ARoutine env ty.Void (constructing c))
-  other_members : {env : Environment} {class : List ℕ} {before : List written.Member} {m : written.Member} {ms : List written.Member}
-      → Stands calls script (ClassMembers env class before (m ∷ ms))
-      → Stands calls script (ClassMembers env class (before ++ m ∷ []) ms)
+      → Occurs calls script (ARoutine env of (routine_of f))
+  constructor : {env : Environment} {class : List ℕ} {before : List written.Member} {c : written.Constructor}
+      {ms : List written.Member}
+      → Occurs calls script (ClassMembers env class before (written.AConstructor c ∷ ms))
+      → Occurs calls script (ARoutine env ty.Void (constructing c))
+  other_members : {env : Environment} {class : List ℕ} {before : List written.Member} {m : written.Member}
+      {ms : List written.Member}
+      → Occurs calls script (ClassMembers env class before (m ∷ ms))
+      → Occurs calls script (ClassMembers env class (before ++ m ∷ []) ms)
   -- items
-  items : Stands calls script (Items (environment calls script) [] script)
+  items : Occurs calls script (Items (environment calls script) [] script)
   other_items : {env : Environment} {before : List written.Item} {i : written.Item} {is : List written.Item}
-      → Stands calls script (Items env before (i ∷ is))
-      → Stands calls script (Items env (before ++ i ∷ []) is)
+      → Occurs calls script (Items env before (i ∷ is))
+      → Occurs calls script (Items env (before ++ i ∷ []) is)
   interfaces : {env : Environment} {before : List written.Item} {c : written.Class} {is : List written.Item}
-      → Stands calls script (Items env before (written.AClass c ∷ is))
-      → Stands calls script (Interfaces env (length (classes_of before)) [] c.interfaces)
+      → Occurs calls script (Items env before (written.AClass c ∷ is))
+      → Occurs calls script (Interfaces env (length (classes_of before)) [] c.interfaces)
   members : {env : Environment} {before : List written.Item} {c : written.Class} {is : List written.Item}
-      → Stands calls script (Items env before (written.AClass c ∷ is))
-      → Stands calls script (ClassMembers (inside env (length (classes_of before))) c.name [] c.members)
+      → Occurs calls script (Items env before (written.AClass c ∷ is))
+      → Occurs calls script (ClassMembers (inside env (length (classes_of before))) c.name [] c.members)
   methods : {env : Environment} {before : List written.Item} {i : written.Interface} {is : List written.Item}
-      → Stands calls script (Items env before (written.AnInterface i ∷ is))
-      → Stands calls script (Methods env [] i.methods)
+      → Occurs calls script (Items env before (written.AnInterface i ∷ is))
+      → Occurs calls script (Methods env [] i.methods)
   function : {env : Environment} {before : List written.Item} {f : written.Function} {is : List written.Item} {of : Ty}
-      → Stands calls script (Items env before (written.AFunction f ∷ is))
+      → Occurs calls script (Items env before (written.AFunction f ∷ is))
       → result_typed env f.result ≡ Ok of
-      → Stands calls script (ARoutine env of (routine_of f))
+      → Occurs calls script (ARoutine env of (routine_of f))
   globals : {env : Environment} {before : List written.Item} {v : written.Vars} {is : List written.Item} {of : Ty}
-      → Stands calls script (Items env before (written.AGlobal v ∷ is))
+      → Occurs calls script (Items env before (written.AGlobal v ∷ is))
       → known_ty v.of (ty_in env v.of) ≡ Ok of
-      → Stands calls script (Variables env (at_type v.of) of (names_behind calls before) v.decls)
+      → Occurs calls script (Variables env (at_type v.of) of (names_before calls before) v.decls)

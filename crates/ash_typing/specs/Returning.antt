@@ -2,9 +2,10 @@
 use Rattle.std.specs.Prelude.{Bool, true, false, not, ◌&&◌, ◌||◌, List}
 use Rattle.ash_tree.specs.declared.tree.statements.Label.{Label}
 use Rattle.ash_tree.specs.declared.tree.statements.Label.TheVariants as labels
-use Rattle.ash_tree.specs.Tree.{Stmt, Stmts, Case, Cases, Block, If, IfElse, Switch, Break, Return, no_stmt, stmt, stmts, labelled, no_case, next_case}
+use Rattle.ash_tree.specs.Tree.{Stmt, Stmts, Case, Cases, Block, If, IfElse, Switch, Break, Return, no_stmt, stmt}
+use Rattle.ash_tree.specs.Tree.{stmts, labelled, no_case, next_case}
 
--- a `break` that leaves what the statement stands in, and no loop or `switch` inside it
+-- a `break` that leaves what the statement is in, and no loop or `switch` inside it
 abbrev mutual
   pub breaks : Stmt → Bool
   breaks (Break p) = true
@@ -29,10 +30,10 @@ abbrev pub has_default : Cases → Bool
 has_default no_case = false
 has_default (next_case (labelled p l ss) cs) = is_default l || has_default cs
 
--- what is said of the last label, where others follow by those
+-- `last_of here cs later` is what is said of the last label, where others follow by those.
 abbrev pub last_of : Bool → Cases → Bool → Bool
-last_of here no_case behind = here
-last_of here (next_case c cs) behind = behind
+last_of here no_case later = here
+last_of here (next_case c cs) later = later
 
 abbrev mutual
   pub returns : Stmt → Bool
@@ -46,7 +47,7 @@ abbrev mutual
   any_returns no_stmt = false
   any_returns (stmt s ss) = returns s || any_returns ss
 
-  -- one of the statements behind the last label returns
+  -- one of the statements after the last label returns
   pub last_returns : Cases → Bool
   last_returns no_case = false
   last_returns (next_case c cs) = last_of (case_returns c) cs (last_returns cs)
@@ -54,6 +55,6 @@ abbrev mutual
   pub case_returns : Case → Bool
   case_returns (labelled p l ss) = any_returns ss
 
--- whether a body returns, however its conditions turn out
+-- A body returns, however its conditions turn out.
 unfoldable pub returns_in : List Stmt → Bool
 returns_in body = any_returns (stmts body)

@@ -6,7 +6,7 @@ use Rattle.ash_typing.specs.declared.types.Ty.{Ty}
 use Rattle.ash_typing.specs.Environment.{Declared, Environment, declares, with_locals}
 use Rattle.ash_typing.specs.Heads.{variables}
 
--- `first` is how many locals stand before those of the block, `gives` what the function gives
+-- There are `first` locals before those of the block, and the function gives `gives`.
 pub record Scope : Type 0 where
   pub env : Environment
   pub first : ℕ
@@ -14,23 +14,37 @@ pub record Scope : Type 0 where
   pub in_loop : Bool
   pub in_switch : Bool
 
--- in a block none of its names is taken yet
+-- No name of a block is taken yet where the block begins.
 abbrev pub block_of : Scope → Scope
-block_of scope = record { env = scope.env; first = length scope.env.locals; gives = scope.gives; in_loop = scope.in_loop; in_switch = scope.in_switch }
+block_of scope = record {
+  env = scope.env;
+  first = length scope.env.locals;
+  gives = scope.gives;
+  in_loop = scope.in_loop;
+  in_switch = scope.in_switch;
+}
 
 abbrev pub loop_of : Scope → Scope
-loop_of scope = record { env = scope.env; first = scope.first; gives = scope.gives; in_loop = true; in_switch = scope.in_switch }
+loop_of scope =
+    record { env = scope.env; first = scope.first; gives = scope.gives; in_loop = true; in_switch = scope.in_switch }
 
 abbrev pub switch_of : Scope → Scope
-switch_of scope = record { env = scope.env; first = scope.first; gives = scope.gives; in_loop = scope.in_loop; in_switch = true }
+switch_of scope =
+    record { env = scope.env; first = scope.first; gives = scope.gives; in_loop = scope.in_loop; in_switch = true }
 
 abbrev pub with_variables : Scope → List Declared → Scope
-with_variables scope vs = record { env = with_locals scope.env (scope.env.locals ++ vs); first = scope.first; gives = scope.gives; in_loop = scope.in_loop; in_switch = scope.in_switch }
+with_variables scope vs = record {
+  env = with_locals scope.env (scope.env.locals ++ vs);
+  first = scope.first;
+  gives = scope.gives;
+  in_loop = scope.in_loop;
+  in_switch = scope.in_switch;
+}
 
 abbrev pub declared_in : Scope → written.Vars → List Declared
 declared_in scope v = variables scope.env.registered scope.env.heads v
 
--- what the statements behind one see: the variables that it declares
+-- `behind scope s` is what the statements after one see: the variables that it declares are added.
 abbrev pub behind : Scope → written.Stmt → Scope
 behind scope (written.Declare p v) = with_variables scope (declared_in scope v)
 behind scope _ = scope
@@ -38,6 +52,6 @@ behind scope _ = scope
 abbrev pub is_taken : Scope → List ℕ → Bool
 is_taken scope name = list_any (declares name) (drop scope.first scope.env.locals)
 
--- parameters and the variables of the body are one block
+-- Parameters and the variables of the body are one block.
 abbrev pub body_scope : Environment → Ty → Scope
 body_scope env of = record { env = env; first = 0; gives = of; in_loop = false; in_switch = false }

@@ -17,16 +17,36 @@ abbrev pub signatures_of_interface : Interface → List Signature
 signatures_of_interface i = map signature_of i.methods
 
 abbrev pub signature_of_class : Class → ClassSignature
-signature_of_class c = record { interfaces = c.interfaces; fields = map type_declared c.fields; parameters = map var_type c.parameters; methods = map signature_of c.methods }
+signature_of_class c = record {
+  interfaces = c.interfaces;
+  fields = map type_declared c.fields;
+  parameters = map var_type c.parameters;
+  methods = map signature_of c.methods;
+}
 
--- what a module declares, where these calls are registered
+-- `signatures_in calls heads` is what a module declares, where these calls are registered.
 abbrev pub signatures_in : List host.Call → Heads → Signatures
-signatures_in calls heads = record { host = offered calls; interfaces = map signatures_of_interface heads.interfaces; classes = map signature_of_class heads.classes; functions = map signature_of heads.functions; globals = map type_declared heads.globals }
+signatures_in calls heads = record {
+  host = offered calls;
+  interfaces = map signatures_of_interface heads.interfaces;
+  classes = map signature_of_class heads.classes;
+  functions = map signature_of heads.functions;
+  globals = map type_declared heads.globals;
+}
 
--- what an expression sees
+-- `seen_in env` is what an expression sees.
 abbrev pub seen_in : Environment → expressions.Environment
-seen_in env = record { signatures = signatures_in env.registered env.heads; this = env.this; locals = map type_declared env.locals }
+seen_in env = record {
+  signatures = signatures_in env.registered env.heads;
+  this = env.this;
+  locals = map type_declared env.locals;
+}
 
--- what a statement sees
+-- `seen_at scope` is what a statement sees.
 abbrev pub seen_at : Scope → statements.Scope
-seen_at scope = record { env = seen_in scope.env; gives = result_type scope.gives; may_break = scope.in_loop || scope.in_switch; may_continue = scope.in_loop }
+seen_at scope = record {
+  env = seen_in scope.env;
+  gives = result_type scope.gives;
+  may_break = scope.in_loop || scope.in_switch;
+  may_continue = scope.in_loop;
+}

@@ -1,5 +1,5 @@
 -- Labels of a `switch` (AngelScript manual, "Switch-case statements"): which constants they may have, and where
--- `default` may stand.
+-- `default` may be.
 use Rattle.std.specs.Prelude.{ℕ, Bool, true, List, Option, Some, None, Ok, if◌then◌else◌}
 use Rattle.std.specs.List.{list_any}
 use Rattle.ash_tree.specs.declared.tree.statements.Label.{Label}
@@ -11,21 +11,23 @@ use Rattle.ash_typing.specs.declared.types.Ty.TheVariants as ty
 use Rattle.ash_typing.specs.Checking.{Checking, broken}
 use Rattle.ash_typing.specs.Labels.{holds_label, is_same_constant}
 
--- the integer type of the value, where it has one
+-- `kind_in of` is the integer type of the value, where it has one.
 abbrev pub kind_in : Ty → Option Kind
 kind_in (ty.Integer k) = Some k
 kind_in _ = None
 
--- no range is known without an integer type
+-- The constant is in the range of the type; no range is known without an integer type.
 unfoldable pub is_within : Option Kind → Label → Bool
 is_within None l = true
 is_within (Some k) l = holds_label k l
 
--- the constant of a label at this offset, behind the labels before it
+-- The constant of a label is at this offset, after the labels before it.
 unfoldable pub constant_typed : Option Kind → List Label → ℕ → Label → Checking Label
-constant_typed kind before at l = if is_within kind l then (if list_any (is_same_constant l) before then broken DuplicateCase at else Ok l) else broken ConstantOutOfRange at
+constant_typed kind before at l =
+    if is_within kind l then (if list_any (is_same_constant l) before then broken DuplicateCase at else Ok l)
+    else broken ConstantOutOfRange at
 
--- a label at this offset: `default` has to be the last one
+-- A label is at this offset: `default` has to be the last one.
 unfoldable pub label_typed : Option Kind → List Label → Bool → ℕ → Label → Checking Label
 label_typed kind before last at labels.Default = if last then Ok labels.Default else broken Misplaced at
 label_typed kind before last at l = constant_typed kind before at l

@@ -29,7 +29,7 @@ use Rattle.ash_typed.specs.StatementTree.{Initialization}
 
 -- terms
 
--- what an expression is typed as, and what it is by itself
+-- A term has what an expression is typed as, and what it is by itself.
 pub record Term : Type 0 where
   pub ty : Ty
   pub form : Form
@@ -38,22 +38,22 @@ pub record Term : Type 0 where
 abbrev pub term : Ty → Expr → Term
 term of tree = record { ty = of; form = form.Value; tree = tree }
 
--- what can be assigned: its tree reads the place
+-- What can be assigned is a place that its tree reads.
 abbrev pub read_term : Ty → Expr → Term
 read_term of tree = record { ty = of; form = form.Place; tree = tree }
 
--- a number has the first of the four integer types that holds it
+-- A number has the first of the four integer types that holds it.
 abbrev pub number_term : ℕ → Term
 number_term n = record { ty = ty.Integer (kind_of n); form = form.Number n; tree = Number (kind_of n) n }
 
 -- conversions
 
--- what a value of the second type becomes in the place of one of the first
+-- `conversion to from` is what a value of the second type becomes in the place of one of the first.
 abbrev pub conversion : Ty → Ty → Option Conversion
 conversion (ty.Integer k) (ty.Integer j) = if is_same_kind j k then None else Some (record { from = j; to = k })
 conversion _ _ = None
 
--- converted to a type
+-- `converted_to of t` is the term, converted to a type.
 abbrev pub converted_to : Ty → Term → Expr
 converted_to of t = converted (conversion of t.ty) t.tree
 
@@ -62,31 +62,34 @@ converted_to of t = converted (conversion of t.ty) t.tree
 -- A number alone takes the type of the other operand, where that holds it and the other is no number.
 abbrev pub taking : Form → Ty → Form → Term → Term
 taking (form.Number m) of (form.Number n) t = t
-taking _ (ty.Integer k) (form.Number n) t = if holds k n then record { ty = ty.Integer k; form = form.Number n; tree = Number k n } else t
+taking _ (ty.Integer k) (form.Number n) t =
+    if holds k n then record { ty = ty.Integer k; form = form.Number n; tree = Number k n } else t
 taking _ _ _ t = t
 
--- the operand of an operator beside one of this form and type: the two of a shift have a type each
-abbrev pub beside_by : Sort → Form → Ty → Term → Term
-beside_by sort.Shift form of t = t
-beside_by _ form of t = taking form of t.form t
+-- `adapted_by s form of t` is the operand of an operator whose other operand has this form and type: the two of a shift
+-- have a type each.
+abbrev pub adapted_by : Sort → Form → Ty → Term → Term
+adapted_by sort.Shift form of t = t
+adapted_by _ form of t = taking form of t.form t
 
--- the operand of an operator beside another operand
-abbrev pub beside : Sort → Term → Term → Term
-beside s other t = beside_by s other.form other.ty t
+-- `adapted_to s other t` is the operand of an operator whose other operand is this.
+abbrev pub adapted_to : Sort → Term → Term → Term
+adapted_to s other t = adapted_by s other.form other.ty t
 
 abbrev pub operand_type : Operands → Ty
 operand_type (operands.Integers k) = ty.Integer k
 operand_type operands.Bools = ty.Bool
 operand_type operands.Handles = ty.Null
 
--- the count of a shift keeps its type
+-- The count of a shift has its own type, and any other right operand is converted.
 abbrev pub right_by : Sort → Operands → Term → Expr
 right_by sort.Shift o u = u.tree
 right_by _ o u = converted_to (operand_type o) u
 
--- what an operator makes of its operands
+-- `applied_by operator o a b` is what an operator makes of its operands.
 abbrev pub applied_by : Operator → Operands → Expr → Expr → Expr
-applied_by (operators.Calculate c) o a b = Operate (operations.Calculate (record { operator = c; of = integers_in o })) a b
+applied_by (operators.Calculate c) o a b =
+    Operate (operations.Calculate (record { operator = c; of = integers_in o })) a b
 applied_by (operators.Compare c) o a b = Operate (operations.Compare c o) a b
 applied_by (operators.Lazy l) o a b = Lazily l a b
 
@@ -95,13 +98,13 @@ applied op o a b = applied_by (typed_operator op) o a b
 
 -- places
 
--- the place that can be assigned, where an expression is one
+-- `assignable form tree` is the place that can be assigned, where an expression is one.
 abbrev pub assignable : Form → Expr → Option Place
 assignable form.Place tree = place_in tree
 assignable form.HandlePlace tree = place_in tree
 assignable _ tree = None
 
--- a place in brackets is one; a number in brackets has its own type
+-- A place in brackets is one; a number in brackets has its own type.
 abbrev pub bracketed : Form → Form
 bracketed form.Place = form.Place
 bracketed _ = form.Value
@@ -111,7 +114,7 @@ abbrev pub handle_form : Form → Form
 handle_form form.Place = form.HandlePlace
 handle_form _ = form.Value
 
--- the operator of `a op= b`
+-- `operator_of op` is the operator of `a op= b`.
 abbrev pub operator_of : AssignOp → Option Calculator
 operator_of assigns.Assign = None
 operator_of assigns.Add = Some calculators.Add
@@ -126,7 +129,7 @@ operator_of assigns.ShiftLeft = Some calculators.ShiftLeft
 operator_of assigns.ShiftRight = Some calculators.ShiftRight
 operator_of assigns.ShiftRightArithmetic = Some calculators.ShiftRightArithmetic
 
--- what a place takes: `=` and `op=` a primitive type, `@p =` a handle
+-- A place takes so: `=` and `op=` a primitive type, `@p =` a handle.
 abbrev pub is_stored : Form → Ty → Bool
 is_stored form.HandlePlace (ty.Handle o) = true
 is_stored form.HandlePlace ty.Unknown = true
@@ -137,12 +140,13 @@ is_stored _ _ = false
 
 -- calls
 
--- a call says its parameters' types; a method is called on the object that runs
+-- A call says its parameters' types; a method is called on the object that runs.
 abbrev pub call_of : Callable → List VarType → Exprs → Expr
-call_of (callables.OwnMethod class method result) parameters es = Invoke (This class) (methods.Script class method result) parameters es
+call_of (callables.OwnMethod class method result) parameters es =
+    Invoke (This class) (methods.Script class method result) parameters es
 call_of (callables.Target target) parameters es = Call target parameters es
 
--- what the construction of an array takes, of so many arguments: at most one, how many elements it has
+-- The construction of an array takes, of so many arguments, at most one: how many elements it has.
 abbrev pub array_parameters : ℕ → List Ty
 array_parameters count = if nat_eq count 0 then [] else ty.Integer kinds.Uint ∷ []
 

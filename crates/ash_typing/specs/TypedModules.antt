@@ -1,6 +1,7 @@
 -- The typed tree of a module, one case for each phrase. Items see each other in any order, so that each is typed in the
 -- environment that all of them make.
-use Rattle.std.specs.Prelude.{◌≡◌, ◌≤◌, ◌⊎◌, ◌+◌, ℕ, List, [], ◌∷◌, ◌++◌, Bool, true, false, Option, Some, None, map, length}
+use Rattle.std.specs.Prelude.{◌≡◌, ◌≤◌, ◌⊎◌, ◌+◌, ℕ, List, [], ◌∷◌, ◌++◌, Bool, true, false, Option, Some, None, map}
+use Rattle.std.specs.Prelude.{length}
 use Rattle.std.specs.Bool.{IsTrue}
 use Rattle.std.specs.List.{AllByRecursion, AllZip, IsDistinct}
 use Rattle.std.specs.Str.{bytes_eq}
@@ -19,18 +20,20 @@ use Rattle.ash_typing.specs.TypedStatements.{AreStmts}
 use Rattle.ash_typed.specs.Modules.{Variables, Function, Signature, Interface, Implementation, Class, Module}
 use Rattle.ash_typing.specs.Scopes.{body_scope}
 use Rattle.ash_typing.specs.Returning.{returns_in}
-use Rattle.ash_tree.specs.Items.{Routine, routine_of, constructing, classes_of, interfaces_of, classes_before, functions_of, globals_of, fields_of, methods_of, constructors_of, variable_names, member_names, item_names, parameter_name}
+use Rattle.ash_tree.specs.Items.{Routine, routine_of, constructing, classes_of, interfaces_of, classes_before}
+use Rattle.ash_tree.specs.Items.{functions_of, globals_of, fields_of, methods_of, constructors_of, variable_names}
+use Rattle.ash_tree.specs.Items.{member_names, item_names, parameter_name}
 use Rattle.ash_typing.specs.Implementations.{implemented}
 
 -- names
 
--- a name that no type and no function is registered by
+-- No type and no function is registered by this name.
 abbrev pub IsFree : List host.Call → List ℕ → Type 0
 IsFree calls name = named_in calls name ≡ None
 
 -- types
 
--- the type of a parameter or of a result: a primitive type, or a handle, since objects are passed by handles
+-- A parameter or a result may be of this type: it is primitive, or a handle, since objects are passed by handles.
 abbrev pub is_passed : Ty → Bool
 is_passed ty.Bool = true
 is_passed (ty.Integer k) = true
@@ -51,25 +54,27 @@ IsPassedParameter env p = IsPassed (ty_in env p.of)
 
 -- variables of a module or of a class
 
--- `T x = a, y(b), z`
+-- `T x = a, y(b), z` has these typed variables.
 pub record AreVariables (env : Environment) (v : written.Vars) (typed : Variables) : Type 0 where
   pub variable : IsVariableType (ty_in env v.of)
   pub line : typed.line ≡ (written.place_of_type v.of).line
   pub values : AllZip (IsDeclared env (ty_in env v.of)) v.decls typed.values
 
--- the fields of a class: the variables of each declaration, in source order
+-- The fields of a class are the variables of each declaration, in source order.
 abbrev pub AreFields : Environment → List written.Vars → List Initialization → Type 0
 AreFields env [] typed = typed ≡ []
-AreFields env (v ∷ vs) typed = (values : List Initialization) × (more : List Initialization) × IsVariableType (ty_in env v.of) × AllZip (IsDeclared env (ty_in env v.of)) v.decls values × AreFields env vs more × (typed ≡ values ++ more)
+AreFields env (v ∷ vs) typed =
+    (values : List Initialization) × (more : List Initialization) × IsVariableType (ty_in env v.of)
+    × AllZip (IsDeclared env (ty_in env v.of)) v.decls values × AreFields env vs more × (typed ≡ values ++ more)
 
 -- functions
 
--- parameters and the variables of a body are one block
+-- Parameters and the variables of a body are one block.
 abbrev pub IsBody : Environment → Ty → List written.Stmt → Body → Type 0
 IsBody env of body typed = AreStmts (body_scope env of) (written.stmts body) typed
 
--- A function, a method or a constructor that gives this type. Its parameters differ in name, and a function with a result
--- returns however its conditions turn out.
+-- A function, a method or a constructor that gives this type. Its parameters differ in name, and a function with a
+-- result returns however its conditions turn out.
 pub record IsRoutine (env : Environment) (of : Ty) (r : Routine) (typed : Function) : Type 0 where
   pub name : typed.name ≡ r.name
   pub line : typed.line ≡ r.place.line
@@ -80,12 +85,12 @@ pub record IsRoutine (env : Environment) (of : Ty) (r : Routine) (typed : Functi
   pub body : IsBody (with_locals env (map (parameter_of env) r.parameters)) of r.body typed.body
   pub returns : (of ≡ ty.Void) ⊎ IsTrue (returns_in r.body)
 
--- a function without a result is void
+-- A function without a result is void.
 abbrev pub IsResult : Environment → Option written.Named → Type 0
 IsResult env None = Unit {0}
 IsResult env (Some of) = IsPassed (ty_in env of)
 
--- `T f(..) { .. }`
+-- `T f(..) { .. }` has this typed function.
 pub record IsFunction (env : Environment) (f : written.Function) (typed : Function) : Type 0 where
   pub passed : IsResult env f.result
   pub routine : IsRoutine env (result_in env f.result) (routine_of f) typed
@@ -95,7 +100,7 @@ pub record IsFunction (env : Environment) (f : written.Function) (typed : Functi
 abbrev pub signature_name : written.InterfaceMethod → List ℕ
 signature_name m = m.name
 
--- `T m(..);` in an interface: its parameters differ in name
+-- `T m(..);` in an interface has this typed signature: its parameters differ in name.
 pub record IsSignature (env : Environment) (m : written.InterfaceMethod) (typed : Signature) : Type 0 where
   pub name : typed.name ≡ m.name
   pub passed_result : IsResult env m.result
@@ -104,7 +109,7 @@ pub record IsSignature (env : Environment) (m : written.InterfaceMethod) (typed 
   pub differ : IsDistinct bytes_eq (map parameter_name m.parameters)
   pub parameters : typed.parameters ≡ map (type_of_parameter env) m.parameters
 
--- An interface behind so many classes. It has at most 32 methods, which differ in name.
+-- An interface after so many classes. It has at most 32 methods, which differ in name.
 pub record IsInterface (env : Environment) (i : written.Interface) (classes : ℕ) (typed : Interface) : Type 0 where
   pub name : typed.name ≡ i.name
   pub line : typed.line ≡ i.place.line
@@ -113,10 +118,11 @@ pub record IsInterface (env : Environment) (i : written.Interface) (classes : �
   pub few : length i.methods ≤ 32
   pub methods : AllZip (IsSignature env) i.methods typed.methods
 
--- interfaces, each behind so many classes
+-- These are interfaces, each after so many classes.
 abbrev pub AreInterfaces : Environment → List written.Interface → List ℕ → List Interface → Type 0
 AreInterfaces env [] [] [] = Unit {0}
-AreInterfaces env (i ∷ is) (before ∷ befores) (typed ∷ more) = IsInterface env i before typed × AreInterfaces env is befores more
+AreInterfaces env (i ∷ is) (before ∷ befores) (typed ∷ more) =
+    IsInterface env i before typed × AreInterfaces env is befores more
 AreInterfaces env _ _ _ = ⊥
 
 -- classes
@@ -124,17 +130,18 @@ AreInterfaces env _ _ _ = ⊥
 abbrev pub listed_name : written.TypeName → List ℕ
 listed_name n = n.name
 
--- an interface that the class of this place lists: the class has each of its methods, with the same types
+-- The class of this place lists an interface, and has each of its methods, with the same types.
 pub record IsListed (env : Environment) (class : ℕ) (n : written.TypeName) (typed : Implementation) : Type 0 where
   pub interface : object_named env.registered env.heads n.name ≡ Some (OfInterface typed.interface)
   pub methods : implemented env class typed.interface ≡ Some typed.methods
 
--- a constructor has its class's name
-pub record IsConstructor (env : Environment) (class : List ℕ) (c : written.Constructor) (typed : Function) : Type 0 where
+-- A constructor has its class's name.
+pub record IsConstructor (env : Environment) (class : List ℕ) (c : written.Constructor)
+    (typed : Function) : Type 0 where
   pub named : c.name ≡ class
   pub routine : IsRoutine env ty.Void (constructing c) typed
 
--- a class has at most one
+-- A class has at most one constructor.
 abbrev pub HasConstructor : Environment → List ℕ → List written.Constructor → Option Function → Type 0
 HasConstructor env class [] None = Unit {0}
 HasConstructor env class (c ∷ []) (Some typed) = IsConstructor env class c typed
@@ -152,7 +159,7 @@ pub record IsClass (env : Environment) (place : ℕ) (c : written.Class) (typed 
   pub methods : AllZip (IsFunction (inside env place)) (methods_of c.members) typed.methods
   pub constructor : HasConstructor (inside env place) c.name (constructors_of c.members) typed.constructor
 
--- classes, of which the first has this place
+-- These are classes, of which the first has this place.
 abbrev pub AreClasses : Environment → ℕ → List written.Class → List Class → Type 0
 AreClasses env place [] [] = Unit {0}
 AreClasses env place (c ∷ cs) (typed ∷ more) = IsClass env place c typed × AreClasses env (place + 1) cs more
@@ -160,7 +167,7 @@ AreClasses env place _ _ = ⊥
 
 -- modules
 
--- what each item of a module sees
+-- `environment calls is` is what each item of a module sees.
 abbrev pub environment : List host.Call → List written.Item → Environment
 environment calls is = seen calls (heads calls is)
 

@@ -1,6 +1,6 @@
--- The rules of typing of statements (AngelScript manual, "Statements"), one case for each, where every type that is named
--- is known. A rule says when a statement has a typed tree, and which; it says neither in which order its parts are walked
--- nor what is told where it does not hold.
+-- The rules of typing of statements (AngelScript manual, "Statements"), one case for each, where every type that is
+-- named is known. A rule says when a statement has a typed tree, and which; it says neither in which order its parts
+-- are walked nor what is reported where it does not hold.
 --
 -- `IsStmt scope s t`: in this scope the statement `s` has the typed tree `t`.
 use Rattle.std.specs.Prelude.{◌≡◌, List, [], ◌∷◌, ◌++◌, Bool, true, false, ◌||◌, Option, Some, None, map}
@@ -15,7 +15,10 @@ use Rattle.ash_typing.specs.declared.types.Ty.TheVariants as ty
 use Rattle.ash_typing.specs.Fitting.{fits}
 use Rattle.ash_typed.specs.declared.tree.statements.Test.TheVariants.{First, Last}
 use Rattle.ash_typed.specs.Tree.{Expr}
-use Rattle.ash_typed.specs.StatementTree.{Initialization, Stmt, Empty, Declare, Evaluate, Block, If, no_branch, branch, Head, no_head, declared_head, evaluated_head, Repeat, For, repeated, Switch, Break, Continue, Return, Stmts, no_stmt, stmt, labelled, Cases, no_case, next_case}
+use Rattle.ash_typed.specs.StatementTree.{Initialization, Stmt, Empty, Declare, Evaluate, Block, If, no_branch, branch}
+use Rattle.ash_typed.specs.StatementTree.{Head, no_head, declared_head, evaluated_head, Repeat, For, repeated, Switch}
+use Rattle.ash_typed.specs.StatementTree.{Break, Continue, Return, Stmts, no_stmt, stmt, labelled, Cases, no_case}
+use Rattle.ash_typed.specs.StatementTree.{next_case}
 use Rattle.ash_typing.specs.Environment.{Environment}
 use Rattle.ash_typing.specs.Heads.{declared, ty_in}
 use Rattle.ash_typing.specs.Terms.{Term, converted_to}
@@ -24,42 +27,43 @@ use Rattle.ash_typing.specs.Returning.{is_default}
 use Rattle.ash_typing.specs.Labels.{holds_label, is_same_constant, is_last}
 use Rattle.ash_typing.specs.Scopes.{Scope, block_of, loop_of, switch_of, with_variables, behind, is_taken}
 
--- a scope whose types are known
+-- The types of a scope are known.
 pub record IsKnownScope (scope : Scope) : Type 0 where
   pub env : IsKnown scope.env
   pub gives : IsKnownType scope.gives
 
--- variables of a type, each seen from the end of its own on: none of their names is taken in the block
+-- Variables of a type are each seen from the end of their own on, and none of their names is taken in the block.
 pub data AreDeclared : Scope → Ty → List written.Decl → List Initialization → Type 0 where
   none_declared : {scope : Scope} {of : Ty} → AreDeclared scope of [] []
-  and_declared : {scope : Scope} {of : Ty} {d : written.Decl} {ds : List written.Decl} {value : Initialization} {values : List Initialization}
+  and_declared : {scope : Scope} {of : Ty} {d : written.Decl} {ds : List written.Decl} {value : Initialization}
+      {values : List Initialization}
       → is_taken scope d.name ≡ false
       → IsDeclared scope.env of d value
       → AreDeclared (with_variables scope (declared of d ∷ [])) of ds values
       → AreDeclared scope of (d ∷ ds) (value ∷ values)
 
--- a condition, of type `bool`
+-- A condition is of type `bool`.
 pub data IsCondition : Environment → written.Expr → Expr → Type 0 where
   condition : {env : Environment} {e : written.Expr} {t : Term}
       → HasType env false e t
       → t.ty ≡ ty.Bool
       → IsCondition env e t.tree
 
--- the head of a `for` may have no condition
+-- The head of a `for` may have no condition.
 pub data MayBeCondition : Environment → Option written.Expr → Option Expr → Type 0 where
   endless : {env : Environment} → MayBeCondition env None None
   until : {env : Environment} {e : written.Expr} {tree : Expr}
       → IsCondition env e tree
       → MayBeCondition env (Some e) (Some tree)
 
--- the head of a `for`: nothing, variables or an expression
+-- The head of a `for` is nothing, variables or an expression.
 pub data IsHead : Scope → written.Stmt → Head → Type 0 where
-  heads_nothing : {scope : Scope} {p : place.Place} → IsHead scope (written.Empty p) no_head
-  heads_variables : {scope : Scope} {p : place.Place} {v : written.Vars} {values : List Initialization}
+  head_is_empty : {scope : Scope} {p : place.Place} → IsHead scope (written.Empty p) no_head
+  head_declares : {scope : Scope} {p : place.Place} {v : written.Vars} {values : List Initialization}
       → IsVariableType (ty_in scope.env v.of)
       → AreDeclared scope (ty_in scope.env v.of) v.decls values
       → IsHead scope (written.Declare p v) (declared_head values)
-  heads_expression : {scope : Scope} {p : place.Place} {e : written.Expr} {t : Term}
+  head_evaluates : {scope : Scope} {p : place.Place} {e : written.Expr} {t : Term}
       → HasType scope.env false e t
       → IsHead scope (written.Evaluate p e) (evaluated_head t.tree)
 
@@ -114,14 +118,16 @@ mutual
         → IsCondition scope.env c tree
         → IsStmt scope (written.DoWhile p s c) (Repeat p.line (repeated Last (Some tree) [] t))
     -- for (f c; e ..) s: what f declares is seen by the others
-    for_loop : {scope : Scope} {p : place.Place} {f s : written.Stmt} {c : Option written.Expr} {es : List written.Expr} {h : Head} {t : Stmt} {tree : Option Expr} {ts : List Term}
+    for_loop : {scope : Scope} {p : place.Place} {f s : written.Stmt} {c : Option written.Expr} {es : List written.Expr}
+        {h : Head} {t : Stmt} {tree : Option Expr} {ts : List Term}
         → IsHead (block_of scope) f h
         → MayBeCondition (behind (block_of scope) f).env c tree
         → AllHaveType (behind (block_of scope) f).env (written.exprs es) ts
         → IsStmt (loop_of (behind (block_of scope) f)) s t
         → IsStmt scope (written.For p f c es s) (For p.line h (repeated First tree (map tree_of_term ts) t))
     -- switch (e) { case .. }
-    switch : {scope : Scope} {p : place.Place} {e : written.Expr} {cs : written.Cases} {t : Term} {k : Kind} {rows : Cases}
+    switch : {scope : Scope} {p : place.Place} {e : written.Expr} {cs : written.Cases} {t : Term} {k : Kind}
+        {rows : Cases}
         → HasType scope.env false e t
         → t.ty ≡ ty.Integer k
         → AreCases (switch_of scope) k [] cs rows
@@ -143,7 +149,7 @@ mutual
         → fits scope.env.heads.classes scope.gives t.ty ≡ true
         → IsStmt scope (written.Return p (Some e)) (Return p.line (Some (converted_to scope.gives t)))
 
-  -- statements, each of which sees the variables of those before it
+  -- Statements each see the variables of those before them.
   pub data AreStmts : Scope → written.Stmts → Stmts → Type 0 where
     no_more_stmts : {scope : Scope} → AreStmts scope written.no_stmt no_stmt
     more_stmts : {scope : Scope} {s : written.Stmt} {ss : written.Stmts} {t : Stmt} {ts : Stmts}
@@ -151,11 +157,12 @@ mutual
         → AreStmts (behind scope s) ss ts
         → AreStmts scope (written.stmt s ss) (stmt t ts)
 
-  -- labels, behind those before them, with the statements behind each
+  -- Labels come after those before them, with the statements after each.
   pub data AreCases : Scope → Kind → List Label → written.Cases → Cases → Type 0 where
     no_more_cases : {scope : Scope} {k : Kind} {before : List Label}
         → AreCases scope k before written.no_case no_case
-    more_cases : {scope : Scope} {k : Kind} {before : List Label} {p : place.Place} {l : Label} {ss : written.Stmts} {cs : written.Cases} {ts : Stmts} {rows : Cases}
+    more_cases : {scope : Scope} {k : Kind} {before : List Label} {p : place.Place} {l : Label} {ss : written.Stmts}
+        {cs : written.Cases} {ts : Stmts} {rows : Cases}
         → IsLabel k before (is_last cs) l
         → AreStmts scope ss ts
         → AreCases scope k (before ++ l ∷ []) cs rows

@@ -24,7 +24,7 @@ use Rattle.ash_typing.specs.declared.forms.Operator.{Operator}
 use Rattle.ash_typing.specs.declared.forms.Operator.TheVariants as operators
 use Rattle.ash_typed.specs.declared.tree.operations.Operands.{Operands}
 use Rattle.ash_typed.specs.declared.tree.operations.Operands.TheVariants as operands
-use Rattle.ash_typed.specs.TypeOf.{ValueType, no_value, null_value, value, kept}
+use Rattle.ash_typed.specs.TypeOf.{ValueType, no_value, null_value, value, as_value}
 
 -- integer types
 
@@ -40,18 +40,18 @@ is_wide Uint = false
 is_wide Int64 = true
 is_wide Uint64 = true
 
--- the integer type with a sign or without, of 64 bits or of 32
+-- `kind_by signed wide` is the integer type with a sign or without, of 64 bits or of 32.
 abbrev pub kind_by : (signed wide : Bool) → Kind
 kind_by true false = Int
 kind_by false false = Uint
 kind_by true true = Int64
 kind_by false true = Uint64
 
--- where two integer types meet: at the greater width, signed where either is
+-- Two integer types meet at the greater width, signed where either is.
 abbrev pub meeting : Kind → Kind → Kind
 meeting j k = kind_by (is_signed j || is_signed k) (is_wide j || is_wide k)
 
--- the signed type of the same width
+-- `signed k` is the signed type of the same width.
 abbrev pub signed : Kind → Kind
 signed k = kind_by true (is_wide k)
 
@@ -62,14 +62,14 @@ is_same_kind Int64 Int64 = true
 is_same_kind Uint64 Uint64 = true
 is_same_kind _ _ = false
 
--- whether a type holds a number that is not negative
+-- The type holds a number that is not negative.
 abbrev pub holds : Kind → ℕ → Bool
 holds Int n = nat_lt n (2 ^ 31)
 holds Uint n = nat_lt n (2 ^ 32)
 holds Int64 n = nat_lt n (2 ^ 63)
 holds Uint64 n = true
 
--- the type of a number that stands for itself: the first that holds it
+-- `kind_of n` is the type of a number by itself: the first that holds it.
 abbrev pub kind_of : ℕ → Kind
 kind_of n = if holds Int n then Int else (if holds Uint n then Uint else (if holds Int64 n then Int64 else Uint64))
 
@@ -94,11 +94,11 @@ abbrev pub is_interface : ObjectType → Bool
 is_interface (Interface i) = true
 is_interface _ = false
 
--- whether objects of two types can be compared: of one type, or where one is an interface
+-- Objects of two types can be compared: they are of one type, or one is an interface.
 abbrev pub is_comparable : ObjectType → ObjectType → Bool
 is_comparable o p = is_same_object o p || (is_interface o || is_interface p)
 
--- the type of the objects that an expression of a type gives
+-- `object_of of` is the type of the objects that an expression of a type gives.
 abbrev pub object_of : Ty → Option ObjectType
 object_of (ty.Object o) = Some o
 object_of (ty.Handle o) = Some o
@@ -106,7 +106,7 @@ object_of _ = None
 
 -- types of variables
 
--- whether variables may be of a type: none stands for an object of an interface, only handles do
+-- Variables may be of this type: none is itself an object of an interface, but handles may refer to one.
 abbrev pub is_variable : Ty → Bool
 is_variable ty.Bool = true
 is_variable (ty.Integer k) = true
@@ -114,7 +114,7 @@ is_variable (ty.Object o) = not (is_interface o)
 is_variable (ty.Handle o) = true
 is_variable _ = false
 
--- whether a type is the same as another, as far as both are known
+-- The type is the same as another, as far as both are known.
 abbrev pub is_same : Ty → Ty → Bool
 is_same ty.Unknown _ = true
 is_same _ ty.Unknown = true
@@ -126,7 +126,7 @@ is_same ty.Null ty.Null = true
 is_same ty.Void ty.Void = true
 is_same _ _ = false
 
--- the type of an array's elements
+-- `ty_of_element of` is the type of an array's elements.
 abbrev pub ty_of_element : Element → Ty
 ty_of_element elements.Bool = ty.Bool
 ty_of_element (elements.Integer k) = ty.Integer k
@@ -134,7 +134,7 @@ ty_of_element (elements.Class c) = ty.Handle (Class c)
 ty_of_element (elements.Interface i) = ty.Handle (Interface i)
 ty_of_element (elements.Host kind) = ty.Handle (Host kind)
 
--- whether functions may give a type
+-- Functions may give this type.
 abbrev pub is_result : Ty → Bool
 is_result ty.Void = true
 is_result of = is_variable of
@@ -148,7 +148,7 @@ var_type (ty.Object o) = vars.Object o
 var_type (ty.Handle o) = vars.Handle o
 var_type _ = vars.Bool
 
--- what a function gives, as a typed tree says it: `void` gives no value
+-- `result_type of` is what a function gives, as a typed tree says it: `void` gives no value.
 abbrev pub result_type : Ty → Option VarType
 result_type ty.Void = None
 result_type of = Some (var_type of)
@@ -159,11 +159,12 @@ ty_of_var (vars.Integer k) = ty.Integer k
 ty_of_var (vars.Object o) = ty.Object o
 ty_of_var (vars.Handle o) = ty.Handle o
 
--- What an expression of a type gives: no value, null, or a value of a type of variables; an object is given by its handle.
+-- What an expression of a type gives: no value, null, or a value of a type of variables; an object is given by its
+-- handle.
 abbrev pub value_type : Ty → ValueType
 value_type ty.Void = no_value
 value_type ty.Null = null_value
-value_type of = value (kept (var_type of))
+value_type of = value (as_value (var_type of))
 
 -- types that are written
 
@@ -174,7 +175,7 @@ ty_of primitives.Int64 = ty.Integer Int64
 ty_of primitives.Uint = ty.Integer Uint
 ty_of primitives.Uint64 = ty.Integer Uint64
 
--- whether an expression gives an object that can be compared with one of a type
+-- An expression gives an object that can be compared with one of a type.
 abbrev pub agrees_object : ObjectType → Ty → Bool
 agrees_object o (ty.Object p) = is_comparable o p
 agrees_object o (ty.Handle p) = is_comparable o p
@@ -182,7 +183,7 @@ agrees_object o ty.Null = true
 agrees_object o ty.Unknown = true
 agrees_object _ _ = false
 
--- whether two types are of objects that can be one
+-- Two types are of objects that can be one.
 abbrev pub agrees : Ty → Ty → Bool
 agrees (ty.Object o) t = agrees_object o t
 agrees (ty.Handle o) t = agrees_object o t
@@ -196,7 +197,7 @@ agrees ty.Unknown ty.Null = true
 agrees ty.Unknown ty.Unknown = true
 agrees _ _ = false
 
--- whether an expression of a type gives an object of this one, or null
+-- An expression of a type gives an object of this one, or null.
 abbrev pub gives_object : ObjectType → Ty → Bool
 gives_object o (ty.Object p) = is_same_object o p
 gives_object o (ty.Handle p) = is_same_object o p
@@ -204,7 +205,7 @@ gives_object o ty.Null = true
 gives_object o ty.Unknown = true
 gives_object _ _ = false
 
--- the type of `c ? a : b`, from those of its branches
+-- `common_object o t` is the type of `c ? a : b`, from those of its branches.
 abbrev pub common_object : ObjectType → Ty → Option Ty
 common_object o t = if gives_object o t then Some (ty.Handle o) else None
 
@@ -224,7 +225,7 @@ common _ _ = None
 
 -- operators
 
--- what an operator between two operands is of
+-- `sort_of op` is what an operator between two operands is of.
 abbrev pub sort_of : BinaryOp → Sort
 sort_of binary.Multiply = sort.Arithmetic
 sort_of binary.Divide = sort.Arithmetic
@@ -249,7 +250,7 @@ sort_of binary.Xor = sort.Logic
 sort_of binary.And = sort.Logic
 sort_of binary.Or = sort.Logic
 
--- what an operator is in a typed tree
+-- `typed_operator op` is what an operator is in a typed tree.
 abbrev pub typed_operator : BinaryOp → Operator
 typed_operator binary.Multiply = operators.Calculate calculators.Multiply
 typed_operator binary.Divide = operators.Calculate calculators.Divide
@@ -274,7 +275,7 @@ typed_operator binary.Xor = operators.Compare comparators.Xor
 typed_operator binary.And = operators.Lazy lazies.And
 typed_operator binary.Or = operators.Lazy lazies.Or
 
--- the operator that calculates so
+-- `binary_of c` is the operator that calculates so.
 abbrev pub binary_of : Calculator → BinaryOp
 binary_of calculators.Multiply = binary.Multiply
 binary_of calculators.Divide = binary.Divide
@@ -288,12 +289,12 @@ binary_of calculators.BitAnd = binary.BitAnd
 binary_of calculators.BitXor = binary.BitXor
 binary_of calculators.BitOr = binary.BitOr
 
--- the integer type of operands, where they are integers
+-- `integers_in o` is the integer type of operands, where they are integers.
 abbrev pub integers_in : Operands → Kind
 integers_in (operands.Integers k) = k
 integers_in _ = Int
 
--- whether an operator takes a type anywhere
+-- An operator takes a type anywhere.
 abbrev pub takes : Sort → Ty → Bool
 takes _ ty.Unknown = true
 takes sort.Arithmetic (ty.Integer _) = true
@@ -307,7 +308,7 @@ takes sort.Identity ty.Null = true
 takes sort.Logic ty.Bool = true
 takes _ _ = false
 
--- what an operand of an unknown type is taken for, beside one of another type
+-- `assumed s other of` is what an operand of an unknown type is taken for, where the other is of another type.
 abbrev pub assumed : Sort → Ty → Ty → Ty
 assumed sort.Equality ty.Bool ty.Unknown = ty.Bool
 assumed sort.Identity _ ty.Unknown = ty.Null
@@ -315,7 +316,8 @@ assumed sort.Logic _ ty.Unknown = ty.Bool
 assumed _ _ ty.Unknown = ty.Integer Int
 assumed _ _ t = t
 
--- what an operator does with operands of these types, where it takes them: what both become, and what comes out
+-- `meets s t u` is what an operator does with operands of these types, where it takes them: what both become, and what
+-- comes out.
 abbrev pub meets : Sort → Ty → Ty → Option Operands
 meets sort.Arithmetic (ty.Integer j) (ty.Integer k) = Some (operands.Integers (meeting j k))
 meets sort.Shift (ty.Integer j) (ty.Integer k) = Some (operands.Integers j)

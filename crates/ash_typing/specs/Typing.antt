@@ -1,9 +1,9 @@
--- The rules of typing of expressions and of variables (AngelScript manual, "Expressions", "Conversions" and "Variables"),
--- one case for each, where every type that is named is known. A rule says when a phrase has a type, and by which typed
--- tree; it says neither in which order its parts are walked nor what is told where it does not hold.
+-- The rules of typing of expressions and of variables (AngelScript manual, "Expressions", "Conversions" and
+-- "Variables"), one case for each, where every type that is named is known. A rule says when a phrase has a type, and
+-- by which typed tree; it says neither in which order its parts are walked nor what is reported where it does not hold.
 --
--- `HasType env left e t`: the expression `e` has the type of the term `t`, and its tree. `left` says that `e` stands left
--- of `=`, where `@e` is what is written to.
+-- `HasType env left e t`: the expression `e` has the type of the term `t`, and its tree. `left` says that `e` is
+-- left of `=`, where `@e` is what is written to.
 use Rattle.std.specs.Prelude.{◌≡◌, ℕ, length, List, [], ◌∷◌, Bool, true, false, Option, Some, None, map}
 use Rattle.std.specs.List.{AllByRecursion}
 use Rattle.ash_tree.specs.declared.tree.places.Place as place
@@ -29,13 +29,18 @@ use Rattle.ash_typed.specs.declared.tree.operations.Calculator.{Calculator}
 use Rattle.ash_typed.specs.declared.tree.operations.Operands.{Operands}
 use Rattle.ash_typed.specs.declared.tree.operations.Operands.TheVariants as operands
 use Rattle.ash_typed.specs.declared.tree.operations.Step.TheVariants as steps
-use Rattle.ash_typing.specs.Types.{is_variable, is_result, var_type, signed, common, object_of, ty_of, ty_of_element, sort_of, binary_of, meets, outcome}
-use Rattle.ash_typed.specs.Tree.{Expr, Truth, Null, This, Read, Invoke, Cast, Call, Alter, Conditional, Assign, Update, Count, Place, Held, Indexed, Exprs, no_expr, expr}
+use Rattle.ash_typing.specs.Types.{is_variable, is_result, var_type, signed, common, object_of, ty_of, ty_of_element}
+use Rattle.ash_typing.specs.Types.{sort_of, binary_of, meets, outcome}
+use Rattle.ash_typed.specs.Tree.{Expr, Truth, Null, This, Read, Invoke, Cast, Call, Alter, Conditional, Assign, Update}
+use Rattle.ash_typed.specs.Tree.{Count, Place, Held, Indexed, Exprs, no_expr, expr}
 use Rattle.ash_typing.specs.Fitting.{fits}
 use Rattle.ash_typing.specs.Heads.{object_named, element_named}
-use Rattle.ash_typing.specs.Environment.{Environment, Declared, Function, Interface, Class, Known, Callee, Invoked, variable_in, callee_in, member_in, method_in, construction}
+use Rattle.ash_typing.specs.Environment.{Environment, Declared, Function, Interface, Class, Known, Callee, Invoked}
+use Rattle.ash_typing.specs.Environment.{variable_in, callee_in, member_in, method_in, construction}
 use Rattle.ash_typed.specs.StatementTree.{Initialization}
-use Rattle.ash_typing.specs.Terms.{operand_type, applied, operator_of, is_stored, call_of, assignable, bracketed, handle_form, array_parameters, initialization, Term, term, read_term, number_term, converted_to, beside, right_by}
+use Rattle.ash_typing.specs.Terms.{operand_type, applied, operator_of, is_stored, call_of, assignable, bracketed}
+use Rattle.ash_typing.specs.Terms.{handle_form, array_parameters, initialization, Term, term, read_term, number_term}
+use Rattle.ash_typing.specs.Terms.{converted_to, adapted_to, right_by}
 
 -- an environment whose types are known
 
@@ -46,11 +51,11 @@ is_known _ = true
 abbrev pub IsKnownType : Ty → Type 0
 IsKnownType of = is_known of ≡ true
 
--- a type of variables
+-- Variables may be of this type.
 abbrev pub IsVariableType : Ty → Type 0
 IsVariableType of = is_variable of ≡ true
 
--- what a function gives
+-- A function may give this.
 abbrev pub IsResultType : Ty → Type 0
 IsResultType of = is_result of ≡ true
 
@@ -78,17 +83,17 @@ pub record IsKnown (env : Environment) : Type 0 where
 
 -- terms
 
--- The operator takes the two terms, each beside the other, for these operands.
+-- The operator takes the two terms, each adapted to the other, for these operands.
 abbrev pub Meet : BinaryOp → Term → Term → Operands → Type 0
-Meet op t u o = meets (sort_of op) (beside (sort_of op) u t).ty (beside (sort_of op) t u).ty ≡ Some o
+Meet op t u o = meets (sort_of op) (adapted_to (sort_of op) u t).ty (adapted_to (sort_of op) t u).ty ≡ Some o
 
--- what becomes of the left one
+-- `left_of` is what becomes of the left operand.
 abbrev pub left_of : BinaryOp → Operands → Term → Term → Expr
-left_of op o t u = converted_to (operand_type o) (beside (sort_of op) u t)
+left_of op o t u = converted_to (operand_type o) (adapted_to (sort_of op) u t)
 
--- what becomes of the right one
+-- `right_of` is what becomes of the right operand.
 abbrev pub right_of : BinaryOp → Operands → Term → Term → Expr
-right_of op o t u = right_by (sort_of op) o (beside (sort_of op) t u)
+right_of op o t u = right_by (sort_of op) o (adapted_to (sort_of op) t u)
 
 -- As many arguments as parameters, each of which fits its parameter and is converted to its type.
 pub data AreArguments (classes : List Class) : List Ty → List Term → Exprs → Type 0 where
@@ -115,12 +120,14 @@ mutual
     name : {left : Bool} {p : place.Place} {text : List ℕ} {known : Known}
         → variable_in env text ≡ Some known
         → HasType env left (written.Name p text) (read_term known.1 known.0)
-    call : {left : Bool} {p : place.Place} {text : List ℕ} {es : written.Exprs} {callee : Callee} {parameters : List Ty} {ts : List Term} {trees : Exprs}
+    call : {left : Bool} {p : place.Place} {text : List ℕ} {es : written.Exprs} {callee : Callee} {parameters : List Ty}
+        {ts : List Term} {trees : Exprs}
         → callee_in env text ≡ Some callee
         → callee.parameters ≡ Some parameters
         → AllHaveType env es ts
         → AreArguments env.heads.classes parameters ts trees
-        → HasType env left (written.Call p text es) (term callee.result (call_of callee.target (map var_type parameters) trees))
+        → HasType env left (written.Call p text es)
+        (term callee.result (call_of callee.target (map var_type parameters) trees))
     -- (e), which is no number alone; what can be assigned still can
     brackets : {left : Bool} {p : place.Place} {e : written.Expr} {t : Term}
         → HasType env false e t
@@ -137,11 +144,14 @@ mutual
         → t.ty ≡ ty.Bool
         → HasType env left (written.Convert p to e) (term ty.Bool t.tree)
     -- `array<T>(e ..)`, of none or one argument
-    new_array : {left : Bool} {p : place.Place} {of : written.Element} {es : written.Exprs} {elements : Element} {ts : List Term} {trees : Exprs}
+    new_array : {left : Bool} {p : place.Place} {of : written.Element} {es : written.Exprs} {elements : Element}
+        {ts : List Term} {trees : Exprs}
         → element_named env.registered env.heads of ≡ Some elements
         → AllHaveType env es ts
         → AreArguments env.heads.classes (array_parameters (length ts)) ts trees
-        → HasType env left (written.NewArray p of es) (term (ty.Handle (objects.Array elements)) (Call (targets.Array elements) (map var_type (array_parameters (length ts))) trees))
+        → HasType env left (written.NewArray p of es)
+        (term (ty.Handle (objects.Array elements))
+        (Call (targets.Array elements) (map var_type (array_parameters (length ts))) trees))
     -- `cast<T>(e)`, of an object or a handle
     cast : {left : Bool} {p : place.Place} {to : written.TypeName} {e : written.Expr} {t : Term} {o from : ObjectType}
         → object_named env.registered env.heads to.name ≡ Some o
@@ -162,7 +172,8 @@ mutual
     minus : {left : Bool} {p : place.Place} {e : written.Expr} {t : Term} {k : Kind}
         → HasType env false e t
         → t.ty ≡ ty.Integer k
-        → HasType env left (written.Unary p unary.Minus e) (term (ty.Integer (signed k)) (Alter (changes.Negate (signed k)) (converted_to (ty.Integer (signed k)) t)))
+        → HasType env left (written.Unary p unary.Minus e)
+        (term (ty.Integer (signed k)) (Alter (changes.Negate (signed k)) (converted_to (ty.Integer (signed k)) t)))
     complement : {left : Bool} {p : place.Place} {e : written.Expr} {t : Term} {k : Kind}
         → HasType env false e t
         → t.ty ≡ ty.Integer k
@@ -190,7 +201,8 @@ mutual
         → HasType env false (written.Unary p unary.Handle e) (term (ty.Handle o) t.tree)
     handle_written : {p : place.Place} {e : written.Expr} {t : Term}
         → HasType env false e t
-        → HasType env true (written.Unary p unary.Handle e) (record { ty = t.ty; form = handle_form t.form; tree = t.tree })
+        → HasType env true (written.Unary p unary.Handle e)
+        (record { ty = t.ty; form = handle_form t.form; tree = t.tree })
     -- operators of one level, which group to the left
     binary : {left : Bool} {p : place.Place} {e : written.Expr} {ls : written.Links} {t u : Term}
         → HasType env false e t
@@ -203,7 +215,8 @@ mutual
         → HasType env false a x
         → HasType env false b y
         → common x.ty y.ty ≡ Some of
-        → HasType env left (written.Conditional p c a b) (term of (Conditional t.tree (converted_to of x) (converted_to of y)))
+        → HasType env left (written.Conditional p c a b)
+        (term of (Conditional t.tree (converted_to of x) (converted_to of y)))
     -- e = v, where e is a place of a primitive type, or `@` with a place of a handle
     assign : {left : Bool} {p : place.Place} {e v : written.Expr} {t u : Term} {at : Place}
         → HasType env true e t
@@ -212,8 +225,9 @@ mutual
         → HasType env false v u
         → fits env.heads.classes t.ty u.ty ≡ true
         → HasType env left (written.Assign p e assigns.Assign v) (term t.ty (Assign at (converted_to t.ty u)))
-    -- e op= v, where e is a place of an integer type: what stands there is an operand of its type
-    update : {left : Bool} {p : place.Place} {op : AssignOp} {c : Calculator} {e v : written.Expr} {t u : Term} {at : Place} {j k : Kind}
+    -- e op= v, where e is a place of an integer type: what is there is an operand of its type
+    update : {left : Bool} {p : place.Place} {op : AssignOp} {c : Calculator} {e v : written.Expr} {t u : Term}
+        {at : Place} {j k : Kind}
         → operator_of op ≡ Some c
         → HasType env false e t
         → assignable t.form t.tree ≡ Some at
@@ -221,9 +235,11 @@ mutual
         → t.ty ≡ ty.Integer k
         → HasType env false v u
         → Meet (binary_of c) (term t.ty Null) u (operands.Integers j)
-        → HasType env left (written.Assign p e op v) (term t.ty (Update at k (record { operator = c; of = j }) (right_of (binary_of c) (operands.Integers j) (term t.ty Null) u)))
+        → HasType env left (written.Assign p e op v)
+        (term t.ty (Update at k (record { operator = c; of = j })
+        (right_of (binary_of c) (operands.Integers j) (term t.ty Null) u)))
 
-  -- each of the arguments
+  -- Each of the arguments has the type of its term.
   pub data AllHaveType (env : Environment) : written.Exprs → List Term → Type 0 where
     none_left : AllHaveType env written.no_expr []
     each : {e : written.Expr} {es : written.Exprs} {t : Term} {ts : List Term}
@@ -231,7 +247,7 @@ mutual
         → AllHaveType env es ts
         → AllHaveType env (written.expr e es) (t ∷ ts)
 
-  -- operators of one level, and what stands before the first
+  -- Operators of one level have the type of the term, with what is before the first.
   pub data LinksHaveType (env : Environment) : Term → written.Links → Term → Type 0 where
     no_more : {t : Term} → LinksHaveType env t written.no_link t
     operated : {op : BinaryOp} {e : written.Expr} {ls : written.Links} {t u v : Term} {o : Operands}
@@ -240,7 +256,7 @@ mutual
         → LinksHaveType env (term (outcome (sort_of op) o) (applied op o (left_of op o t u) (right_of op o t u))) ls v
         → LinksHaveType env t (written.link op e ls) v
 
-  -- suffixes, and what stands before the first
+  -- Suffixes have the type of the term, with what is before the first.
   pub data SuffixesHaveType (env : Environment) : Term → written.Suffixes → Term → Type 0 where
     no_suffixes : {t : Term} → SuffixesHaveType env t written.no_suffix t
     suffixed : {s : written.Suffix} {ss : written.Suffixes} {t u v : Term}
@@ -255,18 +271,21 @@ mutual
         → member_in env o text ≡ Some found
         → SuffixHasType env t (written.Field p text) (read_term found.1 (Read (Held t.tree found.0)))
     -- .name(e ..)
-    method : {p : place.Place} {text : List ℕ} {es : written.Exprs} {t : Term} {o : ObjectType} {m : Invoked} {ts : List Term} {trees : Exprs}
+    method : {p : place.Place} {text : List ℕ} {es : written.Exprs} {t : Term} {o : ObjectType} {m : Invoked}
+        {ts : List Term} {trees : Exprs}
         → object_of t.ty ≡ Some o
         → method_in env o text ≡ Some m
         → AllHaveType env es ts
         → AreArguments env.heads.classes m.parameters ts trees
-        → SuffixHasType env t (written.Method p text es) (term m.result (Invoke t.tree m.method (map var_type m.parameters) trees))
+        → SuffixHasType env t (written.Method p text es)
+        (term m.result (Invoke t.tree m.method (map var_type m.parameters) trees))
     -- [e], of an array
     index : {e : written.Expr} {t u : Term} {elements : Element} {k : Kind}
         → object_of t.ty ≡ Some (objects.Array elements)
         → HasType env false e u
         → u.ty ≡ ty.Integer k
-        → SuffixHasType env t (written.Index e) (read_term (ty_of_element elements) (Read (Indexed t.tree (converted_to (ty.Integer Uint) u) elements)))
+        → SuffixHasType env t (written.Index e)
+        (read_term (ty_of_element elements) (Read (Indexed t.tree (converted_to (ty.Integer Uint) u) elements)))
     -- ++
     increment_after : {t : Term} {at : Place} {k : Kind}
         → assignable t.form t.tree ≡ Some at
@@ -284,7 +303,7 @@ abbrev pub is_object : Ty → Bool
 is_object (ty.Object o) = true
 is_object _ = false
 
--- a constructed object
+-- An object is constructed.
 pub data IsConstructed (env : Environment) : ObjectType → List Term → Expr → Type 0 where
   construct : {o : ObjectType} {callee : Callee} {parameters : List Ty} {ts : List Term} {trees : Exprs}
       → construction env o (length ts) ≡ Some callee
@@ -292,7 +311,7 @@ pub data IsConstructed (env : Environment) : ObjectType → List Term → Expr �
       → AreArguments env.heads.classes parameters ts trees
       → IsConstructed env o ts (call_of callee.target (map var_type parameters) trees)
 
--- what a variable of a type begins with: where nothing is named, with zero, `false` or null
+-- A variable of a type begins with this: where nothing is named, with zero, `false` or null.
 pub data BeginsWith (env : Environment) : Ty → written.Initializer → Option Expr → Type 0 where
   -- T x
   empty : {of : Ty}
@@ -319,7 +338,7 @@ pub data BeginsWith (env : Environment) : Ty → written.Initializer → Option 
       → IsConstructed env o ts tree
       → BeginsWith env (ty.Object o) (written.Arguments es) (Some tree)
 
--- a declared variable of a type
+-- A variable of a type is declared.
 pub data IsDeclared (env : Environment) : Ty → written.Decl → Initialization → Type 0 where
   declared : {of : Ty} {d : written.Decl} {value : Option Expr}
       → BeginsWith env of d.initializer value

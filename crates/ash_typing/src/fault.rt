@@ -17,7 +17,7 @@ pub enum Rule {
     NotAssignable,
     /// A function with a result that may end without one.
     NoReturn,
-    /// A phrase that may not stand where it stands.
+    /// A phrase that may not be where it is.
     Misplaced,
     /// An object of a registered type that scripts can't construct.
     NoFactory,
@@ -29,7 +29,7 @@ pub enum Rule {
     DuplicateCase,
 }
 
-/// A rule that is broken, and the offset of the first byte of the token that is told.
+/// A rule that is broken, and the offset of the first byte of the token at which it is reported.
 #[derive(Clone, Copy, Debug, PartialEq, Eq)]
 pub struct Fault {
     pub rule: Rule,

@@ -1,4 +1,4 @@
-//! What the rules of typing see of an operator and of an expression, beside their types.
+//! What the rules of typing see of an operator and of an expression, besides their types.
 
 use ash_typed::{Calculator, Comparator, Lazy, Target, VarType};
 
@@ -39,7 +39,7 @@ pub enum Form {
     Value,
 }
 
-/// What a name before brackets stands for.
+/// What a name before brackets is.
 #[derive(Clone, Copy)]
 pub enum Callable {
     /// A method of the object that runs, which is of the class of this place, with what it gives, where it gives a

@@ -21,41 +21,45 @@ ghost use Rattle.ash_typing.specs.Scopes.{Scope};
 /// That the walk types the statements that have a typed tree by the rules, and no others where all types are known; and
 /// then its answer is that tree. It does nothing when it runs.
 pub fn typing_of_statements()
-    ensures complete { (scope : Scope) (ss : written.Stmts) (ts : Stmts) →
-        AreStmts scope ss ts → stmts_typed scope ss ≡ Ok ts }
-    ensures sound { (scope : Scope) → IsKnownScope scope → (ss : written.Stmts) (ts : Stmts) →
-        stmts_typed scope ss ≡ Ok ts → AreStmts scope ss ts }
-    ensures no_fault { (scope : Scope) → IsKnownScope scope → (ss : written.Stmts) →
-        IsOk (stmts_typed scope ss) ↔ ((ts : Stmts) × AreStmts scope ss ts) }
-    ensures one_tree { (scope : Scope) (ss : written.Stmts) (ts us : Stmts) →
-        AreStmts scope ss ts → AreStmts scope ss us → ts ≡ us }
+    ensures complete { (scope : Scope) (ss : written.Stmts) (ts : Stmts) → AreStmts scope ss ts
+        → stmts_typed scope ss ≡ Ok ts }
+    ensures sound { (scope : Scope) → IsKnownScope scope → (ss : written.Stmts) (ts : Stmts)
+        → stmts_typed scope ss ≡ Ok ts → AreStmts scope ss ts }
+    ensures no_fault { (scope : Scope) → IsKnownScope scope → (ss : written.Stmts)
+        → IsOk (stmts_typed scope ss) ↔ ((ts : Stmts) × AreStmts scope ss ts) }
+    ensures one_tree { (scope : Scope) (ss : written.Stmts) (ts us : Stmts) → AreStmts scope ss ts
+        → AreStmts scope ss us → ts ≡ us }
 {}
 
-/// That the walk tells no fault of a module exactly where the rules give it a typed tree, whatever is registered; and
-/// then its answer is that tree, the only one. All types that such a module names are known. It does nothing when it runs.
+/// That the walk finds no fault of a module exactly where the rules give it a typed tree, whatever is registered; and
+/// then its answer is that tree, the only one. All types that such a module names are known. It does nothing when it
+/// runs.
 pub fn typing_of_modules()
-    ensures agrees { (calls : List Call) (is : List written.Item) (typed : modules.Module) →
-        (module_typed calls is ≡ Ok typed) ↔ IsTyped calls is typed }
-    ensures no_fault { (calls : List Call) (is : List written.Item) →
-        IsOk (module_typed calls is) ↔ ((typed : modules.Module) × IsTyped calls is typed) }
-    ensures one_tree { (calls : List Call) (is : List written.Item) (t u : modules.Module) →
-        IsTyped calls is t → IsTyped calls is u → t ≡ u }
-    ensures known { (calls : List Call) (is : List written.Item) (typed : modules.Module) →
-        IsTyped calls is typed → IsKnown (environment calls is) }
+    ensures agrees { (calls : List Call) (is : List written.Item) (typed : modules.Module)
+        → (module_typed calls is ≡ Ok typed) ↔ IsTyped calls is typed }
+    ensures no_fault { (calls : List Call) (is : List written.Item)
+        → IsOk (module_typed calls is) ↔ ((typed : modules.Module) × IsTyped calls is typed) }
+    ensures one_tree { (calls : List Call) (is : List written.Item) (t u : modules.Module)
+        → IsTyped calls is t → IsTyped calls is u → t ≡ u }
+    ensures known { (calls : List Call) (is : List written.Item) (typed : modules.Module)
+        → IsTyped calls is typed → IsKnown (environment calls is) }
 {}
 
-/// That the fault of a module is at one of the tokens that derive it, whatever is registered, and at one that means what
-/// a fault of its rule may be at. It does nothing when it runs.
+/// That the fault of a module is at one of the tokens that derive it, whatever is registered, and at one that means
+/// what a fault of its rule may be at. It does nothing when it runs.
 pub fn faults_are_at_tokens()
-    ensures at_a_token { (calls : List Call) (free : ℕ) (tokens : Tokens) (is : List written.Item) (fault : Fault) →
-        Derives free tokens is → module_typed calls is ≡ Err fault → IsTokenOf tokens fault.at }
-    ensures at_its_token { (calls : List Call) (free : ℕ) (tokens : Tokens) (is : List written.Item) (fault : Fault) →
-        Derives free tokens is → module_typed calls is ≡ Err fault → IsFaultOf tokens fault }
+    ensures at_a_token { (calls : List Call) (free : ℕ) (tokens : Tokens) (is : List written.Item)
+        (fault : Fault) → Derives free tokens is → module_typed calls is ≡ Err fault
+        → IsTokenOf tokens fault.at }
+    ensures at_its_token { (calls : List Call) (free : ℕ) (tokens : Tokens) (is : List written.Item)
+        (fault : Fault) → Derives free tokens is → module_typed calls is ≡ Err fault
+        → IsFaultOf tokens fault }
 {}
 
-/// That where the fault of a module is told, its rule is broken: a phrase stands there of which what the rule says is
+/// That where the fault of a module is reported, its rule is broken: a phrase is there of which what the rule says is
 /// true, with what that phrase sees. It does nothing when it runs.
 pub fn faults_are_what_they_say()
-    ensures broken_there { (calls : List Call) (free : ℕ) (tokens : Tokens) (is : List written.Item) (fault : Fault) →
-        Derives free tokens is → module_typed calls is ≡ Err fault → IsBrokenAt calls is tokens fault }
+    ensures broken_there { (calls : List Call) (free : ℕ) (tokens : Tokens) (is : List written.Item)
+        (fault : Fault) → Derives free tokens is → module_typed calls is ≡ Err fault
+        → IsBrokenAt calls is tokens fault }
 {}

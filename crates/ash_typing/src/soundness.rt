@@ -23,12 +23,14 @@ ghost use Rattle.ash_typing.specs.Terms.{Term};
 
 /// That what the rules of typing type is sound. It does nothing when it runs.
 pub fn typed_is_sound()
-    ensures expressions { (env : Environment) → IsKnown env → (left : Bool) (e : written.Expr) (t : Term) →
-        HasType env left e t → expressions.IsWellTyped (seen_in env) t.tree (value_type t.ty) }
-    ensures statements { (scope : Scope) → IsKnownScope scope → (ss : written.Stmts) (ts : Stmts) →
-        AllDeclareInBlocks ss → AreStmts scope ss ts → statements.AreStmts (seen_at scope) ts }
-    ensures modules { (calls : List Call) (is : List written.Item) (typed : Module) →
-        ItemsDeclareInBlocks is → IsTyped calls is typed → IsSound (offered calls) typed }
-    ensures derived { (calls : List Call) (free : ℕ) (tokens : Tokens) (is : List written.Item) (typed : Module) →
-        Derives free tokens is → IsTyped calls is typed → IsSound (offered calls) typed }
+    ensures expressions { (env : Environment) → IsKnown env
+        → (left : Bool) (e : written.Expr) (t : Term) → HasType env left e t
+        → expressions.IsWellTyped (seen_in env) t.tree (value_type t.ty) }
+    ensures statements { (scope : Scope) → IsKnownScope scope → (ss : written.Stmts) (ts : Stmts)
+        → AllDeclareInBlocks ss → AreStmts scope ss ts → statements.AreStmts (seen_at scope) ts }
+    ensures modules { (calls : List Call) (is : List written.Item) (typed : Module)
+        → ItemsDeclareInBlocks is → IsTyped calls is typed → IsSound (offered calls) typed }
+    ensures derived { (calls : List Call) (free : ℕ) (tokens : Tokens) (is : List written.Item)
+        (typed : Module) → Derives free tokens is → IsTyped calls is typed
+        → IsSound (offered calls) typed }
 {}

@@ -7,7 +7,7 @@ use ash_typed::{Kind, ObjectType};
 pub enum Ty {
     Bool,
     Integer(Kind),
-    /// An object that the variable stands for: `T x`.
+    /// An object that the variable itself is: `T x`.
     Object(ObjectType),
     /// A handle of an object: `T@ x`, and each expression that gives an object and is no variable.
     Handle(ObjectType),
@@ -15,6 +15,6 @@ pub enum Ty {
     Null,
     /// What a function without a result gives.
     Void,
-    /// A type that is declared and not known. A fault is told at its declaration, and none before it for its sake.
+    /// A type that is declared and not known. A fault is reported at its declaration, and none elsewhere for its sake.
     Unknown,
 }

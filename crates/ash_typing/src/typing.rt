@@ -11,52 +11,56 @@ ghost use Rattle.ash_typed.specs.Tree.{Expr};
 ghost use Rattle.ash_typed.specs.TypeOf.{type_of};
 ghost use Rattle.ash_typed.specs.declared.types.VarType.{VarType};
 ghost use Rattle.ash_typing.specs.Types.{var_type, ty_of_var, value_type};
-ghost use Rattle.ash_typing.specs.Typing.{IsKnown, IsVariableType, HasType, AllHaveType, BeginsWith, IsDeclared, IsReadWherePlace};
+ghost use Rattle.ash_typing.specs.Typing.{IsKnown, IsVariableType, HasType, AllHaveType, BeginsWith, IsDeclared};
+ghost use Rattle.ash_typing.specs.Typing.{IsReadWherePlace};
 ghost use Rattle.ash_typing.specs.Terms.{Term};
 
 /// That the walk types what has a type by the rules, and nothing else where all types are known. Its answer is the term
 /// of the rules, with the offset of the first token. And that the tree of a term says what an expression of the term's
 /// type gives. What can be assigned has the tree of a read. It does nothing when it runs.
 pub fn typing_of_expressions()
-    ensures complete { (env : Environment) (left : Bool) (e : written.Expr) (t : Term) →
-        HasType env left e t → typed env left e ≡ Ok (placed (first_at e) t) }
-    ensures sound { (env : Environment) → IsKnown env → (left : Bool) (e : written.Expr) (t : Typed) →
-        typed env left e ≡ Ok t → HasType env left e (term_of t) }
-    ensures no_fault { (env : Environment) → IsKnown env → (left : Bool) (e : written.Expr) →
-        IsOk (typed env left e) ↔ ((t : Term) × HasType env left e t) }
-    ensures one_term { (env : Environment) (left : Bool) (e : written.Expr) (t u : Term) →
-        HasType env left e t → HasType env left e u → t ≡ u }
-    ensures known { (env : Environment) → IsKnown env → (left : Bool) (e : written.Expr) (t : Term) →
-        HasType env left e t → t.ty ≢ Unknown }
-    ensures typed { (env : Environment) → IsKnown env → (left : Bool) (e : written.Expr) (t : Term) →
-        HasType env left e t → type_of t.tree ≡ value_type t.ty }
-    ensures place { (env : Environment) (left : Bool) (e : written.Expr) (t : Term) →
-        HasType env left e t → IsReadWherePlace t.form t.tree }
+    ensures complete { (env : Environment) (left : Bool) (e : written.Expr) (t : Term)
+        → HasType env left e t → typed env left e ≡ Ok (placed (first_at e) t) }
+    ensures sound { (env : Environment) → IsKnown env → (left : Bool) (e : written.Expr) (t : Typed)
+        → typed env left e ≡ Ok t → HasType env left e (term_of t) }
+    ensures no_fault { (env : Environment) → IsKnown env → (left : Bool) (e : written.Expr)
+        → IsOk (typed env left e) ↔ ((t : Term) × HasType env left e t) }
+    ensures one_term { (env : Environment) (left : Bool) (e : written.Expr) (t u : Term)
+        → HasType env left e t → HasType env left e u → t ≡ u }
+    ensures known { (env : Environment) → IsKnown env → (left : Bool) (e : written.Expr) (t : Term)
+        → HasType env left e t → t.ty ≢ Unknown }
+    ensures typed { (env : Environment) → IsKnown env → (left : Bool) (e : written.Expr) (t : Term)
+        → HasType env left e t → type_of t.tree ≡ value_type t.ty }
+    ensures place { (env : Environment) (left : Bool) (e : written.Expr) (t : Term)
+        → HasType env left e t → IsReadWherePlace t.form t.tree }
 {}
 
-/// The same of expressions that stand as arguments. It does nothing when it runs.
+/// The same of arguments. It does nothing when it runs.
 pub fn typing_of_arguments()
-    ensures complete { (env : Environment) (es : written.Exprs) (ts : List Term) →
-        AllHaveType env es ts → all_typed env es ≡ Ok (all_placed es ts) }
-    ensures sound { (env : Environment) → IsKnown env → (es : written.Exprs) (ts : List Typed) →
-        all_typed env es ≡ Ok ts → AllHaveType env es (map term_of ts) }
-    ensures no_fault { (env : Environment) → IsKnown env → (es : written.Exprs) →
-        IsOk (all_typed env es) ↔ ((ts : List Term) × AllHaveType env es ts) }
+    ensures complete { (env : Environment) (es : written.Exprs) (ts : List Term)
+        → AllHaveType env es ts → all_typed env es ≡ Ok (all_placed es ts) }
+    ensures sound { (env : Environment) → IsKnown env → (es : written.Exprs) (ts : List Typed)
+        → all_typed env es ≡ Ok ts → AllHaveType env es (map term_of ts) }
+    ensures no_fault { (env : Environment) → IsKnown env → (es : written.Exprs)
+        → IsOk (all_typed env es) ↔ ((ts : List Term) × AllHaveType env es ts) }
 {}
 
 /// The same of variables and of what they begin with, whatever the offsets of the type and of the name. It does nothing
 /// when it runs.
 pub fn typing_of_variables()
-    ensures begins_complete { (env : Environment) (of_at at : ℕ) (of : Ty) (i : written.Initializer) (value : Option Expr) →
-        BeginsWith env of i value → initialized env of_at at of i ≡ Ok value }
-    ensures begins_sound { (env : Environment) → IsKnown env → (of_at at : ℕ) (of : Ty) (i : written.Initializer) (value : Option Expr) →
-        initialized env of_at at of i ≡ Ok value → BeginsWith env of i value }
-    ensures complete { (env : Environment) (at : ℕ) (of : Ty) (d : written.Decl) (i : Initialization) →
-        IsDeclared env of d i → decl_typed env at of d ≡ Ok i }
-    ensures sound { (env : Environment) → IsKnown env → (at : ℕ) (of : Ty) (d : written.Decl) (i : Initialization) →
-        decl_typed env at of d ≡ Ok i → IsDeclared env of d i }
-    ensures no_fault { (env : Environment) → IsKnown env → (at : ℕ) (of : Ty) (d : written.Decl) →
-        IsOk (decl_typed env at of d) ↔ ((i : Initialization) × IsDeclared env of d i) }
+    ensures begins_complete { (env : Environment) (of_at at : ℕ) (of : Ty) (i : written.Initializer)
+        (value : Option Expr) → BeginsWith env of i value
+        → initialized env of_at at of i ≡ Ok value }
+    ensures begins_sound { (env : Environment) → IsKnown env
+        → (of_at at : ℕ) (of : Ty) (i : written.Initializer) (value : Option Expr)
+        → initialized env of_at at of i ≡ Ok value → BeginsWith env of i value }
+    ensures complete { (env : Environment) (at : ℕ) (of : Ty) (d : written.Decl)
+        (i : Initialization) → IsDeclared env of d i → decl_typed env at of d ≡ Ok i }
+    ensures sound { (env : Environment) → IsKnown env
+        → (at : ℕ) (of : Ty) (d : written.Decl) (i : Initialization) → decl_typed env at of d ≡ Ok i
+        → IsDeclared env of d i }
+    ensures no_fault { (env : Environment) → IsKnown env → (at : ℕ) (of : Ty) (d : written.Decl)
+        → IsOk (decl_typed env at of d) ↔ ((i : Initialization) × IsDeclared env of d i) }
 {}
 
 /// That each type of variables is one of a typed tree, and each of a typed tree one of variables. It does nothing when

@@ -1,6 +1,6 @@
 //! Typed expressions.
 //!
-//! Operators of one level and the suffixes of an operand stand as lists, so that a tree is no deeper where a sum is
+//! Operators of one level and the suffixes of an operand are lists, so that a tree is no deeper where a sum is
 //! long.
 
 use crate::tree::operations::{
@@ -119,7 +119,7 @@ pub enum Link {
     },
 }
 
-/// An operator with its right operand. What stands before it is converted first, where a conversion is named.
+/// An operator with its right operand. What is before it is converted first, where a conversion is named.
 #[cycle(typed_expressions)]
 #[derive(Drop)]
 pub struct Operand {

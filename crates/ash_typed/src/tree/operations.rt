@@ -84,7 +84,8 @@ pub enum Target {
     Class(usize),
     /// The construction of an object of a registered type, by its kind.
     Host(u16),
-    /// The construction of an array: empty, or of as many elements as its one argument says, each zero, `false` or null.
+    /// The construction of an array: empty, or of as many elements as its one argument says, each zero, `false` or
+    /// null.
     Array(Element),
 }
 

@@ -5,8 +5,8 @@ use crate::tree::expressions::Expr;
 use crate::types::{Kind, VarType};
 use ash_tree::Label;
 
-/// A variable that is declared: its name, its type, and what it begins with; where nothing is written, with zero, `false`
-/// or null.
+/// A variable that is declared: its name, its type, and what it begins with; where nothing is written, with zero,
+/// `false` or null.
 #[derive(Drop)]
 pub struct Initialization {
     pub name: String,
@@ -82,7 +82,7 @@ pub struct Loop {
     pub body: Box<Stmt>,
 }
 
-/// A label of a `switch`, with the statements behind it.
+/// A label of a `switch`, with the statements after it.
 #[cycle(typed_statements)]
 #[derive(Drop)]
 pub struct Case {

@@ -5,60 +5,109 @@ use Rattle.ash_classes.specs.Ways.{AreRanks}
 use Rattle.ash_classes.specs.Marking.{rows_of, Goes}
 use Rattle.ash_classes.specs.References.{Refers, classes_of, seen}
 use Rattle.ash_classes.proofs.ReferenceLaws.{length-seen}
-use Rattle.ash_classes.proofs.ToldLaws.{same_rows, rows_within, same_ranks, same_acyclic, same_told, only_told, in_ok, in_err, on_ok}
-use Rattle.ash_classes.proofs.ToldSearches.{some_if_told, none_if_acyclic}
+use Rattle.ash_classes.proofs.CycleLaws.{same_rows, rows_within, same_ranks, same_acyclic, same_cycle, only_cycle}
+use Rattle.ash_classes.proofs.CycleLaws.{in_ok, in_err, on_ok}
+use Rattle.ash_classes.proofs.ToldSearches.{some_if_cycle, none_if_acyclic}
 use Rattle.ash_classes.proofs.acyclic.class_ranks.Goals as goal
 
 pub ranks-requires : goal.ranks-requires
 ranks-requires c =
     let long = c.in_ok-referrers.ensures.places in
-    rows_within (seen c.deref-2.result.now) c.deref-3.result.now (omega (arith, ap length c.deref-3.ensures.value, long, length-seen c.deref-2.result.now)) (same_rows c.in_ok-referrers.referrers.items c.deref-3.result.now (seen c.deref-2.result.now) (seen c.deref-2.result.now) c.deref-3.ensures.value refl c.in_ok-referrers.ensures.rows)
+    rows_within (seen c.deref-2.result.now) c.deref-3.result.now
+    (omega (arith, ap length c.deref-3.ensures.value, long, length-seen c.deref-2.result.now))
+    (same_rows c.in_ok-referrers.referrers.items c.deref-3.result.now (seen c.deref-2.result.now)
+    (seen c.deref-2.result.now) c.deref-3.ensures.value refl c.in_ok-referrers.ensures.rows)
 
 pub returns-clause-ranks : goal.returns-clause-ranks
 returns-clause-ranks c =
     let all = classes_of (module_of c.args.script.now) in
     let R = Goes (rows_of c.deref-3.result.now) in
-    let e : seen c.deref-2.result.now ≡ all = ap seen c.deref-2.ensures.value ∙ c.in_ok-classes.ensures ∙ ap (λ (xs : List code_item.Item). classes_of (map item_of xs)) c.deref.ensures.value in
-    let same : (from to : ℕ) → R from to ↔ Refers all from to = same_rows c.in_ok-referrers.referrers.items c.deref-3.result.now (seen c.deref-2.result.now) all c.deref-3.ensures.value e c.in_ok-referrers.ensures.rows in
-    let long : length c.deref-3.result.now ≡ length all = omega (arith, ap length c.deref-3.ensures.value, c.in_ok-referrers.ensures.places, length-seen c.deref-2.result.now, ap length e) in
-    in_ok c.ranks.result _ _ (λ answer. in_ok answer _ _ (λ ranks h. same_ranks R (Refers all) (length all) ranks.items same (subst (λ (n : ℕ). AreRanks R n ranks.items) long h))) c.ranks.ensures.ranks
+    let e : seen c.deref-2.result.now ≡ all =
+    ap seen c.deref-2.ensures.value ∙ c.in_ok-classes.ensures
+    ∙ ap (λ (xs : List code_item.Item). classes_of (map item_of xs)) c.deref.ensures.value in
+    let same : (from to : ℕ) → R from to ↔ Refers all from to =
+    same_rows c.in_ok-referrers.referrers.items c.deref-3.result.now (seen c.deref-2.result.now) all
+    c.deref-3.ensures.value e c.in_ok-referrers.ensures.rows in
+    let long : length c.deref-3.result.now ≡ length all =
+    omega (
+      arith,
+      ap length c.deref-3.ensures.value,
+      c.in_ok-referrers.ensures.places,
+      length-seen c.deref-2.result.now,
+      ap length e,
+    ) in
+    in_ok c.ranks.result _ _
+    (λ answer. in_ok answer _ _
+    (λ ranks h. same_ranks R (Refers all) (length all) ranks.items same
+    (subst (λ (n : ℕ). AreRanks R n ranks.items) long h))) c.ranks.ensures.ranks
 
 pub returns-clause-acyclic : goal.returns-clause-acyclic
 returns-clause-acyclic c =
     let all = classes_of (module_of c.args.script.now) in
     let R = Goes (rows_of c.deref-3.result.now) in
-    let e : seen c.deref-2.result.now ≡ all = ap seen c.deref-2.ensures.value ∙ c.in_ok-classes.ensures ∙ ap (λ (xs : List code_item.Item). classes_of (map item_of xs)) c.deref.ensures.value in
-    let same : (from to : ℕ) → R from to ↔ Refers all from to = same_rows c.in_ok-referrers.referrers.items c.deref-3.result.now (seen c.deref-2.result.now) all c.deref-3.ensures.value e c.in_ok-referrers.ensures.rows in
-    in_ok c.ranks.result _ _ (λ answer. on_ok answer _ _ (λ h. same_acyclic R (Refers all) same h)) c.ranks.ensures.acyclic
+    let e : seen c.deref-2.result.now ≡ all =
+    ap seen c.deref-2.ensures.value ∙ c.in_ok-classes.ensures
+    ∙ ap (λ (xs : List code_item.Item). classes_of (map item_of xs)) c.deref.ensures.value in
+    let same : (from to : ℕ) → R from to ↔ Refers all from to =
+    same_rows c.in_ok-referrers.referrers.items c.deref-3.result.now (seen c.deref-2.result.now) all
+    c.deref-3.ensures.value e c.in_ok-referrers.ensures.rows in
+    in_ok c.ranks.result _ _
+    (λ answer. on_ok answer _ _ (λ h. same_acyclic R (Refers all) same h)) c.ranks.ensures.acyclic
 
 pub returns-clause-cycle : goal.returns-clause-cycle
 returns-clause-cycle c =
     let all = classes_of (module_of c.args.script.now) in
     let R = Goes (rows_of c.deref-3.result.now) in
-    let e : seen c.deref-2.result.now ≡ all = ap seen c.deref-2.ensures.value ∙ c.in_ok-classes.ensures ∙ ap (λ (xs : List code_item.Item). classes_of (map item_of xs)) c.deref.ensures.value in
-    let same : (from to : ℕ) → R from to ↔ Refers all from to = same_rows c.in_ok-referrers.referrers.items c.deref-3.result.now (seen c.deref-2.result.now) all c.deref-3.ensures.value e c.in_ok-referrers.ensures.rows in
-    in_ok c.ranks.result _ _ (λ answer. in_err answer _ _ (λ cycle h. same_told R (Refers all) cycle.first cycle.others.items same h)) c.ranks.ensures.cycle
+    let e : seen c.deref-2.result.now ≡ all =
+    ap seen c.deref-2.ensures.value ∙ c.in_ok-classes.ensures
+    ∙ ap (λ (xs : List code_item.Item). classes_of (map item_of xs)) c.deref.ensures.value in
+    let same : (from to : ℕ) → R from to ↔ Refers all from to =
+    same_rows c.in_ok-referrers.referrers.items c.deref-3.result.now (seen c.deref-2.result.now) all
+    c.deref-3.ensures.value e c.in_ok-referrers.ensures.rows in
+    in_ok c.ranks.result _ _
+    (λ answer. in_err answer _ _ (λ cycle h. same_cycle R (Refers all) cycle.first cycle.others.items same h))
+    c.ranks.ensures.cycle
 
 pub returns-clause-only : goal.returns-clause-only
 returns-clause-only c =
     let all = classes_of (module_of c.args.script.now) in
     let R = Goes (rows_of c.deref-3.result.now) in
-    let e : seen c.deref-2.result.now ≡ all = ap seen c.deref-2.ensures.value ∙ c.in_ok-classes.ensures ∙ ap (λ (xs : List code_item.Item). classes_of (map item_of xs)) c.deref.ensures.value in
-    let same : (from to : ℕ) → R from to ↔ Refers all from to = same_rows c.in_ok-referrers.referrers.items c.deref-3.result.now (seen c.deref-2.result.now) all c.deref-3.ensures.value e c.in_ok-referrers.ensures.rows in
-    in_ok c.ranks.result _ _ (λ answer. in_err answer _ _ (λ cycle h. only_told (Refers all) cycle.first cycle.others.items (same_told R (Refers all) cycle.first cycle.others.items same h))) c.ranks.ensures.cycle
+    let e : seen c.deref-2.result.now ≡ all =
+    ap seen c.deref-2.ensures.value ∙ c.in_ok-classes.ensures
+    ∙ ap (λ (xs : List code_item.Item). classes_of (map item_of xs)) c.deref.ensures.value in
+    let same : (from to : ℕ) → R from to ↔ Refers all from to =
+    same_rows c.in_ok-referrers.referrers.items c.deref-3.result.now (seen c.deref-2.result.now) all
+    c.deref-3.ensures.value e c.in_ok-referrers.ensures.rows in
+    in_ok c.ranks.result _ _
+    (λ answer. in_err answer _ _
+    (λ cycle h. only_cycle (Refers all) cycle.first cycle.others.items
+    (same_cycle R (Refers all) cycle.first cycle.others.items same h))) c.ranks.ensures.cycle
 
 pub returns-clause-none : goal.returns-clause-none
 returns-clause-none c =
     let all = classes_of (module_of c.args.script.now) in
     let R = Goes (rows_of c.deref-3.result.now) in
-    let e : seen c.deref-2.result.now ≡ all = ap seen c.deref-2.ensures.value ∙ c.in_ok-classes.ensures ∙ ap (λ (xs : List code_item.Item). classes_of (map item_of xs)) c.deref.ensures.value in
-    let same : (from to : ℕ) → R from to ↔ Refers all from to = same_rows c.in_ok-referrers.referrers.items c.deref-3.result.now (seen c.deref-2.result.now) all c.deref-3.ensures.value e c.in_ok-referrers.ensures.rows in
-    in_ok c.ranks.result _ _ (λ answer. on_ok answer _ _ (λ h. none_if_acyclic all (same_acyclic R (Refers all) same h))) c.ranks.ensures.acyclic
+    let e : seen c.deref-2.result.now ≡ all =
+    ap seen c.deref-2.ensures.value ∙ c.in_ok-classes.ensures
+    ∙ ap (λ (xs : List code_item.Item). classes_of (map item_of xs)) c.deref.ensures.value in
+    let same : (from to : ℕ) → R from to ↔ Refers all from to =
+    same_rows c.in_ok-referrers.referrers.items c.deref-3.result.now (seen c.deref-2.result.now) all
+    c.deref-3.ensures.value e c.in_ok-referrers.ensures.rows in
+    in_ok c.ranks.result _ _
+    (λ answer. on_ok answer _ _ (λ h. none_if_acyclic all (same_acyclic R (Refers all) same h)))
+    c.ranks.ensures.acyclic
 
 pub returns-clause-told : goal.returns-clause-told
 returns-clause-told c =
     let all = classes_of (module_of c.args.script.now) in
     let R = Goes (rows_of c.deref-3.result.now) in
-    let e : seen c.deref-2.result.now ≡ all = ap seen c.deref-2.ensures.value ∙ c.in_ok-classes.ensures ∙ ap (λ (xs : List code_item.Item). classes_of (map item_of xs)) c.deref.ensures.value in
-    let same : (from to : ℕ) → R from to ↔ Refers all from to = same_rows c.in_ok-referrers.referrers.items c.deref-3.result.now (seen c.deref-2.result.now) all c.deref-3.ensures.value e c.in_ok-referrers.ensures.rows in
-    in_ok c.ranks.result _ _ (λ answer. in_err answer _ _ (λ cycle h. some_if_told all cycle.first cycle.others.items (same_told R (Refers all) cycle.first cycle.others.items same h))) c.ranks.ensures.cycle
+    let e : seen c.deref-2.result.now ≡ all =
+    ap seen c.deref-2.ensures.value ∙ c.in_ok-classes.ensures
+    ∙ ap (λ (xs : List code_item.Item). classes_of (map item_of xs)) c.deref.ensures.value in
+    let same : (from to : ℕ) → R from to ↔ Refers all from to =
+    same_rows c.in_ok-referrers.referrers.items c.deref-3.result.now (seen c.deref-2.result.now) all
+    c.deref-3.ensures.value e c.in_ok-referrers.ensures.rows in
+    in_ok c.ranks.result _ _
+    (λ answer. in_err answer _ _
+    (λ cycle h. some_if_cycle all cycle.first cycle.others.items
+    (same_cycle R (Refers all) cycle.first cycle.others.items same h))) c.ranks.ensures.cycle

@@ -3,4 +3,5 @@ use Rattle.ash_classes.specs.Marking.{rows_of, Goes, IsAt}
 use Rattle.ash_classes.proofs.cycles.nearest.Given as goal
 
 abbrev pub invariant-loop-place : goal.invariant-loop-place
-invariant-loop-place l = (other : ℕ) → other < l.place → Goes (rows_of l.referrers) l.from other → IsAt l.distances other l.distance → ⊥
+invariant-loop-place l =
+    (other : ℕ) → other < l.place → Goes (rows_of l.referrers) l.from other → IsAt l.distances other l.distance → ⊥

@@ -5,23 +5,32 @@ use Rattle.ash_classes.proofs.cycles.way_back.Goals as goal
 
 pub unreachable-requires : goal.unreachable-requires
 unreachable-requires c =
-    let k : ℕ = c.steps.left - 1 in
-    let one : c.steps.left ≡ k + 1 = omega arith in
-    let here : IsAt c.args.distances.now c.steps.at (k + 1) = subst (λ (n : ℕ). IsAt c.args.distances.now c.steps.at n) one c.steps.invariant.here in
-    let next = next_exists (Goes (rows_of c.args.referrers.now)) (length c.args.referrers.now) c.args.first c.args.distances.now c.requires.distances c.steps.at k here in
+    let k : ℕ = c.steps.remaining - 1 in
+    let one : c.steps.remaining ≡ k + 1 = omega arith in
+    let here : IsAt c.args.distances.now c.steps.at (k + 1) =
+    subst (λ (n : ℕ). IsAt c.args.distances.now c.steps.at n) one c.steps.invariant.here in
+    let next = next_exists (Goes (rows_of c.args.referrers.now)) (length c.args.referrers.now) c.args.first
+    c.args.distances.now c.requires.distances c.steps.at k here in
     c.in_default.ensures next.0 next.1 next.2
 
 pub steps-preserved : goal.steps-preserved
 steps-preserved c =
     let R = Goes (rows_of c.args.referrers.now) in
-    let k : ℕ = c.steps.left - 1 in
-    let one : c.steps.left ≡ k + 1 = omega arith in
-    let on : IsOnWay R c.args.first c.args.first c.steps.at (k + 1) c.args.distances.now c.steps.way.items = subst (λ (n : ℕ). IsOnWay R c.args.first c.args.first c.steps.at n c.args.distances.now c.steps.way.items) one c.steps.invariant in
-    rw c.in_ok-push.ensures.items (step_way R (length c.args.referrers.now) c.args.first c.args.first c.steps.at k c.in-Some.next c.args.distances.now c.steps.way.items c.requires.distances on c.in-Some.ensures)
+    let k : ℕ = c.steps.remaining - 1 in
+    let one : c.steps.remaining ≡ k + 1 = omega arith in
+    let on : IsOnWay R c.args.first c.args.first c.steps.at (k + 1) c.args.distances.now c.steps.way.items =
+    subst (λ (n : ℕ). IsOnWay R c.args.first c.args.first c.steps.at n c.args.distances.now c.steps.way.items) one
+    c.steps.invariant in
+    rw c.in_ok-push.ensures.items
+    (step_way R (length c.args.referrers.now) c.args.first c.args.first c.steps.at k c.in-Some.next
+    c.args.distances.now c.steps.way.items c.requires.distances on c.in-Some.ensures)
 
 pub returns : goal.returns
 returns c =
     let R = Goes (rows_of c.args.referrers.now) in
-    let done : c.steps.left ≡ 0 = omega (arith, c.steps-test.false) in
-    let on : IsOnWay R c.args.first c.args.first c.steps.at 0 c.args.distances.now c.steps.way.items = subst (λ (n : ℕ). IsOnWay R c.args.first c.args.first c.steps.at n c.args.distances.now c.steps.way.items) done c.steps.invariant in
-    end_way R (length c.args.referrers.now) c.args.first c.args.first c.steps.at c.args.distances.now c.steps.way.items c.requires.distances on
+    let done : c.steps.remaining ≡ 0 = omega (arith, c.steps-test.false) in
+    let on : IsOnWay R c.args.first c.args.first c.steps.at 0 c.args.distances.now c.steps.way.items =
+    subst (λ (n : ℕ). IsOnWay R c.args.first c.args.first c.steps.at n c.args.distances.now c.steps.way.items) done
+    c.steps.invariant in
+    end_way R (length c.args.referrers.now) c.args.first c.args.first c.steps.at c.args.distances.now c.steps.way.items
+    c.requires.distances on

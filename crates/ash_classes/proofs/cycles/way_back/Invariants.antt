@@ -3,7 +3,7 @@ use Rattle.ash_classes.proofs.WaysBack.{IsOnWay}
 use Rattle.ash_classes.proofs.cycles.way_back.Given as goal
 
 abbrev pub invariant-steps : goal.invariant-steps
-invariant-steps l = IsOnWay (Goes (rows_of l.referrers)) l.first l.first l.at l.left l.distances l.way.items
+invariant-steps l = IsOnWay (Goes (rows_of l.referrers)) l.first l.first l.at l.remaining l.distances l.way.items
 
 abbrev pub decreases-steps : goal.decreases-steps
-decreases-steps l = l.left
+decreases-steps l = l.remaining

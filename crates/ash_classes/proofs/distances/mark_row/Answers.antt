@@ -3,7 +3,11 @@ use Rattle.ash_classes.proofs.Markings.{marks_more, marks_end}
 use Rattle.ash_classes.proofs.distances.mark_row.Goals as goal
 
 pub loop-place-preserved : goal.loop-place-preserved
-loop-place-preserved c = marks_more c.args.row.now c.loop-place.place-index c.args.distance c.args.distances.now.items c.loop-place.distances.items c.mark.new.distances.items c.args.found.now.items c.loop-place.found.items c.mark.new.found.items (omega arith) c.loop-place.invariant c.in_ok-mark.ensures
+loop-place-preserved c =
+    marks_more c.args.row.now c.loop-place.place-index c.args.distance c.args.distances.now.items
+    c.loop-place.distances.items c.mark.new.distances.items c.args.found.now.items c.loop-place.found.items
+    c.mark.new.found.items (omega arith) c.loop-place.invariant c.in_ok-mark.ensures
 
 pub returns : goal.returns
-returns c = marks_end c.args.row.now c.loop-place.place-index c.args.distance c.args.distances.now.items c.loop-place.distances.items c.args.found.now.items c.loop-place.found.items (omega arith) c.loop-place.invariant
+returns c = marks_end c.args.row.now c.loop-place.place-index c.args.distance c.args.distances.now.items
+    c.loop-place.distances.items c.args.found.now.items c.loop-place.found.items (omega arith) c.loop-place.invariant

@@ -5,4 +5,6 @@ use Rattle.ash_classes.specs.References.{Holds}
 use Rattle.ash_classes.proofs.references.any_holds.Given as goal
 
 abbrev pub invariant-loop-member : goal.invariant-loop-member
-invariant-loop-member l = Any (λ m. Holds m (class_of l.class)) (map member_of l.members) → Any (λ m. Holds m (class_of l.class)) (map member_of (drop l.member-index l.members))
+invariant-loop-member l =
+    Any (λ m. Holds m (class_of l.class)) (map member_of l.members)
+    → Any (λ m. Holds m (class_of l.class)) (map member_of (drop l.member-index l.members))

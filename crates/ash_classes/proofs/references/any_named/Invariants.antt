@@ -4,4 +4,6 @@ use Rattle.ash_tree.specs.Views.{type_name_of}
 use Rattle.ash_classes.proofs.references.any_named.Given as goal
 
 abbrev pub invariant-loop-interface : goal.invariant-loop-interface
-invariant-loop-interface l = Any (λ i. i.name ≡ l.name) (map type_name_of l.interfaces) → Any (λ i. i.name ≡ l.name) (map type_name_of (drop l.interface-index l.interfaces))
+invariant-loop-interface l =
+    Any (λ i. i.name ≡ l.name) (map type_name_of l.interfaces)
+    → Any (λ i. i.name ≡ l.name) (map type_name_of (drop l.interface-index l.interfaces))

@@ -4,4 +4,5 @@ use Rattle.ash_classes.specs.References.{classes_of, seen}
 use Rattle.ash_classes.proofs.references.classes.Given as goal
 
 abbrev pub invariant-loop-item : goal.invariant-loop-item
-invariant-loop-item l = seen l.classes.items ++ classes_of (map item_of (drop l.item-index l.items)) ≡ classes_of (map item_of l.items)
+invariant-loop-item l =
+    seen l.classes.items ++ classes_of (map item_of (drop l.item-index l.items)) ≡ classes_of (map item_of l.items)

@@ -7,19 +7,24 @@ use Rattle.ash_journal.proofs.gate.shut_gate.Goals as goal
 pub returns-clause-shut : goal.returns-clause-shut
 returns-clause-shut g c =
     on_ok_both c.write_durably.result
-    (λ written durable front behind split.
-    let fits = within front behind c.args.gate _ split.long split.bytes in
+    (λ written durable prefix suffix split.
+    let fits = within prefix suffix c.args.gate _ split.long split.bytes in
     record {
-      bytes = written split.honest_disk fits ∙ ap (λ l. after_write l c.args.gate (0 ∷ [])) split.bytes ∙ shut_written front behind c.args.gate split.long;
+      bytes = written split.honest_disk fits ∙ ap (λ l. after_write l c.args.gate (0 ∷ [])) split.bytes
+          ∙ shut_written prefix suffix c.args.gate split.long;
       durable = durable split.honest_disk fits;
     })
     c.write_durably.ensures.written c.write_durably.ensures.durable
 
 pub returns-clause-moments : goal.returns-clause-moments
-returns-clause-moments g c front behind split =
-    while_written _ _ _ _ _ _ c.args.gate 1 (WhileShut front behind) split.durable split.bytes (shut_torn front behind c.args.gate split.long) (c.write_durably.ensures.moments split.honest_disk (within front behind c.args.gate _ split.long split.bytes))
+returns-clause-moments g c prefix suffix split =
+    while_written _ _ _ _ _ _ c.args.gate 1 (WhileShut prefix suffix) split.durable split.bytes
+    (shut_torn prefix suffix c.args.gate split.long)
+    (c.write_durably.ensures.moments split.honest_disk (within prefix suffix c.args.gate _ split.long split.bytes))
 
 pub returns-clause-only_gate : goal.returns-clause-only_gate
-returns-clause-only_gate g c front behind split =
-    let fits = within front behind c.args.gate _ split.long split.bytes in
-    one_written g.D.Disk c.args.gate c.args.disk.now c.write_durably.new.disk split.durable (c.write_durably.ensures.in_part split.honest_disk fits) (c.write_durably.ensures.moments split.honest_disk fits)
+returns-clause-only_gate g c prefix suffix split =
+    let fits = within prefix suffix c.args.gate _ split.long split.bytes in
+    one_written g.D.Disk c.args.gate c.args.disk.now c.write_durably.new.disk split.durable
+    (c.write_durably.ensures.in_part split.honest_disk fits)
+    (c.write_durably.ensures.moments split.honest_disk fits)

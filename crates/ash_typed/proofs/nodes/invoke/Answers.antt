@@ -7,4 +7,5 @@ use Rattle.ash_typed.proofs.nodes.invoke.Goals as goal
 
 pub returns-clause-value : goal.returns-clause-value
 returns-clause-value c =
-    subst (λ (x : Expr). IfOk c.link.result (λ e. expr_of e ≡ x)) (invoke_is (expr_of c.args.object) c.args.method c.args.parameters c.args.arguments) c.link.ensures.value
+    subst (λ (x : Expr). IfOk c.link.result (λ e. expr_of e ≡ x))
+    (invoke_is (expr_of c.args.object) c.args.method c.args.parameters c.args.arguments) c.link.ensures.value

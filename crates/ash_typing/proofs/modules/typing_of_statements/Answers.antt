@@ -12,7 +12,11 @@ pub returns-clause-sound : goal.returns-clause-sound
 returns-clause-sound c = stmts_sound
 
 pub returns-clause-no_fault : goal.returns-clause-no_fault
-returns-clause-no_fault c = λ scope known ss. (λ ok. answered (stmts_typed scope ss) ok (λ ts h. (ts, stmts_sound scope known ss ts h)), λ ts. no_fault_at (stmts_typed scope ss) ts.0 (stmts_complete ts.1))
+returns-clause-no_fault c =
+    λ scope known ss. (
+      λ ok. answered (stmts_typed scope ss) ok (λ ts h. (ts, stmts_sound scope known ss ts h)),
+      λ ts. no_fault_at (stmts_typed scope ss) ts.0 (stmts_complete ts.1),
+    )
 
 pub returns-clause-one_tree : goal.returns-clause-one_tree
 returns-clause-one_tree c = λ scope ss ts us h k. same_ok ts us (sym (stmts_complete h) ∙ stmts_complete k)

@@ -1,4 +1,4 @@
-use Rattle.ash_typing.proofs.TypingTypes.{variable_written, variable_read_back}
+use Rattle.ash_typing.proofs.TypingCallees.{variable_written, variable_read_back}
 use Rattle.ash_typing.proofs.typing.types_of_variables.Goals as goal
 
 pub returns-clause-written : goal.returns-clause-written

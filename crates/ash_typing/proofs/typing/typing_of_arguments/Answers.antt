@@ -11,4 +11,8 @@ pub returns-clause-sound : goal.returns-clause-sound
 returns-clause-sound c = all_sound
 
 pub returns-clause-no_fault : goal.returns-clause-no_fault
-returns-clause-no_fault c = λ env known es. (λ ok. answered (all_typed env es) ok (λ ts h. (terms ts, all_sound env known es ts h)), λ ts. no_fault_at (all_typed env es) (all_placed es ts.0) (all_complete ts.1))
+returns-clause-no_fault c =
+    λ env known es. (
+      λ ok. answered (all_typed env es) ok (λ ts h. (terms ts, all_sound env known es ts h)),
+      λ ts. no_fault_at (all_typed env es) (all_placed es ts.0) (all_complete ts.1),
+    )

@@ -15,10 +15,16 @@ pub returns-clause-sound : goal.returns-clause-sound
 returns-clause-sound c = sound
 
 pub returns-clause-no_fault : goal.returns-clause-no_fault
-returns-clause-no_fault c = λ env known left e. (λ ok. answered (typed env left e) ok (λ t h. (term_of t, sound env known left e t h)), λ t. no_fault_at (typed env left e) (placed (first_at e) t.0) (complete t.1))
+returns-clause-no_fault c =
+    λ env known left e. (
+      λ ok. answered (typed env left e) ok (λ t h. (term_of t, sound env known left e t h)),
+      λ t. no_fault_at (typed env left e) (placed (first_at e) t.0) (complete t.1),
+    )
 
 pub returns-clause-one_term : goal.returns-clause-one_term
-returns-clause-one_term c = λ env left e t u h k. ap term_of (same_ok (placed (first_at e) t) (placed (first_at e) u) (sym (complete h) ∙ complete k))
+returns-clause-one_term c =
+    λ env left e t u h k.
+    ap term_of (same_ok (placed (first_at e) t) (placed (first_at e) u) (sym (complete h) ∙ complete k))
 
 pub returns-clause-known : goal.returns-clause-known
 returns-clause-known c = λ env known left e t h is. let yes = known_type h known in let no = ap is_known is in cc

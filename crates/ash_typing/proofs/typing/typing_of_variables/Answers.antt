@@ -16,4 +16,8 @@ pub returns-clause-sound : goal.returns-clause-sound
 returns-clause-sound c = declared_sound
 
 pub returns-clause-no_fault : goal.returns-clause-no_fault
-returns-clause-no_fault c = λ env known at of d. (λ ok. answered (decl_typed env at of d) ok (λ i h. (i, declared_sound env known at of d i h)), λ i. no_fault_at (decl_typed env at of d) i.0 (declared_complete i.1 at))
+returns-clause-no_fault c =
+    λ env known at of d. (
+      λ ok. answered (decl_typed env at of d) ok (λ i h. (i, declared_sound env known at of d i h)),
+      λ i. no_fault_at (decl_typed env at of d) i.0 (declared_complete i.1 at),
+    )

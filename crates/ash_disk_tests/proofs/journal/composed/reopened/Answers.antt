@@ -1,5 +1,5 @@
 use Rattle.std.proofs.Common.{◌≡◌, ◌∷◌, [], List, ℕ, IsTrue, Bool, true, false, sym, ap, subst}
-use Rattle.ash_journal.specs.Beside.{first_of, second_of}
+use Rattle.ash_journal.specs.OtherState.{first_of, second_of}
 use Rattle.ash_journal.specs.Current.{Contents, Is}
 use Rattle.ash_journal.specs.Journal.{second_disk, Holds}
 use Rattle.ash_journal.specs.Reading.{bodies_of}

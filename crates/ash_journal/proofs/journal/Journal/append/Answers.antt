@@ -10,7 +10,8 @@ use Rattle.ash_journal.proofs.journal.Journal.append.Goals as goal
 
 pub returns-in-Err-clause-extends : goal.returns-in-Err-clause-extends
 returns-in-Err-clause-extends g c image bodies holds =
-    same_extends g.D.Disk (first_disk c.args.self.now) (second_disk c.args.self.now) (Is (image, bodies ++ c.args.body.now ∷ []))
+    same_extends g.D.Disk (first_disk c.args.self.now) (second_disk c.args.self.now)
+    (Is (image, bodies ++ c.args.body.now ∷ []))
 
 pub returns-in-Err-commit-clause-extends : goal.returns-in-Err-commit-clause-extends
 returns-in-Err-commit-clause-extends g c image bodies holds =
@@ -18,12 +19,15 @@ returns-in-Err-commit-clause-extends g c image bodies holds =
     let j = c.args.self.now in
     let f = holds.files in
     let bytes_are : c.deref.result.now ≡ block c.args.body.now ++ 0 ∷ [] = c.deref.ensures.value ∙ c.in-Ok.ensures in
-    let front = solid j.generation image bodies in
-    let rests = at_rest d j.generation j.end j.record_bytes j.stray j.beside j.current c.commit.new.disk j.other image bodies c.args.body.now f holds.repaired c.requires.short in
-    let call = c.commit.ensures.moments front f.behind (record { honest_disk = f.current_honest; long = sym f.end_is; bytes = rests; durable = f.current_durable }) in
-    append_extends d j.generation j.end j.record_bytes j.stray j.beside j.current c.commit.new.disk j.other image bodies c.args.body.now f holds.repaired c.requires.short j.swapped
+    let prefix = solid j.generation image bodies in
+    let rests = at_rest d j.generation j.end j.record_bytes j.stray j.other_state j.current c.commit.new.disk j.other
+    image bodies c.args.body.now f holds.repaired c.requires.short in
+    let call = c.commit.ensures.moments prefix f.behind
+    (record { honest_disk = f.current_honest; long = sym f.end_is; bytes = rests; durable = f.current_durable }) in
+    append_extends d j.generation j.end j.record_bytes j.stray j.other_state j.current c.commit.new.disk j.other image
+    bodies c.args.body.now f holds.repaired c.requires.short j.swapped
     (g.met.D.Disk.seen_may_stay j.current f.current_honest) (g.met.D.Disk.seen_may_stay j.other f.other_honest)
-    (subst (λ (l : List ℕ). Throughout d j.current c.commit.new.disk (WhileCommitted front l f.behind)) bytes_are call)
+    (subst (λ (l : List ℕ). Throughout d j.current c.commit.new.disk (WhileCommitted prefix l f.behind)) bytes_are call)
 
 pub returns-clause-acknowledged : goal.returns-clause-acknowledged
 returns-clause-acknowledged g c image bodies holds =
@@ -31,16 +35,23 @@ returns-clause-acknowledged g c image bodies holds =
     let j = c.args.self.now in
     let f = holds.files in
     let bytes_are : c.deref.result.now ≡ block c.args.body.now ++ 0 ∷ [] = c.deref.ensures.value ∙ c.in-Ok.ensures in
-    let front = solid j.generation image bodies in
-    let rests = at_rest d j.generation j.end j.record_bytes j.stray j.beside j.current c.commit.new.disk j.other image bodies c.args.body.now f holds.repaired c.requires.short in
-    let on = c.in-Ok-commit.ensures.committed front f.behind (record { honest_disk = f.current_honest; long = sym f.end_is; bytes = rests; durable = f.current_durable }) in
-    let on' = subst (λ (l : List ℕ). IsOn d c.commit.new.disk (front ++ 1 ∷ (l ++ drop (length l) f.behind))) bytes_are on in
-    let added : c.len-added.result ≡ 5 + length c.args.body.now = omega (arith, c.len-added.ensures, ap length bytes_are, c.deref.ensures.len, record_long c.args.body.now) in
-    let files = append_files d j.generation j.end j.record_bytes j.stray j.beside j.current c.commit.new.disk j.other image bodies c.args.body.now f holds.repaired c.requires.short c.len-added.result added c.commit.ensures.honesty on' in
+    let prefix = solid j.generation image bodies in
+    let rests = at_rest d j.generation j.end j.record_bytes j.stray j.other_state j.current c.commit.new.disk j.other
+    image bodies c.args.body.now f holds.repaired c.requires.short in
+    let on = c.in-Ok-commit.ensures.committed prefix f.behind
+    (record { honest_disk = f.current_honest; long = sym f.end_is; bytes = rests; durable = f.current_durable }) in
+    let on' = subst
+    (λ (l : List ℕ). IsOn d c.commit.new.disk (prefix ++ 1 ∷ (l ++ drop (length l) f.behind))) bytes_are on in
+    let added : c.len-added.result ≡ 5 + length c.args.body.now =
+    omega (arith, c.len-added.ensures, ap length bytes_are, c.deref.ensures.len, record_long c.args.body.now) in
+    let files = append_files d j.generation j.end j.record_bytes j.stray j.other_state j.current c.commit.new.disk
+    j.other image bodies c.args.body.now f holds.repaired c.requires.short c.len-added.result added
+    c.commit.ensures.honesty on' in
     record {
       files = files;
       repaired = holds.repaired;
-      run = ready_run d j.generation _ _ j.stray j.beside j.swapped c.commit.new.disk j.other image (bodies ++ c.args.body.now ∷ []) files holds.repaired;
+      run = ready_run d j.generation _ _ j.stray j.other_state j.swapped c.commit.new.disk j.other image
+          (bodies ++ c.args.body.now ∷ []) files holds.repaired;
     }
 
 pub returns-clause-extends : goal.returns-clause-extends
@@ -49,12 +60,15 @@ returns-clause-extends g c image bodies holds =
     let j = c.args.self.now in
     let f = holds.files in
     let bytes_are : c.deref.result.now ≡ block c.args.body.now ++ 0 ∷ [] = c.deref.ensures.value ∙ c.in-Ok.ensures in
-    let front = solid j.generation image bodies in
-    let rests = at_rest d j.generation j.end j.record_bytes j.stray j.beside j.current c.commit.new.disk j.other image bodies c.args.body.now f holds.repaired c.requires.short in
-    let call = c.commit.ensures.moments front f.behind (record { honest_disk = f.current_honest; long = sym f.end_is; bytes = rests; durable = f.current_durable }) in
-    append_extends d j.generation j.end j.record_bytes j.stray j.beside j.current c.commit.new.disk j.other image bodies c.args.body.now f holds.repaired c.requires.short j.swapped
+    let prefix = solid j.generation image bodies in
+    let rests = at_rest d j.generation j.end j.record_bytes j.stray j.other_state j.current c.commit.new.disk j.other
+    image bodies c.args.body.now f holds.repaired c.requires.short in
+    let call = c.commit.ensures.moments prefix f.behind
+    (record { honest_disk = f.current_honest; long = sym f.end_is; bytes = rests; durable = f.current_durable }) in
+    append_extends d j.generation j.end j.record_bytes j.stray j.other_state j.current c.commit.new.disk j.other image
+    bodies c.args.body.now f holds.repaired c.requires.short j.swapped
     (g.met.D.Disk.seen_may_stay j.current f.current_honest) (g.met.D.Disk.seen_may_stay j.other f.other_honest)
-    (subst (λ (l : List ℕ). Throughout d j.current c.commit.new.disk (WhileCommitted front l f.behind)) bytes_are call)
+    (subst (λ (l : List ℕ). Throughout d j.current c.commit.new.disk (WhileCommitted prefix l f.behind)) bytes_are call)
 
 pub returns-clause-longer : goal.returns-clause-longer
 returns-clause-longer g c =

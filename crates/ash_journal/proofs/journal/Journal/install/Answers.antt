@@ -1,9 +1,10 @@
-use Rattle.std.proofs.Common.{◌≡◌, ◌∙◌, ◌+◌, ◌^◌, ◌<◌, ◌∷◌, ◌++◌, [], Bool, List, ℕ, length, drop, not, false, refl, sym, subst, arith}
+use Rattle.std.proofs.Common.{◌≡◌, ◌∙◌, ◌+◌, ◌^◌, ◌<◌, ◌∷◌, ◌++◌, [], List, ℕ, length, drop, not, false, refl}
+use Rattle.std.proofs.Common.{sym, subst, arith}
 use Rattle.ash_disk.specs.Device.{Throughout}
-use Rattle.ash_journal.specs.declared.beside.Beside.TheVariants.{Older}
-use Rattle.ash_journal.specs.Layout.{mark, block, IsShut}
+use Rattle.ash_journal.specs.declared.other_state.OtherState.TheVariants.{Older}
+use Rattle.ash_journal.specs.Layout.{mark, block}
 use Rattle.ash_journal.specs.Writes.{IsOn, WhileReplaced}
-use Rattle.ash_journal.specs.Beside.{is_older, first_of, second_of}
+use Rattle.ash_journal.specs.OtherState.{is_older, first_of, second_of}
 use Rattle.ash_journal.specs.Current.{Is, Either}
 use Rattle.ash_journal.specs.Journal.{FilesAre}
 use Rattle.ash_journal.specs.Runs.{Run}
@@ -17,13 +18,17 @@ returns-in-Err-replace-clause-run g c was bodies holds =
     let j = c.args.self.now in
     let f = holds.files in
     let image = c.args.image.now in
-    let bytes_are : c.deref.result.now ≡ mark (j.generation + 1) ++ (block image ++ 0 ∷ []) = c.deref.ensures.value ∙ c.in-Ok.ensures in
+    let bytes_are : c.deref.result.now ≡ mark (j.generation + 1) ++ (block image ++ 0 ∷ []) =
+    c.deref.ensures.value ∙ c.in-Ok.ensures in
     let higher : j.generation + 1 < 2 ^ 64 = omega (arith, c.if-self.false, f.fits.numbered) in
-    let shut : c.is_older.result ≡ false → IsShut (d.seen j.other) = λ closed. shut_other j.stray j.beside j.generation (d.seen j.other) holds.repaired f.other_is (sym c.is_older.ensures ∙ closed) in
+    let shut = shut_other j.stray j.other_state j.generation (d.seen j.other) holds.repaired f.other_is in
     let call = c.replace.ensures.moments f.other_honest f.other_durable shut in
-    let call' = subst (λ (is_open : Bool). Throughout d j.other c.replace.new.disk (WhileReplaced is_open c.deref.result.now (d.seen j.other))) c.is_older.ensures call in
-    let call'' = subst (λ (l : List ℕ). Throughout d j.other c.replace.new.disk (WhileReplaced (is_older j.beside) l (d.seen j.other))) bytes_are call' in
-    let run = install_run d j.generation j.end j.record_bytes j.stray j.beside j.current j.other c.replace.new.disk was bodies image f holds.repaired higher c.requires.short j.swapped call'' in
+    let call' =
+    subst (λ (l : List ℕ).
+    Throughout d j.other c.replace.new.disk (WhileReplaced (is_older j.other_state) l (d.seen j.other))) bytes_are
+    call in
+    let run = install_run d j.generation j.end j.record_bytes j.stray j.other_state j.current j.other c.replace.new.disk
+    was bodies image f holds.repaired higher c.requires.short j.swapped call' in
     run
 
 pub returns-clause-installed : goal.returns-clause-installed
@@ -32,18 +37,28 @@ returns-clause-installed g c was bodies holds =
     let j = c.args.self.now in
     let f = holds.files in
     let image = c.args.image.now in
-    let bytes_are : c.deref.result.now ≡ mark (j.generation + 1) ++ (block image ++ 0 ∷ []) = c.deref.ensures.value ∙ c.in-Ok.ensures in
+    let bytes_are : c.deref.result.now ≡ mark (j.generation + 1) ++ (block image ++ 0 ∷ []) =
+    c.deref.ensures.value ∙ c.in-Ok.ensures in
     let higher : j.generation + 1 < 2 ^ 64 = omega (arith, c.if-self.false, f.fits.numbered) in
-    let shut : c.is_older.result ≡ false → IsShut (d.seen j.other) = λ closed. shut_other j.stray j.beside j.generation (d.seen j.other) holds.repaired f.other_is (sym c.is_older.ensures ∙ closed) in
+    let shut = shut_other j.stray j.other_state j.generation (d.seen j.other) holds.repaired f.other_is in
     let on = c.in-Ok-replace.ensures.replaced f.other_honest f.other_durable shut in
-    let on' = subst (λ (l : List ℕ). IsOn d c.replace.new.disk (1 ∷ (l ++ drop (length l) (drop 1 (d.seen j.other))))) bytes_are on in
-    let files = install_files d j.generation j.end j.record_bytes j.stray j.beside j.current j.other c.replace.new.disk was bodies image f holds.repaired higher c.requires.short (21 + length image) refl c.replace.ensures.honesty on' in
-    let files' = subst (λ x. FilesAre d (j.generation + 1) (21 + length image) 0 false Older x j.current image []) (sym c.swap.ensures.x_after) files in
-    let files'' = subst (λ y. FilesAre d (j.generation + 1) (21 + length image) 0 false Older c.swap.new.x y image []) (sym c.swap.ensures.y_after) files' in
+    let on' = subst
+    (λ (l : List ℕ). IsOn d c.replace.new.disk (1 ∷ (l ++ drop (length l) (drop 1 (d.seen j.other))))) bytes_are
+    on in
+    let files = install_files d j.generation j.end j.record_bytes j.stray j.other_state j.current j.other
+    c.replace.new.disk was bodies image f holds.repaired higher c.requires.short (21 + length image) refl
+    c.replace.ensures.honesty on' in
+    let files' =
+    subst (λ x. FilesAre d (j.generation + 1) (21 + length image) 0 false Older x j.current image [])
+    (sym c.swap.ensures.x_after) files in
+    let files'' =
+    subst (λ y. FilesAre d (j.generation + 1) (21 + length image) 0 false Older c.swap.new.x y image [])
+    (sym c.swap.ensures.y_after) files' in
     record {
       files = files'';
       repaired = tt;
-      run = ready_run d (j.generation + 1) (21 + length image) 0 false Older (not j.swapped) c.swap.new.x c.swap.new.y image [] files'' tt;
+      run = ready_run d (j.generation + 1) (21 + length image) 0 false Older (not j.swapped) c.swap.new.x c.swap.new.y
+          image [] files'' tt;
     }
 
 pub returns-clause-run : goal.returns-clause-run
@@ -52,13 +67,24 @@ returns-clause-run g c was bodies holds =
     let j = c.args.self.now in
     let f = holds.files in
     let image = c.args.image.now in
-    let bytes_are : c.deref.result.now ≡ mark (j.generation + 1) ++ (block image ++ 0 ∷ []) = c.deref.ensures.value ∙ c.in-Ok.ensures in
+    let bytes_are : c.deref.result.now ≡ mark (j.generation + 1) ++ (block image ++ 0 ∷ []) =
+    c.deref.ensures.value ∙ c.in-Ok.ensures in
     let higher : j.generation + 1 < 2 ^ 64 = omega (arith, c.if-self.false, f.fits.numbered) in
-    let shut : c.is_older.result ≡ false → IsShut (d.seen j.other) = λ closed. shut_other j.stray j.beside j.generation (d.seen j.other) holds.repaired f.other_is (sym c.is_older.ensures ∙ closed) in
+    let shut = shut_other j.stray j.other_state j.generation (d.seen j.other) holds.repaired f.other_is in
     let call = c.replace.ensures.moments f.other_honest f.other_durable shut in
-    let call' = subst (λ (is_open : Bool). Throughout d j.other c.replace.new.disk (WhileReplaced is_open c.deref.result.now (d.seen j.other))) c.is_older.ensures call in
-    let call'' = subst (λ (l : List ℕ). Throughout d j.other c.replace.new.disk (WhileReplaced (is_older j.beside) l (d.seen j.other))) bytes_are call' in
-    let run = install_run d j.generation j.end j.record_bytes j.stray j.beside j.current j.other c.replace.new.disk was bodies image f holds.repaired higher c.requires.short j.swapped call'' in
-    let swapped = run_swapped d j.swapped _ _ j.current c.replace.new.disk (Either (Is (image, [])) (Is (was, bodies))) run in
-    let swapped' = subst (λ x. Run d (d.clock (first_of j.swapped j.current j.other)) (d.clock (second_of j.swapped j.current j.other)) (first_of (not j.swapped) x j.current) (second_of (not j.swapped) x j.current) (Either (Is (image, [])) (Is (was, bodies)))) (sym c.swap.ensures.x_after) swapped in
-    subst (λ y. Run d (d.clock (first_of j.swapped j.current j.other)) (d.clock (second_of j.swapped j.current j.other)) (first_of (not j.swapped) c.swap.new.x y) (second_of (not j.swapped) c.swap.new.x y) (Either (Is (image, [])) (Is (was, bodies)))) (sym c.swap.ensures.y_after) swapped'
+    let call' =
+    subst (λ (l : List ℕ).
+    Throughout d j.other c.replace.new.disk (WhileReplaced (is_older j.other_state) l (d.seen j.other))) bytes_are
+    call in
+    let run = install_run d j.generation j.end j.record_bytes j.stray j.other_state j.current j.other c.replace.new.disk
+    was bodies image f holds.repaired higher c.requires.short j.swapped call' in
+    let swapped =
+    run_swapped d j.swapped _ _ j.current c.replace.new.disk (Either (Is (image, [])) (Is (was, bodies))) run in
+    let swapped' =
+    subst (λ x. Run d (d.clock (first_of j.swapped j.current j.other))
+    (d.clock (second_of j.swapped j.current j.other)) (first_of (not j.swapped) x j.current)
+    (second_of (not j.swapped) x j.current) (Either (Is (image, [])) (Is (was, bodies))))
+    (sym c.swap.ensures.x_after) swapped in
+    subst (λ y. Run d (d.clock (first_of j.swapped j.current j.other)) (d.clock (second_of j.swapped j.current j.other))
+    (first_of (not j.swapped) c.swap.new.x y) (second_of (not j.swapped) c.swap.new.x y)
+    (Either (Is (image, [])) (Is (was, bodies)))) (sym c.swap.ensures.y_after) swapped'

@@ -8,4 +8,8 @@ use Rattle.ash_registry.proofs.Verdicts.{for_declared}
 use Rattle.ash_registry.proofs.registry.Registry.function.Goals as goal
 
 pub returns-clause-registers : goal.returns-clause-registers
-returns-clause-registers c = for_declared c.args.decl.now (nat_le (count_by is_service (registered c.args.self.now)) c.args.service) NoService (refusal_of_declared_function (registered c.args.self.now) c.args.service c.args.id) (function_call c.args.service c.args.id) _ _ _ _ c.in_ok-declared.ensures.declared (grind (arith, nat_tests)) c.declared_function.ensures
+returns-clause-registers c =
+    for_declared c.args.decl.now (nat_le (count_by is_service (registered c.args.self.now)) c.args.service) NoService
+    (refusal_of_declared_function (registered c.args.self.now) c.args.service c.args.id)
+    (function_call c.args.service c.args.id) _ _ _ _ c.in_ok-declared.ensures.declared (grind (arith, nat_tests))
+    c.function_of_declaration.ensures

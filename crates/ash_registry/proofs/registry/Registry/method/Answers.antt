@@ -7,4 +7,8 @@ use Rattle.ash_registry.proofs.Verdicts.{for_declared}
 use Rattle.ash_registry.proofs.registry.Registry.method.Goals as goal
 
 pub returns-clause-registers : goal.returns-clause-registers
-returns-clause-registers c = for_declared c.args.decl.now (not (is_known (registered c.args.self.now) c.args.of.now)) UnknownType (refusal_of_declared_method (registered c.args.self.now) c.args.of.now c.args.id) (method_call c.args.of.now c.args.id) _ _ _ _ c.in_ok-declared.ensures.declared (grind (arith, nat_tests)) c.declared_method.ensures
+returns-clause-registers c =
+    for_declared c.args.decl.now (not (is_known (registered c.args.self.now) c.args.of.now)) UnknownType
+    (refusal_of_declared_method (registered c.args.self.now) c.args.of.now c.args.id)
+    (method_call c.args.of.now c.args.id) _ _ _ _ c.in_ok-declared.ensures.declared (grind (arith, nat_tests))
+    c.method_of_declaration.ensures

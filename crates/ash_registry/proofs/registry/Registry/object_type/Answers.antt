@@ -1,7 +1,9 @@
 use Rattle.ash_registry.specs.Refusals.{refusal_of_type}
 use Rattle.ash_registry.specs.Registered.{registered}
-use Rattle.ash_registry.proofs.Verdicts.{for_spelled}
+use Rattle.ash_registry.proofs.Verdicts.{for_name_class}
 use Rattle.ash_registry.proofs.registry.Registry.object_type.Goals as goal
 
 pub returns : goal.returns
-returns c = for_spelled c.args.name.now (λ s. refusal_of_type (registered c.args.self.now) c.args.name.now s c.args.kind) _ _ _ _ _ c.in_ok-spelled.ensures.spelled c.spelled_type.ensures
+returns c = for_name_class c.args.name.now
+    (λ s. refusal_of_type (registered c.args.self.now) c.args.name.now s c.args.kind) _ _ _ _ _
+    c.in_ok-name_kind.ensures.classified c.classified_type.ensures

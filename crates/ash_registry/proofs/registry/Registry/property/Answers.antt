@@ -7,4 +7,8 @@ use Rattle.ash_registry.proofs.Verdicts.{for_declared}
 use Rattle.ash_registry.proofs.registry.Registry.property.Goals as goal
 
 pub returns-clause-registers : goal.returns-clause-registers
-returns-clause-registers c = for_declared c.args.decl.now (not (is_known (registered c.args.self.now) c.args.of.now)) UnknownType (refusal_of_declared_property (registered c.args.self.now) c.args.of.now c.args.id) (property_call c.args.of.now c.args.id) _ _ _ _ c.in_ok-declared.ensures.declared (grind (arith, nat_tests)) c.declared_property.ensures
+returns-clause-registers c =
+    for_declared c.args.decl.now (not (is_known (registered c.args.self.now) c.args.of.now)) UnknownType
+    (refusal_of_declared_property (registered c.args.self.now) c.args.of.now c.args.id)
+    (property_call c.args.of.now c.args.id) _ _ _ _ c.in_ok-declared.ensures.declared (grind (arith, nat_tests))
+    c.property_of_declaration.ensures

@@ -1,8 +1,0 @@
-use Rattle.std.proofs.Common.{◌∙◌, ap}
-use Rattle.ash_journal.specs.Layout.{four_bytes}
-use Rattle.ash_journal.proofs.LayoutLaws.{four_back}
-use Rattle.ash_journal.proofs.reading.size_of.Goals as goal
-
-pub returns : goal.returns
-returns c =
-    ap four_bytes c.read_u32.ensures ∙ four_back c.args.bytes.now c.requires (λ i. (c.type_inv.bytes i).fits)

@@ -1,0 +1,117 @@
+//! How two files become a journal's.
+ghost use Rattle.std.specs.Prelude.{◌≡◌, ◌<◌, ◌^◌, ◌∷◌, ◌++◌, [], length, drop, IsTrue, IfErr, OnOk, IsErr, IsErrOf};
+ghost use Rattle.ash_disk.specs.Failures.{CountsFailure};
+ghost use Rattle.ash_disk.specs.Device.{IsOnlyRead, Throughout};
+ghost use Rattle.ash_journal.specs.Failures.{CountsFailures};
+ghost use Rattle.ash_journal.specs.Layout.{mark, block, IsClosed};
+ghost use Rattle.ash_journal.specs.Opening.{CreateFaultIs};
+ghost use Rattle.ash_journal.specs.Reading.{ShutIs};
+ghost use Rattle.ash_journal.specs.Writes.{IsOn, IsIdle, AreIdle, WhileStarted, WhileCreated};
+
+use crate::bytes::generation_bytes;
+use crate::error::CreateFault;
+use crate::gate::commit;
+use crate::one_file::FirstGate;
+use crate::two_files::{both_closed, read_headers};
+use ash_disk::{DeviceFailed, Disk, write_durably};
+use std::alloc::Global;
+
+// Writes 0 over the first gate where it isn't 0, and syncs.
+fn clear<D: Disk>(disk: &mut D, gate: FirstGate) -> Result<(), DeviceFailed>
+    ensures cleared { OnOk result (IsTrue (D.honest disk.old) → ShutIs gate.shut (D.seen disk.old)
+        → IsOn D.Disk disk.new (0 ∷ drop 1 (D.seen disk.old))) }
+    ensures moments { IsTrue (D.honest disk.old) → ShutIs gate.shut (D.seen disk.old)
+        → AreIdle (D.leaves disk.old (D.clock disk.old))
+        → Throughout D.Disk disk.old disk.new IsIdle }
+    ensures honesty { D.honest disk.new ≡ D.honest disk.old }
+    ensures cause { CountsFailure result (D.failures disk.old) (D.failures disk.new) }
+{
+    if gate.shut {
+        return disk.sync();
+    }
+    write_durably(disk, 0, &[0])
+}
+
+// Shuts the first gates, syncs both files, and commits bytes to the first of them.
+fn start<D: Disk>(
+    first: &mut D,
+    first_gate: FirstGate,
+    second: &mut D,
+    second_gate: FirstGate,
+    bytes: &[u8],
+) -> Result<(), DeviceFailed>
+    ensures created { OnOk result (IsTrue (D.honest first.old)
+        → ShutIs first_gate.shut (D.seen first.old)
+        → IsOn D.Disk first.new
+        (1 ∷ (bytes.now ++ drop (length bytes.now) (drop 1 (D.seen first.old))))) }
+    ensures second_cleared { OnOk result (IsTrue (D.honest second.old)
+        → ShutIs second_gate.shut (D.seen second.old)
+        → IsOn D.Disk second.new (0 ∷ drop 1 (D.seen second.old))) }
+    ensures first_moments { IsTrue (D.honest first.old) → ShutIs first_gate.shut (D.seen first.old)
+        → AreIdle (D.leaves first.old (D.clock first.old))
+        → Throughout D.Disk first.old first.new
+        (WhileStarted bytes.now (D.seen first.old)) }
+    ensures second_moments { IsTrue (D.honest second.old) → ShutIs second_gate.shut (D.seen second.old)
+        → AreIdle (D.leaves second.old (D.clock second.old))
+        → Throughout D.Disk second.old second.new
+        IsIdle }
+    ensures honesty_first { D.honest first.new ≡ D.honest first.old }
+    ensures honesty_second { D.honest second.new ≡ D.honest second.old }
+    ensures cause { CountsFailures (IsErr result)
+        (D.failures first.old) (D.failures second.old)
+        (D.failures first.new) (D.failures second.new) }
+{
+    clear(first, first_gate)?;
+    clear(second, second_gate)?;
+    commit(first, 0, bytes)
+}
+
+/// Shuts the first gate of two files that are closed, syncs both, and commits a first generation to the first of them.
+pub(crate) fn create_both<D: Disk>(
+    alloc: Global,
+    first: &mut D,
+    second: &mut D,
+    image: &[u8],
+) -> Result<(), CreateFault>
+    requires { length image.now < 2 ^ 32 }
+    ensures created { OnOk result (IsTrue (D.honest first.old) → IsTrue (D.honest second.old)
+        → IsOn D.Disk first.new (1 ∷ ((mark 1 ++ (block image.now ++ 0 ∷ []))
+        ++ drop (length (mark 1 ++ (block image.now ++ 0 ∷ []))) (drop 1 (D.seen first.old))))) }
+    ensures second_cleared { OnOk result (IsTrue (D.honest first.old) → IsTrue (D.honest second.old)
+        → IsOn D.Disk second.new (0 ∷ drop 1 (D.seen second.old))) }
+    ensures closed { OnOk result (IsTrue (D.honest first.old) → IsTrue (D.honest second.old)
+        → IsClosed (D.seen first.old) × IsClosed (D.seen second.old)) }
+    ensures fault { IfErr result (λ fault. IsTrue (D.honest first.old)
+        → IsTrue (D.honest second.old)
+        → CreateFaultIs fault (D.seen first.old) (D.seen second.old)
+        (IsOnlyRead D.Disk first.old first.new × IsOnlyRead D.Disk second.old second.new)) }
+    ensures first_moments { IsTrue (D.honest first.old) → IsTrue (D.honest second.old)
+        → AreIdle (D.leaves first.old (D.clock first.old))
+        → Throughout D.Disk first.old first.new
+        (WhileCreated image.now) }
+    ensures second_moments { IsTrue (D.honest first.old) → IsTrue (D.honest second.old)
+        → AreIdle (D.leaves second.old (D.clock second.old))
+        → Throughout D.Disk second.old second.new
+        IsIdle }
+    ensures honesty_first { D.honest first.new ≡ D.honest first.old }
+    ensures honesty_second { D.honest second.new ≡ D.honest second.old }
+    ensures cause { CountsFailures (IsErrOf result CreateFault.DeviceFailed)
+        (D.failures first.old) (D.failures second.old)
+        (D.failures first.new) (D.failures second.new) }
+{
+    let headers = match read_headers(first, second) {
+        Ok(headers) => headers,
+        Err(_) => return Err(CreateFault::DeviceFailed),
+    };
+    let Some((one, two)) = both_closed(&headers) else {
+        return Err(CreateFault::AlreadyThere);
+    };
+    let bytes = match generation_bytes(alloc, 1, image) {
+        Ok(bytes) => bytes,
+        Err(_) => return Err(CreateFault::NoMemory),
+    };
+    match start(first, one, second, two, &bytes) {
+        Ok(()) => Ok(()),
+        Err(_) => Err(CreateFault::DeviceFailed),
+    }
+}

@@ -1,0 +1,275 @@
+//! What a file is read as. Nothing here writes.
+ghost use Rattle.std.specs.Prelude.{◌≡◌, ◌+◌, ◌<◌, ◌≤◌, ◌^◌, ◌↔◌, ◌++◌, ◌∷◌, [], ℕ, List, length, take, IsTrue, IfOk};
+ghost use Rattle.std.specs.Prelude.{IfSome, IsErr, IsErrOf, MatchOption, MatchResult, drop};
+ghost use Rattle.ash_disk.specs.Device.{IsOnlyRead};
+ghost use Rattle.ash_disk.specs.Image.{bytes_at};
+ghost use Rattle.ash_journal.specs.Layout.{four_bytes, mark, solid, IsShut, FieldsFit, IsCut, HasMark};
+ghost use Rattle.ash_journal.specs.Reading.{HeaderIs, IsFailure, IsCutFault, Counts, IsBlock, IsRead};
+
+use crate::bytes::MAGIC;
+use crate::error::OpenFault;
+use crate::record::Record;
+use ash_disk::{DeviceFailed, Disk};
+use byteorder::{ByteOrder, LittleEndian};
+use std::alloc::Global;
+
+/// The first gate of a file that is closed: whether it is 0.
+#[derive(Clone, Copy)]
+pub(crate) struct FirstGate {
+    pub(crate) shut: bool,
+}
+
+/// What the first bytes of a file say of it.
+#[derive(Clone, Copy)]
+pub(crate) enum FileHeader {
+    /// It is closed.
+    Closed { gate: FirstGate },
+    /// It is open, and has no magic and no generation.
+    Unmarked,
+    /// It is open, with this generation.
+    Marked { generation: u64 },
+}
+
+fn is_shut(prefix: &[u8]) -> bool
+    ensures { IsTrue result ↔ IsShut prefix.now }
+{
+    !prefix.is_empty() && prefix[0] == 0
+}
+
+// The generation after a magic, where these bytes are both.
+fn mark_of(bytes: &[u8]) -> Option<u64>
+    requires { length bytes.now ≤ 16 }
+    ensures { MatchOption result
+        ((generation : ℕ) → generation < 2 ^ 64 → bytes.now ≡ mark generation → ⊥)
+        (λ generation. (generation < 2 ^ 64) × (bytes.now ≡ mark generation)) }
+{
+    if bytes.len() < 16 {
+        return None;
+    }
+    let (magic, number) = bytes.split_at(8);
+    if magic != MAGIC.as_slice() {
+        return None;
+    }
+    Some(LittleEndian::read_u64(number))
+}
+
+/// The header of a file whose first 17 bytes, or all of fewer, are these.
+pub(crate) fn header_of(prefix: &[u8]) -> FileHeader
+    requires { length prefix.now ≤ 17 }
+    ensures { (file : List ℕ) → prefix.now ≡ take 17 file → HeaderIs result file }
+{
+    if prefix.len() < 2 || prefix[0] != 1 {
+        let gate = FirstGate {
+            shut: is_shut(prefix),
+        };
+        return FileHeader::Closed { gate };
+    }
+    match mark_of(&prefix[1..]) {
+        Some(generation) => FileHeader::Marked { generation },
+        None => FileHeader::Unmarked,
+    }
+}
+
+/// The header of a file, and its length.
+pub(crate) fn read_header<D: Disk>(disk: &mut D) -> Result<(FileHeader, u64), DeviceFailed>
+    ensures answer { IfOk result (λ x. IsTrue (D.honest disk.old)
+        → HeaderIs x.0 (D.seen disk.old) × (x.1 ≡ length (D.seen disk.old))) }
+    ensures only_read { IsOnlyRead D.Disk disk.old disk.new }
+    ensures cause { Counts (IsErr result) (D.failures disk.old) (D.failures disk.new) }
+{
+    let len = disk.len()?;
+    let size = len.min(17) as usize;
+    let mut prefix = [0; 17];
+    disk.read(0, &mut prefix[..size])?;
+    Ok((header_of(&prefix[..size]), len))
+}
+
+/// Bytes that follow a gate, and the gate after them.
+#[derive(Drop)]
+pub(crate) struct Block {
+    body: Vec<u8>,
+    gate: u8,
+}
+
+// The length in four bytes.
+fn size_of(bytes: &[u8]) -> u32
+    requires { length bytes.now ≡ 4 }
+    ensures { four_bytes result ≡ bytes.now }
+{
+    LittleEndian::read_u32(bytes)
+}
+
+fn read_size<D: Disk>(disk: &mut D, at: u64) -> Result<u32, OpenFault>
+    ensures answer { IfOk result (λ size. IsTrue (D.honest disk.old)
+        → at + 4 ≤ length (D.seen disk.old) → four_bytes size ≡ bytes_at (D.seen disk.old) at 4) }
+    ensures fits { IfOk result (λ size. size < 2 ^ 32) }
+    ensures only_read { IsOnlyRead D.Disk disk.old disk.new }
+    ensures faults { IsFailure result }
+    ensures cause { Counts (IsErrOf result OpenFault.DeviceFailed)
+        (D.failures disk.old) (D.failures disk.new) }
+{
+    let mut size = [0; 4];
+    match disk.read(at, &mut size) {
+        Ok(()) => Ok(size_of(&size)),
+        Err(_) => Err(OpenFault::DeviceFailed),
+    }
+}
+
+fn read_bytes<D: Disk>(
+    alloc: Global,
+    disk: &mut D,
+    at: u64,
+    size: usize,
+) -> Result<Vec<u8>, OpenFault>
+    ensures size { IfOk result (λ bytes. length bytes.items ≡ size) }
+    ensures answer { IfOk result (λ bytes. IsTrue (D.honest disk.old)
+        → at + size ≤ length (D.seen disk.old)
+        → bytes.items ≡ bytes_at (D.seen disk.old) at size) }
+    ensures only_read { IsOnlyRead D.Disk disk.old disk.new }
+    ensures faults { IsFailure result }
+    ensures cause { Counts (IsErrOf result OpenFault.DeviceFailed)
+        (D.failures disk.old) (D.failures disk.new) }
+{
+    let mut bytes = match vec![in alloc; 0; size] {
+        Ok(bytes) => bytes,
+        Err(_) => return Err(OpenFault::NoMemory),
+    };
+    match disk.read(at, &mut bytes) {
+        Ok(()) => Ok(bytes),
+        Err(_) => Err(OpenFault::DeviceFailed),
+    }
+}
+
+/// The block from an offset on in a file of this length, or `None` where it is cut short.
+fn read_block<D: Disk>(
+    alloc: Global,
+    disk: &mut D,
+    at: u64,
+    len: u64,
+) -> Result<Option<Block>, OpenFault>
+    ensures answer { IfOk result (λ found. IsTrue (D.honest disk.old)
+        → len ≡ length (D.seen disk.old)
+        → MatchOption found (IsCut (drop at (D.seen disk.old)))
+        (λ block. IsBlock block.body.items block.gate (drop at (D.seen disk.old)))) }
+    ensures within { IfOk result (λ found. IfSome found (λ block.
+        at + length block.body.items + 4 < len)) }
+    ensures short { IfOk result (λ found. IfSome found (λ block.
+        length block.body.items < 2 ^ 32)) }
+    ensures only_read { IsOnlyRead D.Disk disk.old disk.new }
+    ensures faults { IsFailure result }
+    ensures cause { Counts (IsErrOf result OpenFault.DeviceFailed)
+        (D.failures disk.old) (D.failures disk.new) }
+{
+    let room = len.saturating_sub(at);
+    if room < 4 {
+        return Ok(None);
+    }
+    let size = match read_size(disk, at) {
+        Ok(size) => size,
+        Err(fault) => return Err(fault),
+    };
+    if room - 4 <= u64::from(size) {
+        return Ok(None);
+    }
+    let mut body = match read_bytes(alloc, disk, at + 4, size as usize + 1) {
+        Ok(bytes) => bytes,
+        Err(fault) => return Err(fault),
+    };
+    let gate = body.pop().unwrap();
+    Ok(Some(Block { body, gate }))
+}
+
+/// Records, and where they end.
+#[derive(Drop)]
+pub(crate) struct Tail {
+    pub(crate) records: Vec<Record>,
+    /// The offset of the gate after the last of them.
+    pub(crate) end: u64,
+    /// That gate.
+    pub(crate) gate: u8,
+}
+
+/// The open records from a gate on, in a file of this length.
+fn read_records<D: Disk>(
+    alloc: Global,
+    disk: &mut D,
+    len: u64,
+    at: u64,
+    first: u8,
+) -> Result<Tail, OpenFault>
+    requires { at < len }
+    ensures answer { (generation : ℕ) (image rest : List ℕ) → IsTrue (D.honest disk.old)
+        → len ≡ length (D.seen disk.old) → FieldsFit generation image []
+        → D.seen disk.old ≡ solid generation image [] ++ first ∷ rest
+        → at ≡ length (solid generation image [])
+        → MatchResult result
+        (λ tail. IsRead generation image tail.records.items tail.end tail.gate (D.seen disk.old))
+        (λ fault. IsCutFault fault (D.seen disk.old)) }
+    ensures within { IfOk result (λ tail. at ≤ tail.end) }
+    ensures only_read { IsOnlyRead D.Disk disk.old disk.new }
+    ensures cause { Counts (IsErrOf result OpenFault.DeviceFailed)
+        (D.failures disk.old) (D.failures disk.new) }
+{
+    let mut records = Vec::new(alloc);
+    let mut end = at;
+    let mut gate = first;
+    while gate == 1 {
+        let block = match read_block(alloc, disk, end + 1, len) {
+            Ok(Some(block)) => block,
+            Ok(None) => return Err(OpenFault::Damaged(end)),
+            Err(fault) => return Err(fault),
+        };
+        let added = 5 + block.body.len() as u64;
+        gate = block.gate;
+        let record = Record {
+            gate: end,
+            body: block.body,
+        };
+        match records.push(record) {
+            Ok(()) => {}
+            Err(_) => return Err(OpenFault::NoMemory),
+        }
+        end += added;
+    }
+    Ok(Tail { records, end, gate })
+}
+
+/// A whole generation.
+#[derive(Drop)]
+pub(crate) struct CurrentFile {
+    pub(crate) image: Vec<u8>,
+    pub(crate) tail: Tail,
+}
+
+/// The generation of an open file of this length.
+pub(crate) fn read_current<D: Disk>(
+    alloc: Global,
+    disk: &mut D,
+    len: u64,
+) -> Result<CurrentFile, OpenFault>
+    ensures answer { (generation : ℕ) → IsTrue (D.honest disk.old) → len ≡ length (D.seen disk.old)
+        → HasMark generation (D.seen disk.old)
+        → MatchResult result
+        (λ r. IsRead generation r.image.items r.tail.records.items r.tail.end r.tail.gate
+        (D.seen disk.old))
+        (λ fault. IsCutFault fault (D.seen disk.old)) }
+    ensures within { IfOk result (λ r. 21 + length r.image.items ≤ r.tail.end) }
+    ensures short { IfOk result (λ r. length r.image.items < 2 ^ 32) }
+    ensures only_read { IsOnlyRead D.Disk disk.old disk.new }
+    ensures cause { Counts (IsErrOf result OpenFault.DeviceFailed)
+        (D.failures disk.old) (D.failures disk.new) }
+{
+    let block = match read_block(alloc, disk, 17, len) {
+        Ok(Some(block)) => block,
+        Ok(None) => return Err(OpenFault::Damaged(0)),
+        Err(fault) => return Err(fault),
+    };
+    let end = 21 + block.body.len() as u64;
+    match read_records(alloc, disk, len, end, block.gate) {
+        Ok(tail) => Ok(CurrentFile {
+            image: block.body,
+            tail,
+        }),
+        Err(fault) => Err(fault),
+    }
+}

@@ -1,0 +1,92 @@
+//! Places in typed expressions.
+
+ghost use Rattle.std.specs.Prelude.{◌≡◌, option_map, IfOk};
+ghost use Rattle.ash_typed.specs.Tree.{place_in};
+ghost use Rattle.ash_typed.specs.Views.{expr_of, place_of, all_linked, all_chained, all_lazies};
+
+use crate::tree::expressions::{Expr, Link, Operand, Place};
+use crate::tree::operations::Lazy;
+use std::alloc::{AllocError, Global};
+
+/// The place that an expression reads.
+#[cycle(places)]
+#[tactic(auto, using(crate::proofs::Rows::path_is, crate::proofs::Rows::chain_is, crate::proofs::Rows::lazy_is))]
+pub fn place(alloc: Global, expr: Expr) -> Result<Option<Place>, AllocError>
+    ensures { IfOk result (λ found. option_map place_of found ≡ place_in (expr_of expr)) }
+{
+    match expr {
+        Expr::Variable(variable) => Ok(Some(Place::Variable(variable))),
+        Expr::Path { base, links } => member_of(alloc, base, links),
+        Expr::Number { .. } | Expr::Bool(_) | Expr::Null | Expr::This(_) => Ok(None),
+        Expr::Chain { first, operands } => chain_place(alloc, first, operands),
+        Expr::Lazy {
+            operator,
+            first,
+            others,
+        } => lazy_place(alloc, operator, first, others),
+        Expr::Convert { .. } | Expr::Cast { .. } | Expr::Change { .. } => Ok(None),
+        Expr::Conditional { .. } | Expr::Assign { .. } | Expr::Update { .. } => Ok(None),
+        Expr::Step { .. } | Expr::Call { .. } => Ok(None),
+    }
+}
+
+/// What the last link holds, of what the links before it give.
+#[cycle(places)]
+#[tactic(auto, using(crate::proofs::Rows::path_is, crate::proofs::Rows::all_linked_append))]
+fn member_of(
+    alloc: Global,
+    base: Box<Expr>,
+    mut links: Vec<Link>,
+) -> Result<Option<Place>, AllocError>
+    ensures { IfOk result (λ found.
+        option_map place_of found ≡ place_in (all_linked (expr_of base.value) links.items)) }
+{
+    match links.pop() {
+        Some(Link::Member(member)) => {
+            let object = Box::new(alloc, Expr::Path { base, links })?;
+            Ok(Some(Place::Member { object, member }))
+        }
+        Some(Link::Index { index, of }) => {
+            let array = Box::new(alloc, Expr::Path { base, links })?;
+            Ok(Some(Place::Element { array, index, of }))
+        }
+        Some(Link::Invoke { .. }) => Ok(None),
+        None => place(alloc, Box::into_inner(base)),
+    }
+}
+
+/// A place that is alone.
+#[cycle(places)]
+#[tactic(auto, using(crate::proofs::Rows::chain_is, crate::proofs::Rows::no_place_chained))]
+fn chain_place(
+    alloc: Global,
+    first: Box<Expr>,
+    operands: Vec<Operand>,
+) -> Result<Option<Place>, AllocError>
+    ensures { IfOk result (λ found.
+        option_map place_of found ≡ place_in (all_chained (expr_of first.value) operands.items)) }
+{
+    if operands.is_empty() {
+        return place(alloc, Box::into_inner(first));
+    }
+    Ok(None)
+}
+
+/// A place that is alone.
+#[cycle(places)]
+#[tactic(auto, using(crate::proofs::Rows::no_place_lazies))]
+fn lazy_place(
+    alloc: Global,
+    operator: Lazy,
+    first: Box<Expr>,
+    others: Vec<Expr>,
+) -> Result<Option<Place>, AllocError>
+    ensures { IfOk result (λ found.
+        option_map place_of found
+        ≡ place_in (all_lazies operator (expr_of first.value) others.items)) }
+{
+    if others.is_empty() {
+        return place(alloc, Box::into_inner(first));
+    }
+    Ok(None)
+}
