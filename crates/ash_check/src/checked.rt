@@ -1,4 +1,4 @@
-//! What the check gives of a script that it accepts.
+//! What the check returns for a script that it accepts.
 
 ghost use Rattle.std.specs.Prelude.{◌≡◌};
 ghost use Rattle.ash_typed.specs.Modules.{module_of};

@@ -4,7 +4,8 @@
 use crate::sources::{Question, check_rows, printed, tree_of};
 use ash_check::CheckFault;
 use ash_expressions::{
-    Class, Declared, Environment, Function, Heads, Interface, Typed, expression,
+    Binding, ClassSignature, Environment, FunctionSignature, InterfaceSignature, Signatures,
+    TypedExpr, check_expr,
 };
 use ash_registrations::Registrations;
 use ash_tree as written;
@@ -24,12 +25,12 @@ const SHAPE: Ty = Ty::Handle(ObjectType::Interface(0));
 type Named = (&'static str, Ty);
 
 /// A function or a method: its name, its result and its parameters.
-type Head = (&'static str, Ty, &'static [Ty]);
+type Signature = (&'static str, Ty, &'static [Ty]);
 
 // `interface Shape { int get(int k); }`, and `class Node : Shape { int v; Node@ next; Node(int k) {} int get(int k) {..} }`
 const FIELDS: &[Named] = &[("v", INT), ("next", NODE)];
 
-const METHODS: &[Head] = &[("get", INT, &[INT])];
+const METHODS: &[Signature] = &[("get", INT, &[INT])];
 
 // `int a; uint u; int64 l; bool b; Node@ h; Node o(1); Shape@ s; array<int> r; array<Node@>@ t; void g(int k, bool c) {}`
 // beside these two.
@@ -48,41 +49,41 @@ const GLOBALS: &[Named] = &[
     ("t", Ty::Handle(ObjectType::Array(Element::Class(0)))),
 ];
 
-const FUNCTIONS: &[Head] = &[("g", Ty::Void, &[INT, Ty::Bool])];
+const FUNCTIONS: &[Signature] = &[("g", Ty::Void, &[INT, Ty::Bool])];
 
 /// Variables of these names and types.
-fn declared(alloc: Global, variables: &[Named]) -> Result<Vec<Declared<'static>>, AllocError> {
+fn bindings(alloc: Global, variables: &[Named]) -> Result<Vec<Binding<'static>>, AllocError> {
     let mut found = Vec::new(alloc);
     for (name, of) in variables {
-        found.push(Declared { name, of: *of })?;
+        found.push(Binding { name, of: *of })?;
     }
     Ok(found)
 }
 
-/// A function of this head.
-fn function(alloc: Global, head: &Head) -> Result<Function<'static>, AllocError> {
-    let (name, result, parameters) = *head;
-    Ok(Function {
+/// A function of this signature.
+fn function(alloc: Global, signature: &Signature) -> Result<FunctionSignature<'static>, AllocError> {
+    let (name, result, parameters) = *signature;
+    Ok(FunctionSignature {
         name,
         result,
         parameters: Vec::from_slice(alloc, parameters)?,
     })
 }
 
-/// Functions of these heads.
-fn functions(alloc: Global, heads: &[Head]) -> Result<Vec<Function<'static>>, AllocError> {
+/// Functions of these signatures.
+fn functions(alloc: Global, signatures: &[Signature]) -> Result<Vec<FunctionSignature<'static>>, AllocError> {
     let mut found = Vec::new(alloc);
-    for head in heads {
-        found.push(function(alloc, head)?)?;
+    for signature in signatures {
+        found.push(function(alloc, signature)?)?;
     }
     Ok(found)
 }
 
 /// The interface alone.
-fn interfaces(alloc: Global) -> Result<Vec<Interface<'static>>, AllocError> {
+fn interfaces(alloc: Global) -> Result<Vec<InterfaceSignature<'static>>, AllocError> {
     let methods = functions(alloc, METHODS)?;
     let mut found = Vec::new(alloc);
-    found.push(Interface {
+    found.push(InterfaceSignature {
         name: "Shape",
         methods,
     })?;
@@ -90,13 +91,13 @@ fn interfaces(alloc: Global) -> Result<Vec<Interface<'static>>, AllocError> {
 }
 
 /// The class alone.
-fn classes(alloc: Global) -> Result<Vec<Class<'static>>, AllocError> {
+fn classes(alloc: Global) -> Result<Vec<ClassSignature<'static>>, AllocError> {
     let interfaces = Vec::from_slice(alloc, &[0])?;
-    let fields = declared(alloc, FIELDS)?;
+    let fields = bindings(alloc, FIELDS)?;
     let methods = functions(alloc, METHODS)?;
     let parameters = Vec::from_slice(alloc, &[INT])?;
     let mut found = Vec::new(alloc);
-    found.push(Class {
+    found.push(ClassSignature {
         name: "Node",
         interfaces,
         fields,
@@ -107,12 +108,12 @@ fn classes(alloc: Global) -> Result<Vec<Class<'static>>, AllocError> {
 }
 
 /// The interface, the class, the function and the globals.
-fn heads(alloc: Global) -> Result<Heads<'static>, AllocError> {
+fn module_signatures(alloc: Global) -> Result<Signatures<'static>, AllocError> {
     let interfaces = interfaces(alloc)?;
     let classes = classes(alloc)?;
     let functions = functions(alloc, FUNCTIONS)?;
-    let globals = declared(alloc, GLOBALS)?;
-    Heads::new(alloc, interfaces, classes, functions, globals)
+    let globals = bindings(alloc, GLOBALS)?;
+    Signatures::new(alloc, interfaces, classes, functions, globals)
 }
 
 /// A value as it is printed for programmers, or nothing where memory is refused.
@@ -134,30 +135,30 @@ fn value_in(tree: &Module) -> Option<&written::Expr> {
     }
 }
 
-/// A value, typed where the globals are seen, or its fault.
-fn typed(alloc: Global, value: &written::Expr) -> Result<Typed, String> {
-    let heads = match heads(alloc) {
-        Ok(heads) => heads,
+/// The typed value, where the globals are declared, or its fault.
+fn check_value(alloc: Global, value: &written::Expr) -> Result<TypedExpr, String> {
+    let signatures = match module_signatures(alloc) {
+        Ok(signatures) => signatures,
         Err(AllocError) => return Err(String::new(alloc)),
     };
     let registry = Registrations::new(alloc);
     let env = Environment {
-        heads: &heads,
+        signatures: &signatures,
         registry: &registry,
         this: None,
         locals: &[],
     };
-    match expression(&env, alloc, false, value) {
+    match check_expr(&env, alloc, false, value) {
         Ok(typed) => Ok(typed),
-        Err(stop) => Err(printed(alloc, &CheckFault::from(stop))),
+        Err(error) => Err(printed(alloc, &CheckFault::from(error))),
     }
 }
 
 /// The value of a source's variable, typed, or why there is none.
-fn value_of(alloc: Global, source: &str) -> Result<Typed, String> {
+fn value_of(alloc: Global, source: &str) -> Result<TypedExpr, String> {
     let tree = tree_of(alloc, source)?;
     match value_in(&tree) {
-        Some(value) => typed(alloc, value),
+        Some(value) => check_value(alloc, value),
         None => Err(printed(alloc, &"no value")),
     }
 }

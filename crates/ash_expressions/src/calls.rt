@@ -6,12 +6,12 @@ ghost use Rattle.ash_typing.specs.Environment as environment;
 ghost use Rattle.ash_typing.specs.Types as definition;
 ghost use Rattle.ash_typing.specs.Terms as terms;
 ghost use Rattle.ash_typing.specs.Expressions as typing;
-ghost use Rattle.ash_expressions.specs.Gives.{Gives};
-ghost use Rattle.ash_expressions.specs.Views.{typed_of, parameters_of, callee_of, invoked_of, environment_of, classes_of, arguments_of, maybe_invoked, first_and_rest, split_of};
+ghost use Rattle.ash_expressions.specs.Agreement.{Agrees};
+ghost use Rattle.ash_expressions.specs.Views.{typed_of, parameters_of, callee_of, method_callee_of, environment_of, classes_of, arguments_of, optional_method_callee, first_and_rest, split_of};
 
-use crate::environment::{Callee, Environment, Invoked, Parameters};
-use crate::stop::{Checking, broken};
-use crate::typed::{Typed, fitted, made, read};
+use crate::environment::{Callee, Environment, MethodCallee, Parameters};
+use crate::error::{CheckResult, fault_at};
+use crate::typed_expr::{TypedExpr, coerce_for_assignment};
 use crate::types::{bracketed_form, ty_of, var_type};
 use ash_tree::Primitive;
 use ash_typed::{Expr, Member, Method, ObjectType, VarType, nodes};
@@ -47,7 +47,7 @@ impl<'a> Parameters<'a> {
         }
     }
 
-    /// The types, as a call says them.
+    /// The types, as the tree of a call has them.
     fn types(&self, alloc: Global) -> Result<Vec<VarType>, AllocError>
         ensures { IfOk result (λ types. types.items ≡ map definition.var_type (parameters_of self.now)) }
     {
@@ -88,46 +88,47 @@ fn host_types(alloc: Global, primitives: &[Primitive]) -> Result<Vec<VarType>, A
     Ok(types)
 }
 
-/// Arguments, each as its parameter takes it.
-fn all_fitted(
+/// Converts each argument to the type of its parameter.
+fn coerce_arguments(
     env: &Environment,
     alloc: Global,
     parameters: &Parameters,
-    arguments: Vec<Typed>,
-) -> Checking<Vec<Expr>>
-    ensures { Gives arguments_of result (typing.all_fitted (classes_of env.now) (parameters_of parameters.now) (map typed_of arguments.items)) }
+    arguments: Vec<TypedExpr>,
+) -> CheckResult<Vec<Expr>>
+    ensures { Agrees arguments_of result (typing.all_fitted (classes_of env.now) (parameters_of parameters.now) (map typed_of arguments.items)) }
 {
-    let mut fitting = Vec::with_capacity(alloc, arguments.len())?;
+    let mut coerced = Vec::with_capacity(alloc, arguments.len())?;
     let mut rest = *parameters;
     for argument in arguments {
-        let Some((of, behind)) = rest.split_first() else {
-            return Ok(fitting);
+        let Some((of, others)) = rest.split_first() else {
+            return Ok(coerced);
         };
-        fitting.push(fitted(env, alloc, of, argument)?)?;
-        rest = behind;
+        coerced.push(coerce_for_assignment(env, alloc, of, argument)?)?;
+        rest = others;
     }
-    Ok(fitting)
+    Ok(coerced)
 }
 
-/// Arguments of a call by the name at this offset.
+/// Compares the number of arguments with that of the parameters, and converts each argument. The call's name is at this
+/// offset.
 #[tactic(auto, unfolding(ash_typing::specs::Expressions::arguments_at))]
-fn arguments(
+fn check_arguments(
     env: &Environment,
     alloc: Global,
     at: usize,
     parameters: &Parameters,
-    arguments: Vec<Typed>,
-) -> Checking<Vec<Expr>>
-    ensures { Gives arguments_of result (typing.arguments_at (classes_of env.now) at (parameters_of parameters.now) (map typed_of arguments.items)) }
+    arguments: Vec<TypedExpr>,
+) -> CheckResult<Vec<Expr>>
+    ensures { Agrees arguments_of result (typing.arguments_at (classes_of env.now) at (parameters_of parameters.now) (map typed_of arguments.items)) }
 {
     if parameters.len() != arguments.len() {
-        return Err(broken(Rule::WrongArgumentCount, at));
+        return Err(fault_at(Rule::WrongArgumentCount, at));
     }
-    all_fitted(env, alloc, parameters, arguments)
+    coerce_arguments(env, alloc, parameters, arguments)
 }
 
-/// The call of what a name before brackets stands for: a method is called on the object that runs.
-fn call_of(
+/// The tree of a call by a name: a method is called on the object that runs.
+fn call_tree(
     alloc: Global,
     callable: Callable,
     parameters: Vec<VarType>,
@@ -154,87 +155,87 @@ fn call_of(
 
 /// A call by the name at this offset.
 #[tactic(auto, unfolding(ash_typing::specs::Expressions::called))]
-pub fn called(
+pub fn build_call(
     env: &Environment,
     alloc: Global,
     at: usize,
     callee: &Callee,
-    typed: Vec<Typed>,
-) -> Checking<Typed>
-    ensures { Gives typed_of result (typing.called (classes_of env.now) at (callee_of callee.now) (map typed_of typed.items) (option_map parameters_of callee.now.parameters)) }
+    typed: Vec<TypedExpr>,
+) -> CheckResult<TypedExpr>
+    ensures { Agrees typed_of result (typing.called (classes_of env.now) at (callee_of callee.now) (map typed_of typed.items) (option_map parameters_of callee.now.parameters)) }
 {
     let Some(parameters) = callee.parameters else {
-        return Err(broken(Rule::NoFactory, at));
+        return Err(fault_at(Rule::NoFactory, at));
     };
-    let arguments = arguments(env, alloc, at, &parameters, typed)?;
+    let arguments = check_arguments(env, alloc, at, &parameters, typed)?;
     let types = parameters.types(alloc)?;
-    let tree = call_of(alloc, callee.target, types, arguments)?;
-    Ok(made(at, callee.result, tree))
+    let tree = call_tree(alloc, callee.target, types, arguments)?;
+    Ok(TypedExpr::value(at, callee.result, tree))
 }
 
 /// A name alone.
 #[inline(never)]
-pub(crate) fn known(env: &Environment, alloc: Global, at: usize, name: &str) -> Checking<Typed>
-    ensures { Gives typed_of result (typing.known_at at (environment.variable_in (environment_of env.now) name.now)) }
+pub(crate) fn check_name(env: &Environment, alloc: Global, at: usize, name: &str) -> CheckResult<TypedExpr>
+    ensures { Agrees typed_of result (typing.known_at at (environment.variable_in (environment_of env.now) name.now)) }
 {
     match env.variable(alloc, name)? {
-        None => Err(broken(Rule::UnknownName, at)),
-        Some((tree, of)) => Ok(read(at, of, tree)),
+        None => Err(fault_at(Rule::UnknownName, at)),
+        Some((tree, of)) => Ok(TypedExpr::place(at, of, tree)),
     }
 }
 
-/// What a call by a name calls.
-pub(crate) fn callee<'a>(env: &Environment<'a, '_>, at: usize, name: &str) -> Checking<Callee<'a>>
-    ensures { Gives callee_of result (typing.callee_at at (environment.callee_in (environment_of env.now) name.now)) }
+/// The callee of a call by the name at this offset.
+pub(crate) fn callee_named<'a>(env: &Environment<'a, '_>, at: usize, name: &str) -> CheckResult<Callee<'a>>
+    ensures { Agrees callee_of result (typing.callee_at at (environment.callee_in (environment_of env.now) name.now)) }
 {
     match env.callee(name) {
-        None => Err(broken(Rule::UnknownName, at)),
+        None => Err(fault_at(Rule::UnknownName, at)),
         Some(callee) => Ok(callee),
     }
 }
 
 /// `this`
-pub(crate) fn this(at: usize, class: Option<usize>) -> Checking<Typed>
-    ensures { Gives typed_of result (typing.this_at at class) }
+pub(crate) fn check_this(at: usize, class: Option<usize>) -> CheckResult<TypedExpr>
+    ensures { Agrees typed_of result (typing.this_at at class) }
 {
     match class {
-        None => Err(broken(Rule::Misplaced, at)),
+        None => Err(fault_at(Rule::Misplaced, at)),
         Some(class) => {
             let of = Ty::Handle(ObjectType::Class(class));
-            Ok(made(at, of, Expr::This(class)))
+            Ok(TypedExpr::value(at, of, Expr::This(class)))
         }
     }
 }
 
-fn member(
+fn build_member(
     env: &Environment,
     alloc: Global,
-    base: Typed,
+    base: TypedExpr,
     of: ObjectType,
     at: usize,
     name: &str,
-) -> Checking<Typed>
-    ensures { Gives typed_of result (typing.member_at (typed_of base) at (environment.member_in (environment_of env.now) of name.now)) }
+) -> CheckResult<TypedExpr>
+    ensures { Agrees typed_of result (typing.member_at (typed_of base) at (environment.member_in (environment_of env.now) of name.now)) }
 {
     match env.member(of, name) {
-        None => Err(broken(Rule::UnknownName, at)),
-        Some((member, of)) => Ok(read(base.at, of, nodes::member(alloc, base.tree, member)?)),
+        None => Err(fault_at(Rule::UnknownName, at)),
+        Some((member, of)) => Ok(TypedExpr::place(base.at, of, nodes::member(alloc, base.tree, member)?)),
     }
 }
 
 /// `base.name`, at the name
 #[tactic(auto, unfolding(ash_typing::specs::Expressions::field_of))]
-pub(crate) fn field(
+pub(crate) fn build_field(
     env: &Environment,
     alloc: Global,
-    base: Typed,
+    base: TypedExpr,
     at: usize,
     name: &str,
-) -> Checking<Typed>
-    ensures { Gives typed_of result (typing.field_of (environment_of env.now) (typed_of base) base.ty at name.now) }
+) -> CheckResult<TypedExpr>
+    ensures { Agrees typed_of result (typing.field_of (environment_of env.now) (typed_of base) base.ty at name.now) }
 {
     match base.ty {
-        Ty::Object(of) | Ty::Handle(of) => member(env, alloc, base, of, at, name),
+        Ty::Object(of) | Ty::Handle(of) => build_member(env, alloc, base, of, at, name),
         Ty::Unknown => {
             let unknown = Member::Field {
                 class: 0,
@@ -242,69 +243,69 @@ pub(crate) fn field(
                 of: var_type(Ty::Unknown),
             };
             let tree = nodes::member(alloc, base.tree, unknown)?;
-            Ok(read(base.at, Ty::Unknown, tree))
+            Ok(TypedExpr::place(base.at, Ty::Unknown, tree))
         }
-        _ => Err(broken(Rule::TypeMismatch, base.at)),
+        _ => Err(fault_at(Rule::TypeMismatch, base.at)),
     }
 }
 
-fn invoked_method<'a>(
+fn object_method<'a>(
     env: &Environment<'a, '_>,
     of: ObjectType,
     at: usize,
     name: &str,
-) -> Checking<Option<Invoked<'a>>>
-    ensures { Gives maybe_invoked result (typing.invoked_at at (environment.method_in (environment_of env.now) of name.now)) }
+) -> CheckResult<Option<MethodCallee<'a>>>
+    ensures { Agrees optional_method_callee result (typing.invoked_at at (environment.method_in (environment_of env.now) of name.now)) }
 {
     match env.method(of, name) {
-        None => Err(broken(Rule::UnknownName, at)),
+        None => Err(fault_at(Rule::UnknownName, at)),
         Some(method) => Ok(Some(method)),
     }
 }
 
 /// The method of `base.name(..)`, at the name; nothing where the type of the base is unknown.
 #[tactic(auto, unfolding(ash_typing::specs::Expressions::method_of))]
-pub(crate) fn method<'a>(
+pub(crate) fn find_method<'a>(
     env: &Environment<'a, '_>,
-    base: &Typed,
+    base: &TypedExpr,
     at: usize,
     name: &str,
-) -> Checking<Option<Invoked<'a>>>
-    ensures { Gives maybe_invoked result (typing.method_of (environment_of env.now) (typed_of base.now) base.now.ty at name.now) }
+) -> CheckResult<Option<MethodCallee<'a>>>
+    ensures { Agrees optional_method_callee result (typing.method_of (environment_of env.now) (typed_of base.now) base.now.ty at name.now) }
 {
     match base.ty {
-        Ty::Object(of) | Ty::Handle(of) => invoked_method(env, of, at, name),
+        Ty::Object(of) | Ty::Handle(of) => object_method(env, of, at, name),
         Ty::Unknown => Ok(None),
-        _ => Err(broken(Rule::TypeMismatch, base.at)),
+        _ => Err(fault_at(Rule::TypeMismatch, base.at)),
     }
 }
 
 /// `base.name(..)`, at the name
 #[tactic(auto, unfolding(ash_typing::specs::Expressions::invoked))]
-pub(crate) fn invoked(
+pub(crate) fn build_method_call(
     env: &Environment,
     alloc: Global,
-    base: Typed,
+    base: TypedExpr,
     at: usize,
-    typed: Vec<Typed>,
-    method: Option<Invoked>,
-) -> Checking<Typed>
-    ensures { Gives typed_of result (typing.invoked (classes_of env.now) (typed_of base) at (map typed_of typed.items) (maybe_invoked method.entry)) }
+    typed: Vec<TypedExpr>,
+    method: Option<MethodCallee>,
+) -> CheckResult<TypedExpr>
+    ensures { Agrees typed_of result (typing.invoked (classes_of env.now) (typed_of base) at (map typed_of typed.items) (optional_method_callee method.entry)) }
 {
     let Some(method) = method else {
-        return Ok(made(base.at, Ty::Unknown, Expr::Null));
+        return Ok(TypedExpr::value(base.at, Ty::Unknown, Expr::Null));
     };
-    let arguments = arguments(env, alloc, at, &method.parameters, typed)?;
+    let arguments = check_arguments(env, alloc, at, &method.parameters, typed)?;
     let types = method.parameters.types(alloc)?;
     let tree = nodes::invoke(alloc, base.tree, method.method, types, arguments)?;
-    Ok(made(base.at, method.result, tree))
+    Ok(TypedExpr::value(base.at, method.result, tree))
 }
 
 /// `(typed)`, at the bracket
-pub(crate) fn bracketed(at: usize, typed: Typed) -> Typed
+pub(crate) fn build_brackets(at: usize, typed: TypedExpr) -> TypedExpr
     ensures { typed_of result ≡ typing.in_brackets at (typed_of typed) }
 {
-    Typed {
+    TypedExpr {
         at,
         ty: typed.ty,
         form: bracketed_form(typed.form),

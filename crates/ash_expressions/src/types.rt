@@ -23,7 +23,7 @@ pub(crate) fn is_wide(kind: Kind) -> bool
     matches!(kind, Kind::Int64 | Kind::Uint64)
 }
 
-fn kind_by(signed: bool, wide: bool) -> Kind
+fn integer_type_by(signed: bool, wide: bool) -> Kind
     ensures { result ≡ types.kind_by signed wide }
 {
     match (signed, wide) {
@@ -34,21 +34,21 @@ fn kind_by(signed: bool, wide: bool) -> Kind
     }
 }
 
-/// Where two integer types meet.
-pub(crate) fn meeting(one: Kind, other: Kind) -> Kind
+/// The integer type that operands of two integer types are converted to.
+pub(crate) fn common_integer_type(one: Kind, other: Kind) -> Kind
     ensures { result ≡ types.meeting one other }
 {
-    kind_by(
+    integer_type_by(
         is_signed(one) || is_signed(other),
         is_wide(one) || is_wide(other),
     )
 }
 
 /// The signed type of the same width.
-pub(crate) fn signed(kind: Kind) -> Kind
+pub(crate) fn signed_type(kind: Kind) -> Kind
     ensures { result ≡ types.signed kind }
 {
-    kind_by(true, is_wide(kind))
+    integer_type_by(true, is_wide(kind))
 }
 
 pub(crate) fn is_same_kind(one: Kind, other: Kind) -> bool
@@ -75,7 +75,7 @@ pub fn holds(kind: Kind, number: u64) -> bool
 }
 
 /// The first type that holds a number.
-pub(crate) fn kind_of(number: u64) -> Kind
+pub(crate) fn number_type(number: u64) -> Kind
     ensures { result ≡ types.kind_of number }
 {
     if holds(Kind::Int, number) {
@@ -121,7 +121,7 @@ fn is_interface(object: ObjectType) -> bool
 }
 
 /// Whether objects of two types can be compared.
-fn is_comparable(one: ObjectType, other: ObjectType) -> bool
+fn are_comparable_objects(one: ObjectType, other: ObjectType) -> bool
     ensures { result ≡ types.is_comparable one other }
 {
     is_same_object(one, other) || is_interface(one) || is_interface(other)
@@ -153,7 +153,7 @@ pub fn ty_of_element(of: Element) -> Ty
     }
 }
 
-/// The type that a primitive type is.
+/// The type of values of a primitive type.
 pub fn ty_of(primitive: Primitive) -> Ty
     ensures { result ≡ types.ty_of primitive }
 {
@@ -166,7 +166,7 @@ pub fn ty_of(primitive: Primitive) -> Ty
     }
 }
 
-/// The type of a variable, as a typed tree says it.
+/// The type of a variable, as a typed tree has it.
 pub fn var_type(of: Ty) -> VarType
     ensures { result ≡ types.var_type of }
 {
@@ -178,7 +178,7 @@ pub fn var_type(of: Ty) -> VarType
     }
 }
 
-/// What a function gives, as a typed tree says it: `void` gives no value.
+/// The type of a function's result, as a typed tree has it: `void` is no type of a value.
 pub fn result_type(of: Ty) -> Option<VarType>
     ensures { result ≡ types.result_type of }
 {
@@ -188,22 +188,22 @@ pub fn result_type(of: Ty) -> Option<VarType>
     }
 }
 
-/// Whether an expression gives an object that can be compared with one of a type.
-fn agrees_object(object: ObjectType, of: Ty) -> bool
+/// Whether an expression of a type can be compared with an object of this one.
+fn is_comparable_with_object(object: ObjectType, of: Ty) -> bool
     ensures { result ≡ types.agrees_object object of }
 {
     match of {
-        Ty::Object(other) | Ty::Handle(other) => is_comparable(object, other),
+        Ty::Object(other) | Ty::Handle(other) => are_comparable_objects(object, other),
         Ty::Null | Ty::Unknown => true,
         _ => false,
     }
 }
 
-fn agrees(one: Ty, other: Ty) -> bool
+fn are_comparable(one: Ty, other: Ty) -> bool
     ensures { result ≡ types.agrees one other }
 {
     match one {
-        Ty::Object(object) | Ty::Handle(object) => agrees_object(object, other),
+        Ty::Object(object) | Ty::Handle(object) => is_comparable_with_object(object, other),
         Ty::Null | Ty::Unknown => matches!(
             other,
             Ty::Object(_) | Ty::Handle(_) | Ty::Null | Ty::Unknown
@@ -212,8 +212,8 @@ fn agrees(one: Ty, other: Ty) -> bool
     }
 }
 
-/// Whether an expression of a type gives an object of this one, or null.
-fn gives_object(object: ObjectType, of: Ty) -> bool
+/// Whether the value of an expression of a type is an object of this one, or null.
+fn can_be_object(object: ObjectType, of: Ty) -> bool
     ensures { result ≡ types.gives_object object of }
 {
     match of {
@@ -223,10 +223,10 @@ fn gives_object(object: ObjectType, of: Ty) -> bool
     }
 }
 
-fn common_object(object: ObjectType, of: Ty) -> Option<Ty>
+fn common_object_type(object: ObjectType, of: Ty) -> Option<Ty>
     ensures { result ≡ types.common_object object of }
 {
-    if gives_object(object, of) {
+    if can_be_object(object, of) {
         Some(Ty::Handle(object))
     } else {
         None
@@ -234,14 +234,14 @@ fn common_object(object: ObjectType, of: Ty) -> Option<Ty>
 }
 
 /// The type of `c ? a : b`, from those of its branches.
-pub(crate) fn common(one: Ty, other: Ty) -> Option<Ty>
+pub(crate) fn common_type(one: Ty, other: Ty) -> Option<Ty>
     ensures { result ≡ types.common one other }
 {
     match (one, other) {
         (Ty::Bool, Ty::Bool | Ty::Unknown) => Some(Ty::Bool),
-        (Ty::Integer(j), Ty::Integer(k)) => Some(Ty::Integer(meeting(j, k))),
+        (Ty::Integer(j), Ty::Integer(k)) => Some(Ty::Integer(common_integer_type(j, k))),
         (Ty::Integer(j), Ty::Unknown) => Some(Ty::Integer(j)),
-        (Ty::Object(object) | Ty::Handle(object), _) => common_object(object, other),
+        (Ty::Object(object) | Ty::Handle(object), _) => common_object_type(object, other),
         (Ty::Null, Ty::Object(object) | Ty::Handle(object)) => Some(Ty::Handle(object)),
         (Ty::Null, Ty::Unknown) => Some(Ty::Unknown),
         (Ty::Unknown, Ty::Void) => None,
@@ -250,8 +250,8 @@ pub(crate) fn common(one: Ty, other: Ty) -> Option<Ty>
     }
 }
 
-/// What an operator is of.
-pub(crate) fn sort_of(operator: BinaryOp) -> Sort
+/// The sort of an operator.
+pub(crate) fn operator_sort(operator: BinaryOp) -> Sort
     ensures { result ≡ types.sort_of operator }
 {
     match operator {
@@ -298,7 +298,7 @@ pub(crate) fn typed_operator(operator: BinaryOp) -> Operator
 }
 
 /// The operator that calculates so.
-pub(crate) fn binary_of(operator: Calculator) -> BinaryOp
+pub(crate) fn calculator_operator(operator: Calculator) -> BinaryOp
     ensures { result ≡ types.binary_of operator }
 {
     match operator {
@@ -317,7 +317,7 @@ pub(crate) fn binary_of(operator: Calculator) -> BinaryOp
 }
 
 /// The integer type of operands, where they are integers.
-pub(crate) fn integers_in(operands: Operands) -> Kind
+pub(crate) fn operand_integer_type(operands: Operands) -> Kind
     ensures { result ≡ types.integers_in operands }
 {
     match operands {
@@ -327,7 +327,7 @@ pub(crate) fn integers_in(operands: Operands) -> Kind
 }
 
 /// The operator of `a op= b`.
-pub(crate) fn operator_of(operator: AssignOp) -> Option<Calculator>
+pub(crate) fn assign_calculator(operator: AssignOp) -> Option<Calculator>
     ensures { result ≡ terms.operator_of operator }
 {
     match operator {
@@ -347,7 +347,7 @@ pub(crate) fn operator_of(operator: AssignOp) -> Option<Calculator>
 }
 
 /// Whether an operator takes a type anywhere.
-pub(crate) fn takes(sort: Sort, of: Ty) -> bool
+pub(crate) fn accepts(sort: Sort, of: Ty) -> bool
     ensures { result ≡ types.takes sort of }
 {
     match (sort, of) {
@@ -361,7 +361,7 @@ pub(crate) fn takes(sort: Sort, of: Ty) -> bool
 }
 
 /// What an operand of an unknown type is taken for.
-pub(crate) fn assumed(sort: Sort, other: Ty, of: Ty) -> Ty
+pub(crate) fn assumed_type(sort: Sort, other: Ty, of: Ty) -> Ty
     ensures { result ≡ types.assumed sort other of }
 {
     match (sort, other, of) {
@@ -374,17 +374,17 @@ pub(crate) fn assumed(sort: Sort, other: Ty, of: Ty) -> Ty
 }
 
 /// What an operator does with operands of these types, where it takes them.
-pub(crate) fn meets(sort: Sort, one: Ty, other: Ty) -> Option<Operands>
+pub(crate) fn common_operands(sort: Sort, one: Ty, other: Ty) -> Option<Operands>
     ensures { result ≡ types.meets sort one other }
 {
     match (sort, one, other) {
         (Sort::Arithmetic | Sort::Order | Sort::Equality, Ty::Integer(j), Ty::Integer(k)) => {
-            Some(Operands::Integers(meeting(j, k)))
+            Some(Operands::Integers(common_integer_type(j, k)))
         }
         (Sort::Shift, Ty::Integer(j), Ty::Integer(_)) => Some(Operands::Integers(j)),
         (Sort::Equality | Sort::Logic, Ty::Bool, Ty::Bool) => Some(Operands::Bools),
         (Sort::Identity, _, _) => {
-            if agrees(one, other) {
+            if are_comparable(one, other) {
                 Some(Operands::Handles)
             } else {
                 None
@@ -394,8 +394,8 @@ pub(crate) fn meets(sort: Sort, one: Ty, other: Ty) -> Option<Operands>
     }
 }
 
-/// The type of what an operator gives.
-pub(crate) fn outcome(sort: Sort, operands: Operands) -> Ty
+/// The type of an operator's result.
+pub(crate) fn operator_result(sort: Sort, operands: Operands) -> Ty
     ensures { result ≡ types.outcome sort operands }
 {
     match (sort, operands) {
@@ -431,7 +431,7 @@ pub(crate) fn conversion(to: Ty, of: Ty) -> Option<Conversion>
 }
 
 /// Whether a place takes what is assigned to it.
-pub(crate) fn is_stored(form: Form, of: Ty) -> bool
+pub(crate) fn is_assignable_form(form: Form, of: Ty) -> bool
     ensures { result ≡ terms.is_stored form of }
 {
     match (form, of) {
@@ -461,7 +461,7 @@ pub(crate) fn bracketed_form(form: Form) -> Form
     }
 }
 
-/// Whether a type is that of what gives nothing.
+/// Whether a type is `void`.
 pub fn is_void(of: Ty) -> bool
     ensures { result ≡ typing.is_void of }
 {
