@@ -22,7 +22,7 @@ use Rattle.ash_typing.specs.Checking.{Checking, ◌>>=◌}
 use Rattle.ash_typed.specs.StatementTree.{Initialization, Stmt, Block, Stmts, no_stmt, stmt, stmts, Case, labelled, Cases, no_case, next_case, cases}
 use Rattle.ash_typing.specs.Environment.{Declared}
 use Rattle.ash_typing.specs.Statements.{stmt_typed, stmts_typed, cases_typed}
-use Rattle.ash_expressions.specs.declared.environment.Binding as code_binding
+use Rattle.ash_expressions.specs.declared.signatures.Binding as code_binding
 use Rattle.ash_expressions.specs.declared.error.CheckError.{CheckError}
 use Rattle.ash_expressions.specs.declared.error.CheckError.TheVariants as errors
 use Rattle.ash_expressions.specs.Agreement.{FailsWith}

@@ -11,7 +11,7 @@ use Rattle.ash_typed.specs.BodyViews.{value_of, case_of, body_of}
 use Rattle.ash_typing.specs.Environment.{Declared}
 use Rattle.ash_typing.specs.Expressions.{Typed}
 use Rattle.ash_typing.specs.Scopes.{Scope}
-use Rattle.ash_expressions.specs.declared.environment.Binding as binding
+use Rattle.ash_expressions.specs.declared.signatures.Binding as binding
 use Rattle.ash_expressions.specs.declared.typed_expr.TypedExpr as typed_expr
 use Rattle.ash_expressions.specs.Views.{binding_of, signatures_of, typed_of}
 use Rattle.ash_check.specs.declared.scopes.Scope as scope

@@ -15,20 +15,22 @@ use crate::statements::check_block;
 use ash_expressions::{Binding, CheckResult, Environment};
 use ash_tree::Stmt;
 use ash_typing::Ty;
-use std::alloc::Global;
 
 /// Checks the body of a function that returns this type, whose parameters are the locals.
 #[tactic(auto, unfolding(ash_typing::specs::Statements::body_typed))]
 pub(crate) fn check_body<'a>(
-    alloc: Global,
     env: &Environment<'_, 'a>,
     mut locals: Vec<Binding<'a>>,
     of: Ty,
     body: &'a [Stmt],
 ) -> CheckResult<Vec<ash_typed::Stmt>>
-    ensures { Agrees (λ b. body_of b.items) result (definition.body_typed (with_locals (environment_of env.now) (map binding_of locals.entry.items)) of (map stmt_of body.now)) }
+    ensures { Agrees (λ b. body_of b.items) result
+        (definition.body_typed
+        (with_locals (environment_of env.now) (map binding_of locals.entry.items)) of
+        (map stmt_of body.now)) }
 {
     let scope = Scope {
+        alloc: env.alloc,
         signatures: env.signatures,
         registry: env.registry,
         this: env.this,
@@ -37,7 +39,7 @@ pub(crate) fn check_body<'a>(
         in_loop: false,
         in_switch: false,
     };
-    check_block(alloc, &scope, &mut locals, body)
+    check_block(&scope, &mut locals, body)
 }
 
 /// Whether a body returns, however its conditions turn out.

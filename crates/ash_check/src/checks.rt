@@ -1,6 +1,7 @@
 //! The check of a script: its typed module with a rank for each class, or why it is refused.
 
-ghost use Rattle.std.specs.Prelude.{◌≡◌, ◌↔◌, ◌<◌, ℕ, List, Ok, Err, length, map, string_bytes, All, IfOk, IfErr, OnOk, MatchResult};
+ghost use Rattle.std.specs.Prelude.{◌≡◌, ◌↔◌, ◌<◌, ℕ, List, Ok, Err, length, map, string_bytes, All, IfOk};
+ghost use Rattle.std.specs.Prelude.{IfErr, OnOk, MatchResult};
 ghost use Rattle.ash_registrations.specs.Calls.{Call};
 ghost use Rattle.ash_registrations.specs.Registered as table;
 ghost use Rattle.ash_registry.specs.Registered.{registered};
@@ -30,7 +31,8 @@ use std::snapshot::Snapshot;
 // The names of the classes at these places.
 fn class_names_at(alloc: Global, classes: &[&Class], places: &[usize]) -> Result<Vec<String>, AllocError>
     requires { All (λ place. place < length classes.now) places.now }
-    ensures { IfOk result (λ names. map string_bytes names.items ≡ map (name_at (seen classes.now)) places.now) }
+    ensures { IfOk result
+        (λ names. map string_bytes names.items ≡ map (name_at (seen classes.now)) places.now) }
 {
     let mut names = Vec::new(alloc);
     for place in places {
@@ -46,8 +48,12 @@ fn cycle_names(
     cycle: &Cycle,
 ) -> Result<ClassNames, AllocError>
     requires first { cycle.now.first < length (classes_of (written_module script.now)) }
-    requires others { All (λ place. place < length (classes_of (written_module script.now))) cycle.now.others.items }
-    ensures { IfOk result (λ names. map string_bytes names.0.items ≡ round_of (classes_of (written_module script.now)) (cycle.now.first, cycle.now.others.items)) }
+    requires others { All (λ place. place < length (classes_of (written_module script.now)))
+        cycle.now.others.items }
+    ensures { IfOk result
+        (λ names. map string_bytes names.0.items
+        ≡ round_of (classes_of (written_module script.now))
+        (cycle.now.first, cycle.now.others.items)) }
 {
     let classes = classes(alloc, &script.items)?;
     let mut places = Vec::new(alloc);
@@ -71,10 +77,12 @@ fn check_against(
     ensures ranks { IfOk result (λ done. AreRanks (Refers (classes_of (written_module script.now)))
         (length (classes_of (written_module script.now))) done.ranks) }
     ensures registered { IfOk result (λ done. done.registered ≡ table.registered registry.now) }
-    ensures sound { IfOk result (λ done. IsChecked (table.registered registry.now) (module_of done.typed) done.ranks) }
+    ensures sound { IfOk result
+        (λ done. IsChecked (table.registered registry.now) (module_of done.typed) done.ranks) }
     ensures acyclic { OnOk result ((class : ℕ) →
         Reaches (Refers (classes_of (written_module script.now))) class class → ⊥) }
-    ensures round { IfErr result (λ fault. GoesRoundIfCyclic (classes_of (written_module script.now)) (told_of fault)) }
+    ensures round { IfErr result
+        (λ fault. GoesRoundIfCyclic (classes_of (written_module script.now)) (told_of fault)) }
 {
     let module = check_module(alloc, registry, script)?;
     match class_ranks(alloc, script)? {
@@ -88,8 +96,8 @@ fn check_against(
 }
 
 /// Checks a script by itself and against what is registered: names, types, where phrases may be, limits, and that
-/// none of its classes could form a cycle. Its declarations must be in blocks or in the heads of loops, as in every script
-/// that the grammar derives.
+/// none of its classes could form a cycle. Its declarations must be in blocks or in the heads of loops, as in every
+/// script that the grammar derives.
 ///
 /// # Errors
 ///
@@ -110,18 +118,20 @@ pub fn check(
     ensures ranks { IfOk result (λ done. AreRanks (Refers (classes_of (written_module script.now)))
         (length (classes_of (written_module script.now))) done.ranks) }
     ensures registered { IfOk result (λ done. done.registered ≡ registered registry.now) }
-    ensures sound { IfOk result (λ done. IsChecked (registered registry.now) (module_of done.typed) done.ranks) }
+    ensures sound { IfOk result
+        (λ done. IsChecked (registered registry.now) (module_of done.typed) done.ranks) }
     ensures acyclic { OnOk result ((class : ℕ) →
         Reaches (Refers (classes_of (written_module script.now))) class class → ⊥) }
-    ensures round { IfErr result (λ fault. GoesRoundIfCyclic (classes_of (written_module script.now)) (told_of fault)) }
+    ensures round { IfErr result
+        (λ fault. GoesRoundIfCyclic (classes_of (written_module script.now)) (told_of fault)) }
 {
     check_against(alloc, registry.registrations(), script)
 }
 
 /// That the check accepts a script, with this typed module, exactly where the rules give it this module and no class
-/// reaches itself. And that it returns a cycle exactly where the rules give it a module and some class reaches itself: the
-/// cycle from the first class that does, by the first of its shortest ways back. Else it returns the first fault of the walk.
-/// It does nothing when it runs.
+/// reaches itself. And that it returns a cycle exactly where the rules give it a module and some class reaches itself:
+/// the cycle from the first class that does, by the first of its shortest ways back. Else it returns the first fault of
+/// the walk. It does nothing when it runs.
 pub fn check_is_exact()
     ensures accepted { (calls : List Call) (items : List Item) (typed : modules.Module) →
         (checked calls items ≡ Ok typed) ↔ (IsTyped calls items typed ×

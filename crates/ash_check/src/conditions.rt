@@ -15,7 +15,8 @@ use std::alloc::{AllocError, Global};
 /// `if (condition) inner`
 #[tactic(auto, unfolding(ash_typing::specs::Statements::if_typed))]
 pub(crate) fn build_if(line: usize, condition: TypedExpr, inner: Box<Stmt>) -> CheckResult<Stmt>
-    ensures { Agrees stmt_of result (definition.if_typed line (Ok (typed_of condition)) (Ok (stmt_of inner.value))) }
+    ensures { Agrees stmt_of result
+        (definition.if_typed line (Ok (typed_of condition)) (Ok (stmt_of inner.value))) }
 {
     check_bool(condition.at, condition.ty)?;
     Ok(if_stmt(line, condition.tree, inner))
@@ -43,7 +44,9 @@ pub(crate) fn build_if_else(
     inner: Box<Stmt>,
     other: Box<Stmt>,
 ) -> CheckResult<Stmt>
-    ensures { Agrees stmt_of result (definition.if_else_typed line (Ok (typed_of condition)) (Ok (stmt_of inner.value)) (Ok (stmt_of other.value))) }
+    ensures { Agrees stmt_of result
+        (definition.if_else_typed line (Ok (typed_of condition)) (Ok (stmt_of inner.value))
+        (Ok (stmt_of other.value))) }
 {
     check_bool(condition.at, condition.ty)?;
     Ok(if_else_stmt(line, condition.tree, inner, other))
@@ -51,7 +54,8 @@ pub(crate) fn build_if_else(
 
 #[tactic(auto, using(crate::proofs::NodeLaws::if_else_is))]
 fn if_else_stmt(line: usize, condition: Tree, then: Box<Stmt>, otherwise: Box<Stmt>) -> Stmt
-    ensures { stmt_of result ≡ If line (expr_of condition) (stmt_of then.value) (branch (stmt_of otherwise.value)) }
+    ensures { stmt_of result
+        ≡ If line (expr_of condition) (stmt_of then.value) (branch (stmt_of otherwise.value)) }
 {
     Stmt {
         line,

@@ -14,13 +14,12 @@ ghost use Rattle.ash_expressions.specs.Views.{class_signature_of, classes_of, ty
 ghost use Rattle.ash_check.specs.WalkViews.{optional_expr};
 
 use ash_expressions::{
-    Callee, CheckResult, Environment, Parameters, TypedExpr, array_callee, build_call, check_expr,
-    check_exprs, coerce_for_assignment, fault_at, ty_named, var_type,
+    Arguments, Callee, CheckResult, Environment, Parameters, Position, TypedExpr, array_callee,
+    build_call, check_expr, check_exprs, coerce_for_assignment, fault_at, ty_named, var_type,
 };
 use ash_tree::{Decl, Element, Initializer, Place, Type, TypeKind};
 use ash_typed::{Expr, Initialization, ObjectType, Target};
 use ash_typing::{Callable, Rule, Ty};
-use std::alloc::Global;
 
 #[tactic(auto, using(ash_tree::proofs::Rows::type_place_is))]
 pub(crate) fn place_of(of: &Type) -> Place
@@ -69,7 +68,9 @@ pub(crate) fn check_variable_type(written: &Type, of: Ty) -> CheckResult<Ty>
 
 #[tactic(auto, unfolding(ash_typing::specs::Environment::class_construction))]
 fn class_callee<'a>(env: &Environment<'a, '_>, place: usize) -> Option<Callee<'a>>
-    ensures { option_map callee_of result ≡ environment.class_construction (map class_signature_of env.now.signatures.now.classes.items) place }
+    ensures { option_map callee_of result
+        ≡ environment.class_construction
+        (map class_signature_of env.now.signatures.now.classes.items) place }
 {
     let class = env.signatures.classes.get(place)?;
     Some(Callee {
@@ -81,16 +82,25 @@ fn class_callee<'a>(env: &Environment<'a, '_>, place: usize) -> Option<Callee<'a
 
 #[tactic(auto, unfolding(ash_typing::specs::Environment::kind_construction))]
 fn host_callee<'a>(env: &Environment<'a, '_>, kind: u16) -> Option<Callee<'a>>
-    ensures { option_map callee_of result ≡ environment.kind_construction (registered env.now.registry.now) kind }
+    ensures { option_map callee_of result
+        ≡ environment.kind_construction (registered env.now.registry.now) kind }
 {
     let call = env.registry.of_kind(kind)?;
     env.host_type_callee(call)
 }
 
+/// A type, with the offset at which it is written.
+#[derive(Clone, Copy)]
+pub(crate) struct WrittenType {
+    pub(crate) at: usize,
+    pub(crate) of: Ty,
+}
+
 /// The construction of an object from so many arguments.
 #[tactic(auto, unfolding(ash_typing::specs::Environment::construction))]
 fn object_callee<'a>(env: &Environment<'a, '_>, of: ObjectType, count: usize) -> Option<Callee<'a>>
-    ensures { option_map callee_of result ≡ environment.construction (environment_of env.now) of count }
+    ensures { option_map callee_of result
+        ≡ environment.construction (environment_of env.now) of count }
 {
     match of {
         ObjectType::Class(place) => class_callee(env, place),
@@ -100,143 +110,156 @@ fn object_callee<'a>(env: &Environment<'a, '_>, of: ObjectType, count: usize) ->
     }
 }
 
-/// An object, constructed by the type at this offset.
+/// An object, constructed by its callee.
 #[tactic(auto, unfolding(ash_typing::specs::Declarations::constructed))]
 fn build_object(
-    alloc: Global,
     env: &Environment,
-    at: usize,
-    typed: Vec<TypedExpr>,
     callee: Option<Callee>,
+    arguments: Arguments,
 ) -> CheckResult<Option<Expr>>
-    ensures { Agrees optional_expr result (definition.constructed (classes_of env.now) at (map typed_of typed.items) (option_map callee_of callee.entry)) }
+    ensures { Agrees optional_expr result
+        (definition.constructed (classes_of env.now) arguments.at
+        (map typed_of arguments.exprs.items) (option_map callee_of callee.entry)) }
 {
     let Some(callee) = callee else {
-        return Err(fault_at(Rule::NoFactory, at));
+        return Err(fault_at(Rule::NoFactory, arguments.at));
     };
-    let object = build_call(env, alloc, at, &callee, typed)?;
+    let object = build_call(env, &callee, arguments)?;
     Ok(Some(object.tree))
 }
 
-/// `T x`, with the type at this offset.
+/// `T x`, of this type.
 #[tactic(auto, unfolding(ash_typing::specs::Declarations::begun))]
-fn build_default(alloc: Global, env: &Environment, at: usize, of: Ty) -> CheckResult<Option<Expr>>
-    ensures { Agrees optional_expr result (definition.begun (environment_of env.now) at of) }
+fn build_default(
+    env: &Environment,
+    written: WrittenType,
+) -> CheckResult<Option<Expr>>
+    ensures { Agrees optional_expr result
+        (definition.begun (environment_of env.now) written.at written.of) }
 {
-    match of {
+    match written.of {
         Ty::Object(object) => {
             let callee = object_callee(env, object, 0);
-            build_object(alloc, env, at, Vec::new(alloc), callee)
+            let arguments = Arguments {
+                at: written.at,
+                exprs: Vec::new(env.alloc),
+            };
+            build_object(env, callee, arguments)
         }
         _ => Ok(None),
     }
 }
 
-fn build_first_value(alloc: Global, env: &Environment, of: Ty, typed: TypedExpr) -> CheckResult<Option<Expr>>
-    ensures { Agrees optional_expr result (definition.stored_first (classes_of env.now) of (typed_of typed)) }
+fn build_first_value(env: &Environment, of: Ty, typed: TypedExpr) -> CheckResult<Option<Expr>>
+    ensures { Agrees optional_expr result
+        (definition.stored_first (classes_of env.now) of (typed_of typed)) }
 {
-    let value = coerce_for_assignment(env, alloc, of, typed)?;
+    let value = coerce_for_assignment(env, of, typed)?;
     Ok(Some(value))
 }
 
 /// `T x = e`, with x at this offset: objects are not assigned.
 #[tactic(auto, unfolding(ash_typing::specs::Declarations::begun_with))]
 fn build_value(
-    alloc: Global,
     env: &Environment,
     at: usize,
     of: Ty,
     typed: TypedExpr,
 ) -> CheckResult<Option<Expr>>
-    ensures { Agrees optional_expr result (definition.begun_with (classes_of env.now) at of (typed_of typed)) }
+    ensures { Agrees optional_expr result
+        (definition.begun_with (classes_of env.now) at of (typed_of typed)) }
 {
     match of {
         Ty::Object(_) => Err(fault_at(Rule::NotAssignable, at)),
-        _ => build_first_value(alloc, env, of, typed),
+        _ => build_first_value(env, of, typed),
     }
 }
 
 /// `T x(e)` is `T x = e` for a primitive type.
 #[tactic(auto, unfolding(ash_typing::specs::Declarations::begun_by_one))]
 fn build_from_one(
-    alloc: Global,
     env: &Environment,
     at: usize,
     of: Ty,
-    mut typed: Vec<TypedExpr>,
+    mut exprs: Vec<TypedExpr>,
 ) -> CheckResult<Option<Expr>>
-    ensures { Agrees optional_expr result (definition.begun_by_one (classes_of env.now) at of (map typed_of typed.items)) }
+    ensures { Agrees optional_expr result
+        (definition.begun_by_one (classes_of env.now) at of (map typed_of exprs.items)) }
 {
-    if typed.len() != 1 {
+    if exprs.len() != 1 {
         return Err(fault_at(Rule::TypeMismatch, at));
     }
-    match typed.pop() {
-        Some(one) => build_first_value(alloc, env, of, one),
+    match exprs.pop() {
+        Some(one) => build_first_value(env, of, one),
         None => Err(fault_at(Rule::TypeMismatch, at)),
     }
 }
 
-/// `T x(e ..)`, with the type and x at these offsets.
+/// `T x(e ..)`, of this type, with x at this offset.
 #[tactic(auto, unfolding(ash_typing::specs::Declarations::begun_by))]
 fn build_from_arguments(
-    alloc: Global,
     env: &Environment,
-    of_at: usize,
+    written: WrittenType,
     at: usize,
-    of: Ty,
-    typed: Vec<TypedExpr>,
+    exprs: Vec<TypedExpr>,
 ) -> CheckResult<Option<Expr>>
-    ensures { Agrees optional_expr result (definition.begun_by (environment_of env.now) of_at at of (map typed_of typed.items)) }
+    ensures { Agrees optional_expr result
+        (definition.begun_by (environment_of env.now) written.at at written.of
+        (map typed_of exprs.items)) }
 {
-    match of {
+    match written.of {
         Ty::Object(object) => {
-            let callee = object_callee(env, object, typed.len());
-            build_object(alloc, env, of_at, typed, callee)
+            let callee = object_callee(env, object, exprs.len());
+            let arguments = Arguments {
+                at: written.at,
+                exprs,
+            };
+            build_object(env, callee, arguments)
         }
         Ty::Handle(_) => Err(fault_at(Rule::TypeMismatch, at)),
-        _ => build_from_one(alloc, env, at, of, typed),
+        _ => build_from_one(env, at, written.of, exprs),
     }
 }
 
+/// Checks the initializer of a variable of this type, whose name is at this offset.
 #[tactic(auto, unfolding(ash_typing::specs::Declarations::initialized))]
 fn check_initializer(
-    alloc: Global,
     env: &Environment,
-    of_at: usize,
+    written: WrittenType,
     at: usize,
-    of: Ty,
     initializer: &Initializer,
 ) -> CheckResult<Option<Expr>>
-    ensures { Agrees optional_expr result (definition.initialized (environment_of env.now) of_at at of (initializer_of initializer.now)) }
+    ensures { Agrees optional_expr result
+        (definition.initialized (environment_of env.now) written.at at written.of
+        (initializer_of initializer.now)) }
 {
     match initializer {
-        Initializer::Default => build_default(alloc, env, of_at, of),
+        Initializer::Default => build_default(env, written),
         Initializer::Value(value) => {
-            let typed = check_expr(env, alloc, false, value)?;
-            build_value(alloc, env, at, of, typed)
+            let typed = check_expr(env, Position::Value, value)?;
+            build_value(env, at, written.of, typed)
         }
         Initializer::Arguments(arguments) => {
-            let typed = check_exprs(env, alloc, arguments)?;
-            build_from_arguments(alloc, env, of_at, at, of, typed)
+            let exprs = check_exprs(env, arguments)?;
+            build_from_arguments(env, written, at, exprs)
         }
     }
 }
 
-/// A variable of this type, which is written at this offset.
+/// Checks a variable of this type.
 #[tactic(auto, unfolding(ash_typing::specs::Declarations::decl_typed))]
 pub(crate) fn check_decl(
-    alloc: Global,
     env: &Environment,
-    at: usize,
-    of: Ty,
+    written: WrittenType,
     decl: &Decl,
 ) -> CheckResult<Initialization>
-    ensures { Agrees value_of result (definition.decl_typed (environment_of env.now) at of (decl_of decl.now)) }
+    ensures { Agrees value_of result
+        (definition.decl_typed (environment_of env.now) written.at written.of (decl_of decl.now)) }
 {
-    let value = check_initializer(alloc, env, at, decl.place.at, of, &decl.initializer)?;
+    let value = check_initializer(env, written, decl.place.at, &decl.initializer)?;
     Ok(Initialization {
         name: decl.name.clone()?,
-        of: var_type(of),
+        of: var_type(written.of),
         value,
     })
 }

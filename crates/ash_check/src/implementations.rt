@@ -48,14 +48,18 @@ fn are_same(some: &[Ty], others: &[Ty]) -> bool
 
 /// Whether a method has the result and the parameters of another.
 fn has_types_of(one: &FunctionSignature, other: &FunctionSignature) -> bool
-    ensures { result ≡ implementing.has_types_of (function_signature_of one.now) (function_signature_of other.now) }
+    ensures { result
+        ≡ implementing.has_types_of (function_signature_of one.now)
+        (function_signature_of other.now) }
 {
     is_same(one.result, other.result) && are_same(&one.parameters, &other.parameters)
 }
 
 /// The place of the method of a class that a method of an interface runs.
 fn matching_method(method: &FunctionSignature, found: Option<(usize, &FunctionSignature)>) -> Option<usize>
-    ensures { result ≡ implementing.matching (function_signature_of method.now) (option_map placed_function found.entry) }
+    ensures { result
+        ≡ implementing.matching (function_signature_of method.now)
+        (option_map placed_function found.entry) }
 {
     match found {
         Some((place, other)) if has_types_of(method, other) => Some(place),
@@ -65,7 +69,9 @@ fn matching_method(method: &FunctionSignature, found: Option<(usize, &FunctionSi
 
 #[tactic(auto, unfolding(ash_typing::specs::Implementations::method_for))]
 fn method_for(methods: &[FunctionSignature], method: &FunctionSignature) -> Option<usize>
-    ensures { result ≡ implementing.method_for (map function_signature_of methods.now) (function_signature_of method.now) }
+    ensures { result
+        ≡ implementing.method_for (map function_signature_of methods.now)
+        (function_signature_of method.now) }
 {
     matching_method(method, first_function(methods, method.name))
 }
@@ -77,7 +83,10 @@ fn methods_for(
     methods: &[FunctionSignature],
     declared: &[FunctionSignature],
 ) -> Result<Option<Vec<usize>>, AllocError>
-    ensures { IfOk result (λ places. optional_places places ≡ implementing.methods_for (map function_signature_of methods.now) (map function_signature_of declared.now)) }
+    ensures { IfOk result
+        (λ places. optional_places places
+        ≡ implementing.methods_for (map function_signature_of methods.now)
+        (map function_signature_of declared.now)) }
 {
     let mut places = Vec::with_capacity(alloc, declared.len())?;
     for method in declared {
@@ -92,19 +101,20 @@ fn methods_for(
 /// The methods of the class of this place for those of the interface of that place, where it has them all.
 #[tactic(auto, unfolding(ash_typing::specs::Implementations::implemented))]
 fn implementing_methods(
-    alloc: Global,
     env: &Environment,
     class: usize,
     interface: usize,
 ) -> Result<Option<Vec<usize>>, AllocError>
-    ensures { IfOk result (λ places. optional_places places ≡ implementing.implemented (environment_of env.now) class interface) }
+    ensures { IfOk result
+        (λ places. optional_places places
+        ≡ implementing.implemented (environment_of env.now) class interface) }
 {
     let Some(interface) = env.signatures.interfaces.get(interface) else {
-        return Ok(Some(Vec::new(alloc)));
+        return Ok(Some(Vec::new(env.alloc)));
     };
     match env.signatures.classes.get(class) {
-        Some(class) => methods_for(alloc, &class.methods, &interface.methods),
-        None => methods_for(alloc, &[], &interface.methods),
+        Some(class) => methods_for(env.alloc, &class.methods, &interface.methods),
+        None => methods_for(env.alloc, &[], &interface.methods),
     }
 }
 
@@ -113,7 +123,8 @@ fn build_implementation(
     interface: usize,
     methods: Option<Vec<usize>>,
 ) -> CheckResult<Implementation>
-    ensures { Agrees implementation_of result (definition.implemented_at at interface (optional_places methods)) }
+    ensures { Agrees implementation_of result
+        (definition.implemented_at at interface (optional_places methods)) }
 {
     match methods {
         None => Err(fault_at(Rule::TypeMismatch, at)),
@@ -131,19 +142,20 @@ pub(crate) struct ListedInterfaces<'a> {
 /// Checks one of the interfaces that the class of this place lists, after those so far.
 #[tactic(auto, unfolding(ash_typing::specs::Items::listed_typed))]
 fn check_listed<'a>(
-    alloc: Global,
     env: &Environment,
     class: usize,
     listed: &mut ListedInterfaces<'a>,
     name: &'a TypeName,
 ) -> CheckResult<()>
-    ensures { Agrees (λ _. listed_interfaces_of listed.new) result (definition.listed_typed (environment_of env.now) class (listed_interfaces_of listed.old) (type_name_of name.now)) }
+    ensures { Agrees (λ _. listed_interfaces_of listed.new) result
+        (definition.listed_typed (environment_of env.now) class (listed_interfaces_of listed.old)
+        (type_name_of name.now)) }
 {
     let at = name.place.at;
     let object = object_named(env.registry, env.signatures, name.name.as_str());
     let interface = listed_interface_place(at, object)?;
     listed.names.take(at, name.name.as_str())?;
-    let methods = implementing_methods(alloc, env, class, interface)?;
+    let methods = implementing_methods(env, class, interface)?;
     let implementation = build_implementation(at, interface, methods)?;
     listed.interfaces.push(implementation)?;
     Ok(())
@@ -151,23 +163,24 @@ fn check_listed<'a>(
 
 /// Checks the interfaces that the class of this place lists.
 pub(crate) fn check_listed_interfaces<'a>(
-    alloc: Global,
     env: &Environment,
     class: usize,
     names: &'a [TypeName],
 ) -> CheckResult<ListedInterfaces<'a>>
-    ensures { Agrees listed_interfaces_of result (definition.all_listed (environment_of env.now) class definition.none_listed (map type_name_of names.now)) }
+    ensures { Agrees listed_interfaces_of result
+        (definition.all_listed (environment_of env.now) class definition.none_listed
+        (map type_name_of names.now)) }
 {
     let mut listed = ListedInterfaces {
         names: Names {
             registry: None,
-            taken: IndexSet::new(alloc),
+            taken: IndexSet::new(env.alloc),
             room: 0,
         },
-        interfaces: Vec::new(alloc),
+        interfaces: Vec::new(env.alloc),
     };
     for name in names {
-        check_listed(alloc, env, class, &mut listed, name)?;
+        check_listed(env, class, &mut listed, name)?;
     }
     Ok(listed)
 }

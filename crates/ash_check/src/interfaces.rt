@@ -13,7 +13,6 @@ use ash_expressions::{CheckResult, Environment, result_type};
 use ash_tree::InterfaceMethod;
 use ash_typed::{Interface, Signature};
 use indexmap::IndexSet;
-use std::alloc::Global;
 
 /// The names and the methods of an interface, so far.
 #[derive(Drop)]
@@ -25,21 +24,22 @@ pub(crate) struct InterfaceParts<'a> {
 /// Checks a method that an interface declares, after those so far.
 #[tactic(auto, unfolding(ash_typing::specs::Items::signature_typed))]
 fn check_signature<'a>(
-    alloc: Global,
     env: &Environment<'_, 'a>,
     parts: &mut InterfaceParts<'a>,
     method: &'a InterfaceMethod,
 ) -> CheckResult<()>
-    ensures { Agrees (λ _. interface_parts_of parts.new) result (definition.signature_typed (environment_of env.now) (interface_parts_of parts.old) (interface_method_of method.now)) }
+    ensures { Agrees (λ _. interface_parts_of parts.new) result
+        (definition.signature_typed (environment_of env.now) (interface_parts_of parts.old)
+        (interface_method_of method.now)) }
 {
     let of = check_result_type(env, &method.result)?;
     let at = method.place.at;
     parts.names.take_counted(at, method.name.as_str())?;
-    let parameters = check_parameters(alloc, env, &method.parameters)?;
+    let parameters = check_parameters(env, &method.parameters)?;
     let signature = Signature {
         name: method.name.clone()?,
         result: result_type(of),
-        parameters: types_of(alloc, &parameters)?,
+        parameters: types_of(env.alloc, &parameters)?,
     };
     parts.methods.push(signature)?;
     Ok(())
@@ -48,23 +48,24 @@ fn check_signature<'a>(
 /// Checks an interface that is after so many classes.
 #[tactic(auto, unfolding(ash_typing::specs::Items::interface_typed))]
 pub(crate) fn check_interface<'a>(
-    alloc: Global,
     env: &Environment<'_, 'a>,
     classes: usize,
     interface: &'a ash_tree::Interface,
 ) -> CheckResult<Interface>
-    ensures { Agrees interface_of result (definition.interface_typed (environment_of env.now) classes (written_interface interface.now)) }
+    ensures { Agrees interface_of result
+        (definition.interface_typed (environment_of env.now) classes
+        (written_interface interface.now)) }
 {
     let mut parts = InterfaceParts {
         names: Names {
             registry: None,
-            taken: IndexSet::new(alloc),
+            taken: IndexSet::new(env.alloc),
             room: 32,
         },
-        methods: Vec::new(alloc),
+        methods: Vec::new(env.alloc),
     };
     for method in &interface.methods {
-        check_signature(alloc, env, &mut parts, method)?;
+        check_signature(env, &mut parts, method)?;
     }
     Ok(Interface {
         name: interface.name.clone()?,

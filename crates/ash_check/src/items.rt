@@ -2,14 +2,15 @@
 
 ghost use Rattle.std.specs.Prelude.{map};
 ghost use Rattle.ash_registrations.specs.Registered.{registered};
-ghost use Rattle.ash_tree.specs.Views.{vars_of, member_of, class_of as written_class, constructor_of, item_of, module_of as written_module};
+ghost use Rattle.ash_tree.specs.Views.{vars_of, member_of, class_of as written_class, constructor_of};
+ghost use Rattle.ash_tree.specs.Views.{item_of, module_of as written_module};
 ghost use Rattle.ash_typing.specs.Items as definition;
 ghost use Rattle.ash_typed.specs.Modules.{implementation_of, class_of, module_of};
 ghost use Rattle.ash_expressions.specs.Agreement.{Agrees};
 ghost use Rattle.ash_expressions.specs.Views.{environment_of, signatures_of};
 ghost use Rattle.ash_check.specs.WalkViews.{names_of, routine_of, row_of, members_of, walked_of, class_with};
 
-use crate::declarations::{check_decl, check_variable_type, place_of, ty_in};
+use crate::declarations::{WrittenType, check_decl, check_variable_type, place_of, ty_in};
 use crate::implementations::check_listed_interfaces;
 use crate::interfaces::check_interface;
 use crate::names::Names;
@@ -26,22 +27,23 @@ use std::alloc::Global;
 /// Checks variables of a module or of a class.
 #[tactic(auto, unfolding(ash_typing::specs::Items::vars_typed))]
 fn check_vars<'a>(
-    alloc: Global,
     env: &Environment<'_, 'a>,
     names: &mut Names<'a>,
     vars: &'a Vars,
 ) -> CheckResult<Variables>
-    ensures { Agrees (row_of (names_of names.new)) result (definition.vars_typed (environment_of env.now) (names_of names.old) (vars_of vars.now)) }
+    ensures { Agrees (row_of (names_of names.new)) result
+        (definition.vars_typed (environment_of env.now) (names_of names.old) (vars_of vars.now)) }
 {
     let place = place_of(&vars.of);
     let of = check_variable_type(&vars.of, ty_in(env, &vars.of))?;
+    let written = WrittenType { at: place.at, of };
     let mut variables = Variables {
         line: place.line,
-        initializations: Vec::new(alloc),
+        initializations: Vec::new(env.alloc),
     };
     for decl in &vars.decls {
         names.take_counted(decl.place.at, decl.name.as_str())?;
-        let value = check_decl(alloc, env, place.at, of, decl)?;
+        let value = check_decl(env, written, decl)?;
         variables.initializations.push(value)?;
     }
     Ok(variables)
@@ -50,7 +52,8 @@ fn check_vars<'a>(
 /// A class has one constructor, which has its name.
 #[tactic(auto, unfolding(ash_typing::specs::Items::constructor_named))]
 fn check_constructor_name<'a>(class: &Class, constructor: &'a Constructor) -> CheckResult<Routine<'a>>
-    ensures { Agrees routine_of result (definition.constructor_named (class_of class.now) (constructor_of constructor.now)) }
+    ensures { Agrees routine_of result
+        (definition.constructor_named (class_of class.now) (constructor_of constructor.now)) }
 {
     if class.constructor.is_some() {
         return Err(fault_at(Rule::NameTaken, constructor.place.at));
@@ -69,28 +72,29 @@ fn check_constructor_name<'a>(class: &Class, constructor: &'a Constructor) -> Ch
 /// Checks a member of a class, after those so far.
 #[tactic(auto, using(crate::proofs::NodeLaws::values_append), unfolding(ash_typing::specs::Items::member_typed))]
 fn check_member<'a>(
-    alloc: Global,
     env: &Environment<'_, 'a>,
     names: &mut Names<'a>,
     class: &mut Class,
     member: &'a Member,
 ) -> CheckResult<()>
-    ensures { Agrees (λ _. members_of (names_of names.new) class.new) result (definition.member_typed (environment_of env.now) (members_of (names_of names.old) class.old) (member_of member.now)) }
+    ensures { Agrees (λ _. members_of (names_of names.new) class.new) result
+        (definition.member_typed (environment_of env.now)
+        (members_of (names_of names.old) class.old) (member_of member.now)) }
 {
     match member {
         Member::Vars(vars) => {
-            let mut variables = check_vars(alloc, env, names, vars)?;
+            let mut variables = check_vars(env, names, vars)?;
             class.fields.append(&mut variables.initializations)?;
         }
         Member::Function(method) => {
             let of = check_result_type(env, &method.result)?;
             names.take_counted(method.place.at, method.name.as_str())?;
-            let typed = check_routine(alloc, env, of, as_routine(method))?;
+            let typed = check_routine(env, of, as_routine(method))?;
             class.methods.push(typed)?;
         }
         Member::Constructor(constructor) => {
             let named = check_constructor_name(class, constructor)?;
-            let typed = check_routine(alloc, env, Ty::Void, named)?;
+            let typed = check_routine(env, Ty::Void, named)?;
             class.constructor = Some(typed);
         }
     }
@@ -99,15 +103,17 @@ fn check_member<'a>(
 
 /// Checks the members of the class of this place, which lists these interfaces.
 fn check_members<'a>(
-    alloc: Global,
     env: &Environment<'_, 'a>,
     place: usize,
     class: &'a ash_tree::Class,
     interfaces: Vec<Implementation>,
 ) -> CheckResult<Class>
-    ensures { Agrees class_of result (class_with (environment_of env.now) place (written_class class.now) (map implementation_of interfaces.items)) }
+    ensures { Agrees class_of result
+        (class_with (environment_of env.now) place (written_class class.now)
+        (map implementation_of interfaces.items)) }
 {
     let inside = Environment {
+        alloc: env.alloc,
         signatures: env.signatures,
         registry: env.registry,
         this: Some(place),
@@ -115,19 +121,19 @@ fn check_members<'a>(
     };
     let mut names = Names {
         registry: None,
-        taken: IndexSet::new(alloc),
+        taken: IndexSet::new(env.alloc),
         room: 32,
     };
     let mut typed = Class {
         name: class.name.clone()?,
         line: class.place.line,
         interfaces,
-        fields: Vec::new(alloc),
+        fields: Vec::new(env.alloc),
         constructor: None,
-        methods: Vec::new(alloc),
+        methods: Vec::new(env.alloc),
     };
     for member in &class.members {
-        check_member(alloc, &inside, &mut names, &mut typed, member)?;
+        check_member(&inside, &mut names, &mut typed, member)?;
     }
     Ok(typed)
 }
@@ -135,15 +141,15 @@ fn check_members<'a>(
 /// Checks the class of this place.
 #[tactic(auto, unfolding(ash_typing::specs::Items::class_typed))]
 fn check_class<'a>(
-    alloc: Global,
     env: &Environment<'_, 'a>,
     place: usize,
     class: &'a ash_tree::Class,
 ) -> CheckResult<Class>
-    ensures { Agrees class_of result (definition.class_typed (environment_of env.now) place (written_class class.now)) }
+    ensures { Agrees class_of result
+        (definition.class_typed (environment_of env.now) place (written_class class.now)) }
 {
-    let listed = check_listed_interfaces(alloc, env, place, &class.interfaces)?;
-    check_members(alloc, env, place, class, listed.interfaces)
+    let listed = check_listed_interfaces(env, place, &class.interfaces)?;
+    check_members(env, place, class, listed.interfaces)
 }
 
 /// Requires that a module has room for one more class or interface: it has at most 256 of both.
@@ -160,35 +166,36 @@ fn check_type_count(at: usize, typed: &Module) -> CheckResult<usize>
 /// Checks an item of a module, after those so far.
 #[tactic(auto, unfolding(ash_typing::specs::Items::item_typed))]
 fn check_item<'a>(
-    alloc: Global,
     env: &Environment<'_, 'a>,
     names: &mut Names<'a>,
     typed: &mut Module,
     item: &'a Item,
 ) -> CheckResult<()>
-    ensures { Agrees (λ _. walked_of (names_of names.new) typed.new) result (definition.item_typed (environment_of env.now) (walked_of (names_of names.old) typed.old) (item_of item.now)) }
+    ensures { Agrees (λ _. walked_of (names_of names.new) typed.new) result
+        (definition.item_typed (environment_of env.now) (walked_of (names_of names.old) typed.old)
+        (item_of item.now)) }
 {
     match item {
         Item::Class(class) => {
             names.take(class.place.at, class.name.as_str())?;
             let place = check_type_count(class.place.at, typed)?;
-            let next = check_class(alloc, env, place, class)?;
+            let next = check_class(env, place, class)?;
             typed.classes.push(next)?;
         }
         Item::Interface(interface) => {
             names.take(interface.place.at, interface.name.as_str())?;
             let classes = check_type_count(interface.place.at, typed)?;
-            let next = check_interface(alloc, env, classes, interface)?;
+            let next = check_interface(env, classes, interface)?;
             typed.interfaces.push(next)?;
         }
         Item::Function(function) => {
             let of = check_result_type(env, &function.result)?;
             names.take(function.place.at, function.name.as_str())?;
-            let next = check_routine(alloc, env, of, as_routine(function))?;
+            let next = check_routine(env, of, as_routine(function))?;
             typed.functions.push(next)?;
         }
         Item::Vars(vars) => {
-            let variables = check_vars(alloc, env, names, vars)?;
+            let variables = check_vars(env, names, vars)?;
             typed.globals.push(variables)?;
         }
     }
@@ -202,9 +209,12 @@ fn check_items<'a>(
     signatures: &Signatures<'a>,
     items: &'a [Item],
 ) -> CheckResult<Module>
-    ensures { Agrees module_of result (definition.module_by (registered registry.now) (signatures_of signatures.now) (map item_of items.now)) }
+    ensures { Agrees module_of result
+        (definition.module_by (registered registry.now) (signatures_of signatures.now)
+        (map item_of items.now)) }
 {
     let env = Environment {
+        alloc,
         signatures,
         registry,
         this: None,
@@ -222,7 +232,7 @@ fn check_items<'a>(
         globals: Vec::new(alloc),
     };
     for item in items {
-        check_item(alloc, &env, &mut names, &mut typed, item)?;
+        check_item(&env, &mut names, &mut typed, item)?;
     }
     Ok(typed)
 }
@@ -234,7 +244,8 @@ pub(crate) fn check_module(
     registry: &Registrations,
     declared: &ash_tree::Module,
 ) -> CheckResult<Module>
-    ensures { Agrees module_of result (definition.module_typed (registered registry.now) (written_module declared.now)) }
+    ensures { Agrees module_of result
+        (definition.module_typed (registered registry.now) (written_module declared.now)) }
 {
     let signatures = module_signatures(alloc, registry, declared)?;
     check_items(alloc, registry, &signatures, &declared.items)

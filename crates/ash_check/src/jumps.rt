@@ -1,6 +1,6 @@
 //! Statements that leave: `break`, `continue` and `return`.
 
-ghost use Rattle.std.specs.Prelude.{◌≡◌, map, option_map};
+ghost use Rattle.std.specs.Prelude.{◌≡◌, ◌||◌, map, option_map};
 ghost use Rattle.ash_tree.specs.Views as written;
 ghost use Rattle.ash_typed.specs.Views.{expr_of};
 ghost use Rattle.ash_typed.specs.BodyViews.{stmt_of};
@@ -11,19 +11,20 @@ ghost use Rattle.ash_check.specs.StatementViews.{scope_of};
 
 use crate::scopes::Scope;
 use ash_expressions::{
-    Binding, CheckResult, Environment, TypedExpr, check_expr, coerce_for_assignment, fault_at,
-    is_void,
+    Binding, CheckResult, Environment, Position, TypedExpr, check_expr, coerce_for_assignment,
+    fault_at, is_void,
 };
 use ash_tree::{Expr, Place};
 use ash_typed::{Expr as Tree, Stmt as TypedStmt, StmtKind as TypedKind};
 use ash_typing::{Rule, Ty};
-use std::alloc::Global;
 
 /// `break`, which has to leave a loop or a `switch`.
 #[tactic(auto, unfolding(ash_typing::specs::Statements::break_typed))]
-pub(crate) fn check_break(leaves: bool, place: Place) -> CheckResult<TypedStmt>
-    ensures { Agrees stmt_of result (definition.break_typed leaves place) }
+pub(crate) fn check_break(scope: &Scope, place: Place) -> CheckResult<TypedStmt>
+    ensures { Agrees stmt_of result
+        (definition.break_typed (scope.now.in_loop || scope.now.in_switch) place) }
 {
+    let leaves = scope.in_loop || scope.in_switch;
     if !leaves {
         return Err(fault_at(Rule::Misplaced, place.at));
     }
@@ -35,10 +36,10 @@ pub(crate) fn check_break(leaves: bool, place: Place) -> CheckResult<TypedStmt>
 
 /// `continue`, which has to be in a loop.
 #[tactic(auto, unfolding(ash_typing::specs::Statements::continue_typed))]
-pub(crate) fn check_continue(leaves: bool, place: Place) -> CheckResult<TypedStmt>
-    ensures { Agrees stmt_of result (definition.continue_typed leaves place) }
+pub(crate) fn check_continue(scope: &Scope, place: Place) -> CheckResult<TypedStmt>
+    ensures { Agrees stmt_of result (definition.continue_typed scope.now.in_loop place) }
 {
-    if !leaves {
+    if !scope.in_loop {
         return Err(fault_at(Rule::Misplaced, place.at));
     }
     Ok(TypedStmt {
@@ -57,30 +58,31 @@ fn returns_nothing(of: Ty) -> bool
 /// A value that is returned at this offset.
 #[tactic(auto, unfolding(ash_typing::specs::Statements::returned))]
 fn build_return_value(
-    alloc: Global,
     env: &Environment,
     of: Ty,
     at: usize,
     value: TypedExpr,
 ) -> CheckResult<Tree>
-    ensures { Agrees expr_of result (definition.returned (classes_of env.now) of at (typed_of value)) }
+    ensures { Agrees expr_of result
+        (definition.returned (classes_of env.now) of at (typed_of value)) }
 {
     if is_void(of) {
         return Err(fault_at(Rule::TypeMismatch, at));
     }
-    coerce_for_assignment(env, alloc, of, value)
+    coerce_for_assignment(env, of, value)
 }
 
 /// `return`, with a value where its function returns one.
 #[tactic(auto, unfolding(ash_typing::specs::Statements::return_typed))]
 pub(crate) fn check_return(
-    alloc: Global,
     scope: &Scope,
     locals: &[Binding],
     place: Place,
     value: &Option<Expr>,
 ) -> CheckResult<TypedStmt>
-    ensures { Agrees stmt_of result (definition.return_typed (scope_of scope.now (map binding_of locals.now)) place (option_map written.expr_of value.now)) }
+    ensures { Agrees stmt_of result
+        (definition.return_typed (scope_of scope.now (map binding_of locals.now)) place
+        (option_map written.expr_of value.now)) }
 {
     let value = match value {
         None if !returns_nothing(scope.result) => {
@@ -89,8 +91,8 @@ pub(crate) fn check_return(
         None => None,
         Some(value) => {
             let env = (&*scope).environment(locals);
-            let value = check_expr(&env, alloc, false, value)?;
-            Some(build_return_value(alloc, &env, scope.result, place.at, value)?)
+            let value = check_expr(&env, Position::Value, value)?;
+            Some(build_return_value(&env, scope.result, place.at, value)?)
         }
     };
     Ok(TypedStmt {

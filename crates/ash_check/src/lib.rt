@@ -1,21 +1,21 @@
 //! The check of scripts: from trees, with names as they are written, to typed trees, or to why a script is refused.
 //!
 //! `check` returns a script's typed module and a rank for each of its classes; else its first fault. What is typed, and
-//! which fault is the first, `ash_typing` defines: `module_typed` of its `specs/Items.antt` walks a script in the order of
-//! the text. Where no rule is broken, classes must not reach themselves by what their fields hold: `ash_classes` has their
-//! ranks, or the cycle that is reported. `checked` of `specs/Checks.antt` defines all this as one function, and `check`
-//! returns what it defines, unless memory runs out; `check_is_exact` says what that is by the rules of typing alone.
-//! Expressions are checked by `ash_expressions`.
+//! which fault is the first, `ash_typing` defines: `module_typed` of its `specs/Items.antt` walks a script in the order
+//! of the text. Where no rule is broken, classes must not reach themselves by what their fields hold: `ash_classes` has
+//! their ranks, or the cycle that is reported. `checked` of `specs/Checks.antt` defines all this as one function, and
+//! `check` returns what it defines, unless memory runs out; `check_is_exact` says what that is by the rules of typing
+//! alone. Expressions are checked by `ash_expressions`.
 //!
 //! What is returned is a `Checked`. Of each value of that type it is known, by the typed tree alone, that its module is
 //! sound and that its ranks fall along what its classes hold: `IsChecked` of `specs/CheckedModules.antt`.
 //!
-//! A function `check_*` takes a part of a script; a function `build_*` takes parts that are checked, and returns the typed
-//! phrase that they are the parts of, or its fault.
+//! A function `check_*` takes a part of a script; a function `build_*` takes parts that are checked, and returns the
+//! typed phrase that they are the parts of, or its fault.
 //!
-//! In reading order: `checked`, what is returned; `checks`, the whole; `faults`, what is reported; `items`, the walk over a
-//! module, with `names`, `interfaces`, `implementations`, `routines`, `declarations` and `bodies`; `signatures`, what a
-//! module declares; `statements`, the walk over a body, with `scopes`, what a statement can refer to, `locals`,
+//! In reading order: `checked`, what is returned; `checks`, the whole; `faults`, what is reported; `items`, the walk
+//! over a module, with `names`, `interfaces`, `implementations`, `routines`, `declarations` and `bodies`; `signatures`,
+//! what a module declares; `statements`, the walk over a body, with `scopes`, what a statement can refer to, `locals`,
 //! `conditions`, `loops`, `switches` and `jumps`. Beside them `returning`, which statements return.
 #![tactic(auto)]
 

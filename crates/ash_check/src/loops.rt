@@ -14,34 +14,41 @@ ghost use Rattle.ash_check.specs.WalkViews.{optional_expr};
 use crate::locals::check_local_vars;
 use crate::scopes::Scope;
 use ash_expressions::{
-    Binding, CheckResult, Environment, TypedExpr, check_bool, check_expr, fault_at,
+    Binding, CheckResult, Environment, Position, TypedExpr, check_bool, check_expr, fault_at,
 };
 use ash_tree::{Expr, Stmt as Source, StmtKind};
 use ash_typed::{Expr as Tree, Head, Stmt, Test, nodes};
 use ash_typing::Rule;
 use std::alloc::{AllocError, Global};
 
-/// Checks the head of a `for`, which the grammar has as a statement: nothing, variables, which are added to the locals, or an
-/// expression.
-#[tactic(auto, using(ash_tree::proofs::Rows::block_is, ash_tree::proofs::Rows::switch_is), unfolding(ash_typing::specs::Statements::head_typed))]
+/// Checks the head of a `for`, which the grammar has as a statement: nothing, variables, which are added to the locals,
+/// or an expression.
+#[tactic(
+    auto,
+    using(ash_tree::proofs::Rows::block_is, ash_tree::proofs::Rows::switch_is),
+    unfolding(ash_typing::specs::Statements::head_typed)
+)]
 pub(crate) fn check_for_head<'n>(
-    alloc: Global,
     scope: &Scope<'_, 'n>,
     locals: &mut Vec<Binding<'n>>,
     source: &'n Source,
 ) -> CheckResult<Head>
-    ensures typed { Agrees head_of result (definition.head_typed (scope_of scope.now (locals_of locals.old)) (written.stmt_of source.now)) }
-    ensures locals { IfOk result (λ _. scope_of scope.now (locals_of locals.new) ≡ scopes.behind (scope_of scope.now (locals_of locals.old)) (written.stmt_of source.now)) }
+    ensures typed { Agrees head_of result
+        (definition.head_typed (scope_of scope.now (locals_of locals.old))
+        (written.stmt_of source.now)) }
+    ensures locals { IfOk result
+        (λ _. scope_of scope.now (locals_of locals.new)
+        ≡ scopes.behind (scope_of scope.now (locals_of locals.old)) (written.stmt_of source.now)) }
 {
     let at = source.place.at;
     match &source.kind {
         StmtKind::Empty => Ok(Head::Empty),
         StmtKind::Vars(vars) => {
-            let values = check_local_vars(alloc, scope, locals, vars)?;
+            let values = check_local_vars(scope, locals, vars)?;
             Ok(Head::Declare(values))
         }
         StmtKind::Expr(value) => {
-            let value = check_expr(&(&*scope).environment(locals), alloc, false, value)?;
+            let value = check_expr(&(&*scope).environment(locals), Position::Value, value)?;
             Ok(Head::Evaluate(value.tree))
         }
         StmtKind::Block(_) | StmtKind::If { .. } | StmtKind::IfElse { .. } => {
@@ -65,7 +72,8 @@ pub(crate) fn build_while(
     condition: TypedExpr,
     inner: Box<Stmt>,
 ) -> CheckResult<Stmt>
-    ensures { Agrees stmt_of result (definition.while_typed line (Ok (typed_of condition)) (Ok (stmt_of inner.value))) }
+    ensures { Agrees stmt_of result
+        (definition.while_typed line (Ok (typed_of condition)) (Ok (stmt_of inner.value))) }
 {
     check_bool(condition.at, condition.ty)?;
     let inside = nodes::repetition(Test::First, Some(condition.tree), Vec::new(alloc), inner);
@@ -80,50 +88,63 @@ pub(crate) fn build_do_while(
     inner: Box<Stmt>,
     condition: TypedExpr,
 ) -> CheckResult<Stmt>
-    ensures { Agrees stmt_of result (definition.do_while_typed line (Ok (stmt_of inner.value)) (Ok (typed_of condition))) }
+    ensures { Agrees stmt_of result
+        (definition.do_while_typed line (Ok (stmt_of inner.value)) (Ok (typed_of condition))) }
 {
     check_bool(condition.at, condition.ty)?;
     let inside = nodes::repetition(Test::Last, Some(condition.tree), Vec::new(alloc), inner);
     Ok(nodes::repeat(line, inside))
 }
 
-/// `for (head condition; steps) inner`
+/// The checked parts of `for`.
+#[derive(Drop)]
+pub(crate) struct CheckedFor {
+    pub(crate) head: Head,
+    pub(crate) condition: Option<TypedExpr>,
+    pub(crate) steps: Vec<TypedExpr>,
+    pub(crate) body: Box<Stmt>,
+}
+
+/// `for (head condition; steps) body`
 #[tactic(auto, unfolding(ash_typing::specs::Statements::for_typed))]
 pub(crate) fn build_for(
     alloc: Global,
     line: usize,
-    head: Head,
-    condition: Option<TypedExpr>,
-    steps: Vec<TypedExpr>,
-    inner: Box<Stmt>,
+    parts: CheckedFor,
 ) -> CheckResult<Stmt>
-    ensures { Agrees stmt_of result (definition.for_typed line (Ok (head_of head)) (Ok (optional_typed_of condition)) (Ok (all_typed_of steps)) (Ok (stmt_of inner.value))) }
+    ensures { Agrees stmt_of result
+        (definition.for_typed line (Ok (head_of parts.head))
+        (Ok (optional_typed_of parts.condition)) (Ok (all_typed_of parts.steps))
+        (Ok (stmt_of parts.body.value))) }
 {
-    if let Err(error) = check_optional_bool(&condition) {
+    if let Err(error) = check_optional_bool(&parts.condition) {
         return Err(error);
     }
-    let steps = trees_of(alloc, steps)?;
-    let inside = nodes::repetition(Test::First, optional_tree(condition), steps, inner);
-    Ok(nodes::for_loop(line, head, inside))
+    let steps = trees_of(alloc, parts.steps)?;
+    let condition = optional_tree(parts.condition);
+    let inside = nodes::repetition(Test::First, condition, steps, parts.body);
+    Ok(nodes::for_loop(line, parts.head, inside))
 }
 
 /// Checks a condition, where there is one.
 pub(crate) fn check_optional_expr(
-    alloc: Global,
     env: &Environment,
     condition: &Option<Expr>,
 ) -> CheckResult<Option<TypedExpr>>
-    ensures { Agrees optional_typed_of result (definition.maybe_typed (environment_of env.now) (option_map written.expr_of condition.now)) }
+    ensures { Agrees optional_typed_of result
+        (definition.maybe_typed (environment_of env.now)
+        (option_map written.expr_of condition.now)) }
 {
     match condition {
         None => Ok(None),
-        Some(condition) => Ok(Some(check_expr(env, alloc, false, condition)?)),
+        Some(condition) => Ok(Some(check_expr(env, Position::Value, condition)?)),
     }
 }
 
 /// Requires that a condition is a truth value, where there is one.
 fn check_optional_bool(condition: &Option<TypedExpr>) -> CheckResult<bool>
-    ensures { Agrees (λ yes. yes) result (definition.maybe_condition_is (optional_typed_of condition.now)) }
+    ensures { Agrees (λ yes. yes) result
+        (definition.maybe_condition_is (optional_typed_of condition.now)) }
 {
     match condition {
         None => Ok(true),
@@ -141,7 +162,8 @@ fn optional_tree(condition: Option<TypedExpr>) -> Option<Tree>
 }
 
 fn trees_of(alloc: Global, typed: Vec<TypedExpr>) -> Result<Vec<Tree>, AllocError>
-    ensures { IfOk result (λ trees. map expr_of trees.items ≡ map definition.tree_of (all_typed_of typed)) }
+    ensures { IfOk result
+        (λ trees. map expr_of trees.items ≡ map definition.tree_of (all_typed_of typed)) }
 {
     let mut trees = Vec::with_capacity(alloc, typed.len())?;
     for one in typed {

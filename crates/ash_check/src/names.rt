@@ -53,7 +53,8 @@ impl<'a> Names<'a> {
     /// A name at this offset that was not taken, and is from now on.
     #[tactic(auto, unfolding(ash_typing::specs::Items::untaken))]
     pub(crate) fn take(&mut self, at: usize, name: &'a str) -> CheckResult<()>
-        ensures { Agrees (λ _. names_of self.new) result (definition.untaken (names_of self.old) at name.now) }
+        ensures { Agrees (λ _. names_of self.new) result
+            (definition.untaken (names_of self.old) at name.now) }
     {
         if self.is_taken(name) {
             return Err(fault_at(Rule::NameTaken, at));
@@ -65,7 +66,8 @@ impl<'a> Names<'a> {
     /// One more, at this offset.
     #[tactic(auto, unfolding(ash_typing::specs::Items::one_more))]
     pub(crate) fn count(&mut self, at: usize) -> CheckResult<()>
-        ensures { Agrees (λ _. names_of self.new) result (definition.one_more (names_of self.old) at) }
+        ensures { Agrees (λ _. names_of self.new) result
+            (definition.one_more (names_of self.old) at) }
     {
         if self.room == 0 {
             return Err(fault_at(Rule::TooMany, at));
@@ -76,7 +78,8 @@ impl<'a> Names<'a> {
 
     /// A name of which there may be so many.
     pub(crate) fn take_counted(&mut self, at: usize, name: &'a str) -> CheckResult<()>
-        ensures { Agrees (λ _. names_of self.new) result (definition.placed (names_of self.old) at name.now) }
+        ensures { Agrees (λ _. names_of self.new) result
+            (definition.placed (names_of self.old) at name.now) }
     {
         self.take(at, name)?;
         self.count(at)

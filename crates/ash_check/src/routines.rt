@@ -44,7 +44,8 @@ fn check_passed_type(written: &Type, of: Ty) -> CheckResult<Ty>
 
 /// Checks the type of a result.
 pub(crate) fn check_result_type(env: &Environment, of: &Option<Type>) -> CheckResult<Ty>
-    ensures { Agrees (λ t. t) result (definition.result_typed (environment_of env.now) (option_map type_of of.now)) }
+    ensures { Agrees (λ t. t) result
+        (definition.result_typed (environment_of env.now) (option_map type_of of.now)) }
 {
     match of {
         None => Ok(Ty::Void),
@@ -54,13 +55,14 @@ pub(crate) fn check_result_type(env: &Environment, of: &Option<Type>) -> CheckRe
 
 /// Checks parameters, whose names have to differ.
 pub(crate) fn check_parameters<'a>(
-    alloc: Global,
     env: &Environment<'_, 'a>,
     parameters: &'a [Parameter],
 ) -> CheckResult<Vec<Binding<'a>>>
-    ensures { Agrees (λ all. map binding_of all.items) result (definition.parameters_typed (environment_of env.now) [] (map parameter_of parameters.now)) }
+    ensures { Agrees (λ all. map binding_of all.items) result
+        (definition.parameters_typed (environment_of env.now) []
+        (map parameter_of parameters.now)) }
 {
-    let mut all = Vec::new(alloc);
+    let mut all = Vec::new(env.alloc);
     for parameter in parameters {
         let of = check_passed_type(&parameter.of, ty_in(env, &parameter.of))?;
         let name = parameter.name.as_str();
@@ -85,21 +87,21 @@ pub(crate) fn types_of(alloc: Global, all: &[Binding]) -> Result<Vec<VarType>, A
 /// Checks a function that returns this type, a method or a constructor.
 #[tactic(auto, unfolding(ash_typing::specs::Items::routine_typed, ash_typing::specs::Items::returning))]
 pub(crate) fn check_routine<'a>(
-    alloc: Global,
     env: &Environment<'_, 'a>,
     of: Ty,
     routine: Routine<'a>,
 ) -> CheckResult<Function>
-    ensures { Agrees function_of result (definition.routine_typed (environment_of env.now) of (routine_of routine.entry)) }
+    ensures { Agrees function_of result
+        (definition.routine_typed (environment_of env.now) of (routine_of routine.entry)) }
 {
-    let locals = check_parameters(alloc, env, routine.parameters)?;
-    let parameters = types_of(alloc, &locals)?;
-    let body = check_body(alloc, env, locals, of, routine.body)?;
+    let locals = check_parameters(env, routine.parameters)?;
+    let parameters = types_of(env.alloc, &locals)?;
+    let body = check_body(env, locals, of, routine.body)?;
     if !is_void(of) && !body_returns(routine.body) {
         return Err(fault_at(Rule::NoReturn, routine.place.at));
     }
     Ok(Function {
-        name: String::from_str(alloc, routine.name)?,
+        name: String::from_str(env.alloc, routine.name)?,
         line: routine.place.line,
         result: result_type(of),
         parameters,

@@ -15,10 +15,12 @@ use ash_expressions::{Binding, CheckResult, Environment, Signatures, fault_at};
 use ash_registrations::Registrations;
 use ash_tree::Decl;
 use ash_typing::{Rule, Ty};
+use std::alloc::Global;
 
 /// What a statement can refer to, beside the locals.
 #[derive(Clone, Copy)]
 pub(crate) struct Scope<'a, 'n> {
+    pub(crate) alloc: Global,
     pub(crate) signatures: &'a Signatures<'n>,
     pub(crate) registry: &'a Registrations,
     /// The class whose object runs.
@@ -60,6 +62,7 @@ impl<'a, 'n> Scope<'a, 'n> {
         ensures { environment_of result ≡ (scope_of self.now (map binding_of locals.now)).env }
     {
         Environment {
+            alloc: self.alloc,
             signatures: self.signatures,
             registry: self.registry,
             this: self.this,
@@ -68,7 +71,8 @@ impl<'a, 'n> Scope<'a, 'n> {
     }
 
     fn is_taken(&self, locals: &[Binding], name: &str) -> bool
-        ensures { result ≡ scopes.is_taken (scope_of self.now (map binding_of locals.now)) name.now }
+        ensures { result
+            ≡ scopes.is_taken (scope_of self.now (map binding_of locals.now)) name.now }
     {
         any_declares(locals_of_block(locals, self.block_start), name)
     }
@@ -81,7 +85,9 @@ impl<'a, 'n> Scope<'a, 'n> {
         of: Ty,
         decl: &'n Decl,
     ) -> CheckResult<Binding<'n>>
-        ensures typed { Agrees binding_of result (definition.fresh (scope_of self.now (map binding_of locals.now)) of (decl_of decl.now)) }
+        ensures typed { Agrees binding_of result
+            (definition.fresh (scope_of self.now (map binding_of locals.now)) of
+            (decl_of decl.now)) }
         ensures named { IfOk result (λ local. binding_of local ≡ declared of (decl_of decl.now)) }
     {
         let name = decl.name.as_str();

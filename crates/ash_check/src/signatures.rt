@@ -2,10 +2,13 @@
 
 ghost use Rattle.std.specs.Prelude.{◌≡◌, ◌++◌, map, IfOk, OnOk};
 ghost use Rattle.ash_registrations.specs.Registered.{registered};
-ghost use Rattle.ash_tree.specs.Views.{vars_of, parameter_of, function_of as written_function, member_of, type_name_of, interface_method_of, interface_of as written_interface, class_of as written_class, item_of, module_of};
+ghost use Rattle.ash_tree.specs.Views.{vars_of, parameter_of, function_of as written_function, member_of};
+ghost use Rattle.ash_tree.specs.Views.{type_name_of, interface_method_of, interface_of as written_interface};
+ghost use Rattle.ash_tree.specs.Views.{class_of as written_class, item_of, module_of};
 ghost use Rattle.ash_tree.specs.Items as by_kind;
 ghost use Rattle.ash_typing.specs.Heads as definition;
-ghost use Rattle.ash_expressions.specs.Views.{binding_of, function_signature_of, interface_signature_of, class_signature_of, signatures_of};
+ghost use Rattle.ash_expressions.specs.Views.{binding_of, function_signature_of, interface_signature_of};
+ghost use Rattle.ash_expressions.specs.Views.{class_signature_of, signatures_of};
 
 use ash_expressions::{
     Binding, ClassSignature, FunctionSignature, InterfaceSignature, Signatures, object_named,
@@ -23,7 +26,10 @@ fn parameter_types(
     type_names: &Signatures,
     parameters: &[Parameter],
 ) -> Result<Vec<Ty>, AllocError>
-    ensures { IfOk result (λ types. types.items ≡ map (definition.parameter_ty (registered registry.now) (signatures_of type_names.now)) (map parameter_of parameters.now)) }
+    ensures { IfOk result
+        (λ types. types.items
+        ≡ map (definition.parameter_ty (registered registry.now) (signatures_of type_names.now))
+        (map parameter_of parameters.now)) }
 {
     let mut types = Vec::new(alloc);
     for parameter in parameters {
@@ -38,7 +44,10 @@ fn function_signature<'a>(
     type_names: &Signatures,
     function: &'a ash_tree::Function,
 ) -> Result<FunctionSignature<'a>, AllocError>
-    ensures { IfOk result (λ f. function_signature_of f ≡ definition.function_head (registered registry.now) (signatures_of type_names.now) (written_function function.now)) }
+    ensures { IfOk result
+        (λ f. function_signature_of f
+        ≡ definition.function_head (registered registry.now) (signatures_of type_names.now)
+        (written_function function.now)) }
 {
     let parameters = parameter_types(alloc, registry, type_names, &function.parameters)?;
     Ok(FunctionSignature {
@@ -54,7 +63,10 @@ fn method_signature<'a>(
     type_names: &Signatures,
     method: &'a InterfaceMethod,
 ) -> Result<FunctionSignature<'a>, AllocError>
-    ensures { IfOk result (λ f. function_signature_of f ≡ definition.signature_head (registered registry.now) (signatures_of type_names.now) (interface_method_of method.now)) }
+    ensures { IfOk result
+        (λ f. function_signature_of f
+        ≡ definition.signature_head (registered registry.now) (signatures_of type_names.now)
+        (interface_method_of method.now)) }
 {
     let parameters = parameter_types(alloc, registry, type_names, &method.parameters)?;
     Ok(FunctionSignature {
@@ -70,7 +82,10 @@ fn interface_methods<'a>(
     type_names: &Signatures,
     declared: &'a [InterfaceMethod],
 ) -> Result<Vec<FunctionSignature<'a>>, AllocError>
-    ensures { IfOk result (λ all. map function_signature_of all.items ≡ map (definition.signature_head (registered registry.now) (signatures_of type_names.now)) (map interface_method_of declared.now)) }
+    ensures { IfOk result
+        (λ all. map function_signature_of all.items
+        ≡ map (definition.signature_head (registered registry.now) (signatures_of type_names.now))
+        (map interface_method_of declared.now)) }
 {
     let mut all = Vec::new(alloc);
     for method in declared {
@@ -85,7 +100,10 @@ fn interface_signature<'a>(
     type_names: &Signatures,
     interface: &'a ash_tree::Interface,
 ) -> Result<InterfaceSignature<'a>, AllocError>
-    ensures { IfOk result (λ i. interface_signature_of i ≡ definition.interface_head (registered registry.now) (signatures_of type_names.now) (written_interface interface.now)) }
+    ensures { IfOk result
+        (λ i. interface_signature_of i
+        ≡ definition.interface_head (registered registry.now) (signatures_of type_names.now)
+        (written_interface interface.now)) }
 {
     let methods = interface_methods(alloc, registry, type_names, &interface.methods)?;
     Ok(InterfaceSignature {
@@ -101,7 +119,10 @@ fn push_bindings<'a>(
     vars: &'a Vars,
     variables: &mut Vec<Binding<'a>>,
 ) -> Result<(), AllocError>
-    ensures { OnOk result (map binding_of variables.new.items ≡ map binding_of variables.old.items ++ definition.variables (registered registry.now) (signatures_of type_names.now) (vars_of vars.now)) }
+    ensures { OnOk result
+        (map binding_of variables.new.items ≡ map binding_of variables.old.items
+        ++ definition.variables (registered registry.now) (signatures_of type_names.now)
+        (vars_of vars.now)) }
 {
     let of = ty_named(registry, type_names, &vars.of);
     for decl in &vars.decls {
@@ -119,7 +140,10 @@ fn class_fields<'a>(
     type_names: &Signatures,
     members: &'a [Member],
 ) -> Result<Vec<Binding<'a>>, AllocError>
-    ensures { IfOk result (λ all. map binding_of all.items ≡ definition.all_variables (registered registry.now) (signatures_of type_names.now) (by_kind.fields_of (map member_of members.now))) }
+    ensures { IfOk result
+        (λ all. map binding_of all.items
+        ≡ definition.all_variables (registered registry.now) (signatures_of type_names.now)
+        (by_kind.fields_of (map member_of members.now))) }
 {
     let mut all = Vec::new(alloc);
     for member in members {
@@ -136,7 +160,10 @@ fn class_methods<'a>(
     type_names: &Signatures,
     members: &'a [Member],
 ) -> Result<Vec<FunctionSignature<'a>>, AllocError>
-    ensures { IfOk result (λ all. map function_signature_of all.items ≡ map (definition.function_head (registered registry.now) (signatures_of type_names.now)) (by_kind.methods_of (map member_of members.now))) }
+    ensures { IfOk result
+        (λ all. map function_signature_of all.items
+        ≡ map (definition.function_head (registered registry.now) (signatures_of type_names.now))
+        (by_kind.methods_of (map member_of members.now))) }
 {
     let mut all = Vec::new(alloc);
     for member in members {
@@ -154,7 +181,10 @@ fn constructor_parameters(
     type_names: &Signatures,
     members: &[Member],
 ) -> Result<Vec<Ty>, AllocError>
-    ensures { IfOk result (λ types. types.items ≡ definition.constructed_by (registered registry.now) (signatures_of type_names.now) (by_kind.constructors_of (map member_of members.now))) }
+    ensures { IfOk result
+        (λ types. types.items
+        ≡ definition.constructed_by (registered registry.now) (signatures_of type_names.now)
+        (by_kind.constructors_of (map member_of members.now))) }
 {
     for member in members {
         if let Member::Constructor(constructor) = member {
@@ -180,7 +210,10 @@ fn listed_interfaces(
     type_names: &Signatures,
     names: &[TypeName],
 ) -> Result<Vec<usize>, AllocError>
-    ensures { IfOk result (λ places. places.items ≡ definition.listed_in (registered registry.now) (signatures_of type_names.now) (map type_name_of names.now)) }
+    ensures { IfOk result
+        (λ places. places.items
+        ≡ definition.listed_in (registered registry.now) (signatures_of type_names.now)
+        (map type_name_of names.now)) }
 {
     let mut places = Vec::new(alloc);
     for name in names {
@@ -198,7 +231,10 @@ fn class_signature<'a>(
     type_names: &Signatures,
     class: &'a ash_tree::Class,
 ) -> Result<ClassSignature<'a>, AllocError>
-    ensures { IfOk result (λ c. class_signature_of c ≡ definition.class_head (registered registry.now) (signatures_of type_names.now) (written_class class.now)) }
+    ensures { IfOk result
+        (λ c. class_signature_of c
+        ≡ definition.class_head (registered registry.now) (signatures_of type_names.now)
+        (written_class class.now)) }
 {
     let interfaces = listed_interfaces(alloc, registry, type_names, &class.interfaces)?;
     let fields = class_fields(alloc, registry, type_names, &class.members)?;
@@ -215,7 +251,9 @@ fn class_signature<'a>(
 
 /// The interfaces by their names alone.
 fn named_interfaces(alloc: Global, items: &[Item]) -> Result<Vec<InterfaceSignature<'_>>, AllocError>
-    ensures { IfOk result (λ all. map interface_signature_of all.items ≡ map definition.named_interface (by_kind.interfaces_of (map item_of items.now))) }
+    ensures { IfOk result
+        (λ all. map interface_signature_of all.items
+        ≡ map definition.named_interface (by_kind.interfaces_of (map item_of items.now))) }
 {
     let mut all = Vec::new(alloc);
     for item in items {
@@ -231,7 +269,9 @@ fn named_interfaces(alloc: Global, items: &[Item]) -> Result<Vec<InterfaceSignat
 
 /// The classes by their names alone.
 fn named_classes(alloc: Global, items: &[Item]) -> Result<Vec<ClassSignature<'_>>, AllocError>
-    ensures { IfOk result (λ all. map class_signature_of all.items ≡ map definition.named_class (by_kind.classes_of (map item_of items.now))) }
+    ensures { IfOk result
+        (λ all. map class_signature_of all.items
+        ≡ map definition.named_class (by_kind.classes_of (map item_of items.now))) }
 {
     let mut all = Vec::new(alloc);
     for item in items {
@@ -254,7 +294,10 @@ fn interface_signatures<'a>(
     type_names: &Signatures,
     items: &'a [Item],
 ) -> Result<Vec<InterfaceSignature<'a>>, AllocError>
-    ensures { IfOk result (λ all. map interface_signature_of all.items ≡ map (definition.interface_head (registered registry.now) (signatures_of type_names.now)) (by_kind.interfaces_of (map item_of items.now))) }
+    ensures { IfOk result
+        (λ all. map interface_signature_of all.items
+        ≡ map (definition.interface_head (registered registry.now) (signatures_of type_names.now))
+        (by_kind.interfaces_of (map item_of items.now))) }
 {
     let mut all = Vec::new(alloc);
     for item in items {
@@ -271,7 +314,10 @@ fn class_signatures<'a>(
     type_names: &Signatures,
     items: &'a [Item],
 ) -> Result<Vec<ClassSignature<'a>>, AllocError>
-    ensures { IfOk result (λ all. map class_signature_of all.items ≡ map (definition.class_head (registered registry.now) (signatures_of type_names.now)) (by_kind.classes_of (map item_of items.now))) }
+    ensures { IfOk result
+        (λ all. map class_signature_of all.items
+        ≡ map (definition.class_head (registered registry.now) (signatures_of type_names.now))
+        (by_kind.classes_of (map item_of items.now))) }
 {
     let mut all = Vec::new(alloc);
     for item in items {
@@ -288,7 +334,10 @@ fn function_signatures<'a>(
     type_names: &Signatures,
     items: &'a [Item],
 ) -> Result<Vec<FunctionSignature<'a>>, AllocError>
-    ensures { IfOk result (λ all. map function_signature_of all.items ≡ map (definition.function_head (registered registry.now) (signatures_of type_names.now)) (by_kind.functions_of (map item_of items.now))) }
+    ensures { IfOk result
+        (λ all. map function_signature_of all.items
+        ≡ map (definition.function_head (registered registry.now) (signatures_of type_names.now))
+        (by_kind.functions_of (map item_of items.now))) }
 {
     let mut all = Vec::new(alloc);
     for item in items {
@@ -305,7 +354,10 @@ fn global_bindings<'a>(
     type_names: &Signatures,
     items: &'a [Item],
 ) -> Result<Vec<Binding<'a>>, AllocError>
-    ensures { IfOk result (λ all. map binding_of all.items ≡ definition.all_variables (registered registry.now) (signatures_of type_names.now) (by_kind.globals_of (map item_of items.now))) }
+    ensures { IfOk result
+        (λ all. map binding_of all.items
+        ≡ definition.all_variables (registered registry.now) (signatures_of type_names.now)
+        (by_kind.globals_of (map item_of items.now))) }
 {
     let mut all = Vec::new(alloc);
     for item in items {
@@ -333,7 +385,10 @@ fn resolve_signatures<'a>(
     type_names: &Signatures,
     items: &'a [Item],
 ) -> Result<Signatures<'a>, AllocError>
-    ensures { IfOk result (λ h. signatures_of h ≡ definition.heads_by (registered registry.now) (signatures_of type_names.now) (map item_of items.now)) }
+    ensures { IfOk result
+        (λ h. signatures_of h
+        ≡ definition.heads_by (registered registry.now) (signatures_of type_names.now)
+        (map item_of items.now)) }
 {
     let interfaces = interface_signatures(alloc, registry, type_names, items)?;
     let classes = class_signatures(alloc, registry, type_names, items)?;
@@ -350,7 +405,9 @@ pub(crate) fn module_signatures<'a>(
     registry: &Registrations,
     declared: &'a Module,
 ) -> Result<Signatures<'a>, AllocError>
-    ensures { IfOk result (λ h. signatures_of h ≡ definition.heads (registered registry.now) (module_of declared.now)) }
+    ensures { IfOk result
+        (λ h. signatures_of h
+        ≡ definition.heads (registered registry.now) (module_of declared.now)) }
 {
     let type_names = type_names(alloc, &declared.items)?;
     resolve_signatures(alloc, registry, &type_names, &declared.items)

@@ -13,24 +13,45 @@ ghost use Rattle.ash_expressions.specs.Views.{binding_of};
 use crate::conditions::{boxed_stmt, build_if, build_if_else};
 use crate::jumps::{check_break, check_continue, check_return};
 use crate::locals::check_local_vars;
-use crate::loops::{build_do_while, build_for, build_while, check_for_head, check_optional_expr};
+use crate::loops::{
+    CheckedFor, build_do_while, build_for, build_while, check_for_head, check_optional_expr,
+};
 use crate::scopes::Scope;
-use crate::switches::{check_label, integer_type_in, is_last};
-use ash_expressions::{Binding, CheckResult, check_expr, check_exprs, integer_type};
+use crate::switches::{LabelContext, check_label, integer_type_in, is_last};
+use ash_expressions::{Binding, CheckResult, Position, check_expr, check_exprs, integer_type};
 use ash_tree::{Case, Expr, Place, Stmt, StmtKind, Vars};
 use ash_typed::{Case as TypedCase, Kind, Stmt as TypedStmt, StmtKind as TypedKind, nodes};
-use std::alloc::Global;
+
+/// The branches of `if` with `else`.
+#[derive(Clone, Copy)]
+struct Branches<'n> {
+    then: &'n Stmt,
+    otherwise: &'n Stmt,
+}
+
+/// The parts of `for`.
+#[derive(Clone, Copy)]
+struct ForParts<'n> {
+    place: Place,
+    first: &'n Stmt,
+    condition: &'n Option<Expr>,
+    steps: &'n [Expr],
+    body: &'n Stmt,
+}
 
 /// Checks a statement. Its variables are added to the locals.
 #[cycle(statements)]
 fn check_stmt<'n>(
-    alloc: Global,
     scope: &Scope<'_, 'n>,
     locals: &mut Vec<Binding<'n>>,
     source: &'n Stmt,
 ) -> CheckResult<TypedStmt>
-    ensures typed { Agrees stmt_of result (definition.stmt_typed (scope_of scope.now (locals_of locals.old)) (written.stmt_of source.now)) }
-    ensures locals { IfOk result (λ _. scope_of scope.now (locals_of locals.new) ≡ scopes.behind (scope_of scope.now (locals_of locals.old)) (written.stmt_of source.now)) }
+    ensures typed { Agrees stmt_of result
+        (definition.stmt_typed (scope_of scope.now (locals_of locals.old))
+        (written.stmt_of source.now)) }
+    ensures locals { IfOk result
+        (λ _. scope_of scope.now (locals_of locals.new)
+        ≡ scopes.behind (scope_of scope.now (locals_of locals.old)) (written.stmt_of source.now)) }
 {
     let place = source.place;
     match &source.kind {
@@ -38,50 +59,64 @@ fn check_stmt<'n>(
             line: place.line,
             kind: TypedKind::Empty,
         }),
-        StmtKind::Vars(vars) => check_declaration(alloc, scope, locals, place, vars),
-        StmtKind::Expr(value) => check_evaluation(alloc, scope, locals, place, value),
-        StmtKind::Block(body) => check_inner_block(alloc, scope, locals, place, body),
-        StmtKind::If { condition, then } => {
-            check_if(alloc, scope, locals, place, then, condition)
-        }
+        StmtKind::Vars(vars) => check_declaration(scope, locals, place, vars),
+        StmtKind::Expr(value) => check_evaluation(scope, locals, place, value),
+        StmtKind::Block(body) => check_inner_block(scope, locals, place, body),
+        StmtKind::If { condition, then } => check_if(scope, locals, place, condition, then),
         StmtKind::IfElse {
             condition,
             then,
             otherwise,
-        } => check_if_else(alloc, scope, locals, place, then, otherwise, condition),
+        } => {
+            let branches = Branches { then, otherwise };
+            check_if_else(scope, locals, place, condition, branches)
+        }
         StmtKind::While { condition, body } => {
-            check_while(alloc, scope, locals, place, body, condition)
+            check_while(scope, locals, place, condition, body)
         }
         StmtKind::DoWhile { body, condition } => {
-            check_do_while(alloc, scope, locals, place, body, condition)
+            check_do_while(scope, locals, place, body, condition)
         }
         StmtKind::For {
             first,
             condition,
             steps,
             body,
-        } => check_for(alloc, scope, locals, place, first, body, condition, steps),
-        StmtKind::Switch { value, cases } => {
-            check_switch(alloc, scope, locals, place, cases, value)
+        } => {
+            let parts = ForParts {
+                place,
+                first,
+                condition,
+                steps,
+                body,
+            };
+            check_for(scope, locals, parts)
         }
-        StmtKind::Break => check_break(scope.in_loop || scope.in_switch, place),
-        StmtKind::Continue => check_continue(scope.in_loop, place),
-        StmtKind::Return(value) => check_return(alloc, scope, locals, place, value),
+        StmtKind::Switch { value, cases } => {
+            check_switch(scope, locals, place, value, cases)
+        }
+        StmtKind::Break => check_break(scope, place),
+        StmtKind::Continue => check_continue(scope, place),
+        StmtKind::Return(value) => check_return(scope, locals, place, value),
     }
 }
 
 /// Variables, which are added to the locals.
 fn check_declaration<'n>(
-    alloc: Global,
     scope: &Scope<'_, 'n>,
     locals: &mut Vec<Binding<'n>>,
     place: Place,
     vars: &'n Vars,
 ) -> CheckResult<TypedStmt>
-    ensures typed { Agrees stmt_of result (definition.stmt_typed (scope_of scope.now (locals_of locals.old)) (Declare place (written.vars_of vars.now))) }
-    ensures locals { IfOk result (λ _. scope_of scope.now (locals_of locals.new) ≡ scopes.behind (scope_of scope.now (locals_of locals.old)) (Declare place (written.vars_of vars.now))) }
+    ensures typed { Agrees stmt_of result
+        (definition.stmt_typed (scope_of scope.now (locals_of locals.old))
+        (Declare place (written.vars_of vars.now))) }
+    ensures locals { IfOk result
+        (λ _. scope_of scope.now (locals_of locals.new)
+        ≡ scopes.behind (scope_of scope.now (locals_of locals.old))
+        (Declare place (written.vars_of vars.now))) }
 {
-    let values = check_local_vars(alloc, scope, locals, vars)?;
+    let values = check_local_vars(scope, locals, vars)?;
     Ok(TypedStmt {
         line: place.line,
         kind: TypedKind::Declare(values),
@@ -90,15 +125,16 @@ fn check_declaration<'n>(
 
 /// An expression, whose value is dropped.
 fn check_evaluation(
-    alloc: Global,
     scope: &Scope,
     locals: &[Binding],
     place: Place,
     value: &Expr,
 ) -> CheckResult<TypedStmt>
-    ensures { Agrees stmt_of result (definition.stmt_typed (scope_of scope.now (map binding_of locals.now)) (Evaluate place (written.expr_of value.now))) }
+    ensures { Agrees stmt_of result
+        (definition.stmt_typed (scope_of scope.now (map binding_of locals.now))
+        (Evaluate place (written.expr_of value.now))) }
 {
-    let value = check_expr(&(&*scope).environment(locals), alloc, false, value)?;
+    let value = check_expr(&(&*scope).environment(locals), Position::Value, value)?;
     Ok(TypedStmt {
         line: place.line,
         kind: TypedKind::Evaluate(value.tree),
@@ -108,35 +144,37 @@ fn check_evaluation(
 /// Checks a statement that is no statement of a block: after it, none of its variables is left.
 #[cycle(statements)]
 fn check_branch<'n>(
-    alloc: Global,
     scope: &Scope<'_, 'n>,
     locals: &mut Vec<Binding<'n>>,
     source: &'n Stmt,
 ) -> CheckResult<Box<TypedStmt>>
-    ensures typed { Agrees (λ s. stmt_of s.value) result (definition.stmt_typed (scope_of scope.now (locals_of locals.old)) (written.stmt_of source.now)) }
+    ensures typed { Agrees (λ s. stmt_of s.value) result
+        (definition.stmt_typed (scope_of scope.now (locals_of locals.old))
+        (written.stmt_of source.now)) }
     ensures unchanged { IfOk result (λ _. locals_of locals.new ≡ locals_of locals.old) }
 {
     let outer = locals.len();
-    let typed = check_stmt(alloc, scope, locals, source)?;
+    let typed = check_stmt(scope, locals, source)?;
     locals.truncate(outer);
-    Ok(boxed_stmt(alloc, typed)?)
+    Ok(boxed_stmt(scope.alloc, typed)?)
 }
 
 /// Checks the statements of a block. After it, none of its variables is left.
 #[cycle(statements)]
 pub(crate) fn check_block<'n>(
-    alloc: Global,
     scope: &Scope<'_, 'n>,
     locals: &mut Vec<Binding<'n>>,
     body: &'n [Stmt],
 ) -> CheckResult<Vec<TypedStmt>>
-    ensures typed { Agrees stmts_in result (definition.stmts_typed (scope_of scope.now (locals_of locals.old)) (stmts (map written.stmt_of body.now))) }
+    ensures typed { Agrees stmts_in result
+        (definition.stmts_typed (scope_of scope.now (locals_of locals.old))
+        (stmts (map written.stmt_of body.now))) }
     ensures unchanged { IfOk result (λ _. locals_of locals.new ≡ locals_of locals.old) }
 {
     let outer = locals.len();
-    let mut typed = Vec::with_capacity(alloc, body.len())?;
+    let mut typed = Vec::with_capacity(scope.alloc, body.len())?;
     for source in body {
-        typed.push(check_stmt(alloc, scope, locals, source)?)?;
+        typed.push(check_stmt(scope, locals, source)?)?;
     }
     locals.truncate(outer);
     Ok(typed)
@@ -145,20 +183,21 @@ pub(crate) fn check_block<'n>(
 /// `{ body }`: none of its names is taken yet.
 #[cycle(statements)]
 fn check_inner_block<'n>(
-    alloc: Global,
     scope: &Scope<'_, 'n>,
     locals: &mut Vec<Binding<'n>>,
     place: Place,
     body: &'n [Stmt],
 ) -> CheckResult<TypedStmt>
-    ensures typed { Agrees stmt_of result (definition.stmt_typed (scope_of scope.now (locals_of locals.old)) (Block place (stmts (map written.stmt_of body.now)))) }
+    ensures typed { Agrees stmt_of result
+        (definition.stmt_typed (scope_of scope.now (locals_of locals.old))
+        (Block place (stmts (map written.stmt_of body.now)))) }
     ensures unchanged { IfOk result (λ _. locals_of locals.new ≡ locals_of locals.old) }
 {
     let inner = Scope {
         block_start: locals.len(),
         ..*scope
     };
-    let body = check_block(alloc, &inner, locals, body)?;
+    let body = check_block(&inner, locals, body)?;
     let typed = nodes::block(place.line, body);
     Ok(typed)
 }
@@ -167,18 +206,19 @@ fn check_inner_block<'n>(
 #[cycle(statements)]
 #[tactic(auto, unfolding(ash_typing::specs::Statements::if_typed))]
 fn check_if<'n>(
-    alloc: Global,
     scope: &Scope<'_, 'n>,
     locals: &mut Vec<Binding<'n>>,
     place: Place,
-    inner: &'n Stmt,
     condition: &Expr,
+    inner: &'n Stmt,
 ) -> CheckResult<TypedStmt>
-    ensures typed { Agrees stmt_of result (definition.stmt_typed (scope_of scope.now (locals_of locals.old)) (If place (written.expr_of condition.now) (written.stmt_of inner.now))) }
+    ensures typed { Agrees stmt_of result
+        (definition.stmt_typed (scope_of scope.now (locals_of locals.old))
+        (If place (written.expr_of condition.now) (written.stmt_of inner.now))) }
     ensures unchanged { IfOk result (λ _. locals_of locals.new ≡ locals_of locals.old) }
 {
-    let condition = check_expr(&(&*scope).environment(locals), alloc, false, condition)?;
-    let inner = check_branch(alloc, scope, locals, inner)?;
+    let condition = check_expr(&(&*scope).environment(locals), Position::Value, condition)?;
+    let inner = check_branch(scope, locals, inner)?;
     build_if(place.line, condition, inner)
 }
 
@@ -186,20 +226,21 @@ fn check_if<'n>(
 #[cycle(statements)]
 #[tactic(auto, unfolding(ash_typing::specs::Statements::if_else_typed))]
 fn check_if_else<'n>(
-    alloc: Global,
     scope: &Scope<'_, 'n>,
     locals: &mut Vec<Binding<'n>>,
     place: Place,
-    then: &'n Stmt,
-    otherwise: &'n Stmt,
     condition: &Expr,
+    branches: Branches<'n>,
 ) -> CheckResult<TypedStmt>
-    ensures typed { Agrees stmt_of result (definition.stmt_typed (scope_of scope.now (locals_of locals.old)) (IfElse place (written.expr_of condition.now) (written.stmt_of then.now) (written.stmt_of otherwise.now))) }
+    ensures typed { Agrees stmt_of result
+        (definition.stmt_typed (scope_of scope.now (locals_of locals.old))
+        (IfElse place (written.expr_of condition.now) (written.stmt_of branches.entry.then.now)
+        (written.stmt_of branches.entry.otherwise.now))) }
     ensures unchanged { IfOk result (λ _. locals_of locals.new ≡ locals_of locals.old) }
 {
-    let condition = check_expr(&(&*scope).environment(locals), alloc, false, condition)?;
-    let then = check_branch(alloc, scope, locals, then)?;
-    let otherwise = check_branch(alloc, scope, locals, otherwise)?;
+    let condition = check_expr(&(&*scope).environment(locals), Position::Value, condition)?;
+    let then = check_branch(scope, locals, branches.then)?;
+    let otherwise = check_branch(scope, locals, branches.otherwise)?;
     build_if_else(place.line, condition, then, otherwise)
 }
 
@@ -207,62 +248,63 @@ fn check_if_else<'n>(
 #[cycle(statements)]
 #[tactic(auto, unfolding(ash_typing::specs::Statements::while_typed))]
 fn check_while<'n>(
-    alloc: Global,
     scope: &Scope<'_, 'n>,
     locals: &mut Vec<Binding<'n>>,
     place: Place,
-    inner: &'n Stmt,
     condition: &Expr,
+    inner: &'n Stmt,
 ) -> CheckResult<TypedStmt>
-    ensures typed { Agrees stmt_of result (definition.stmt_typed (scope_of scope.now (locals_of locals.old)) (While place (written.expr_of condition.now) (written.stmt_of inner.now))) }
+    ensures typed { Agrees stmt_of result
+        (definition.stmt_typed (scope_of scope.now (locals_of locals.old))
+        (While place (written.expr_of condition.now) (written.stmt_of inner.now))) }
     ensures unchanged { IfOk result (λ _. locals_of locals.new ≡ locals_of locals.old) }
 {
-    let condition = check_expr(&(&*scope).environment(locals), alloc, false, condition)?;
+    let condition = check_expr(&(&*scope).environment(locals), Position::Value, condition)?;
     let repeated = Scope {
         in_loop: true,
         ..*scope
     };
-    let inner = check_branch(alloc, &repeated, locals, inner)?;
-    build_while(alloc, place.line, condition, inner)
+    let inner = check_branch(&repeated, locals, inner)?;
+    build_while(scope.alloc, place.line, condition, inner)
 }
 
 /// `do inner while (condition);`
 #[cycle(statements)]
 #[tactic(auto, unfolding(ash_typing::specs::Statements::do_while_typed))]
 fn check_do_while<'n>(
-    alloc: Global,
     scope: &Scope<'_, 'n>,
     locals: &mut Vec<Binding<'n>>,
     place: Place,
     inner: &'n Stmt,
     condition: &Expr,
 ) -> CheckResult<TypedStmt>
-    ensures typed { Agrees stmt_of result (definition.stmt_typed (scope_of scope.now (locals_of locals.old)) (DoWhile place (written.stmt_of inner.now) (written.expr_of condition.now))) }
+    ensures typed { Agrees stmt_of result
+        (definition.stmt_typed (scope_of scope.now (locals_of locals.old))
+        (DoWhile place (written.stmt_of inner.now) (written.expr_of condition.now))) }
     ensures unchanged { IfOk result (λ _. locals_of locals.new ≡ locals_of locals.old) }
 {
     let repeated = Scope {
         in_loop: true,
         ..*scope
     };
-    let inner = check_branch(alloc, &repeated, locals, inner)?;
-    let condition = check_expr(&(&*scope).environment(locals), alloc, false, condition)?;
-    build_do_while(alloc, place.line, inner, condition)
+    let inner = check_branch(&repeated, locals, inner)?;
+    let condition = check_expr(&(&*scope).environment(locals), Position::Value, condition)?;
+    build_do_while(scope.alloc, place.line, inner, condition)
 }
 
 /// `for (first; condition; steps) body`
 #[cycle(statements)]
 #[tactic(auto, unfolding(ash_typing::specs::Statements::for_typed))]
 fn check_for<'n>(
-    alloc: Global,
     scope: &Scope<'_, 'n>,
     locals: &mut Vec<Binding<'n>>,
-    place: Place,
-    first: &'n Stmt,
-    body: &'n Stmt,
-    condition: &Option<Expr>,
-    steps: &[Expr],
+    parts: ForParts<'n>,
 ) -> CheckResult<TypedStmt>
-    ensures typed { Agrees stmt_of result (definition.stmt_typed (scope_of scope.now (locals_of locals.old)) (For place (written.stmt_of first.now) (option_map written.expr_of condition.now) (map written.expr_of steps.now) (written.stmt_of body.now))) }
+    ensures typed { Agrees stmt_of result
+        (definition.stmt_typed (scope_of scope.now (locals_of locals.old))
+        (For parts.entry.place (written.stmt_of parts.entry.first.now)
+        (option_map written.expr_of parts.entry.condition.now)
+        (map written.expr_of parts.entry.steps.now) (written.stmt_of parts.entry.body.now))) }
     ensures unchanged { IfOk result (λ _. locals_of locals.new ≡ locals_of locals.old) }
 {
     let outer = locals.len();
@@ -270,38 +312,45 @@ fn check_for<'n>(
         block_start: outer,
         ..*scope
     };
-    let first = check_for_head(alloc, &head, locals, first)?;
+    let first = check_for_head(&head, locals, parts.first)?;
     let env = head.environment(locals);
-    let condition = check_optional_expr(alloc, &env, condition)?;
-    let steps = check_exprs(&env, alloc, steps)?;
+    let condition = check_optional_expr(&env, parts.condition)?;
+    let steps = check_exprs(&env, parts.steps)?;
     let repeated = Scope {
         in_loop: true,
         ..head
     };
-    let body = check_branch(alloc, &repeated, locals, body)?;
+    let body = check_branch(&repeated, locals, parts.body)?;
     locals.truncate(outer);
-    build_for(alloc, place.line, first, condition, steps, body)
+    let checked = CheckedFor {
+        head: first,
+        condition,
+        steps,
+        body,
+    };
+    build_for(scope.alloc, parts.place.line, checked)
 }
 
 /// `switch (value) { labels }`
 #[cycle(statements)]
 fn check_switch<'n>(
-    alloc: Global,
     scope: &Scope<'_, 'n>,
     locals: &mut Vec<Binding<'n>>,
     place: Place,
-    labels: &'n [Case],
     value: &Expr,
+    labels: &'n [Case],
 ) -> CheckResult<TypedStmt>
-    ensures typed { Agrees stmt_of result (definition.stmt_typed (scope_of scope.now (locals_of locals.old)) (Switch place (written.expr_of value.now) (cases (map written.case_of labels.now)))) }
+    ensures typed { Agrees stmt_of result
+        (definition.stmt_typed (scope_of scope.now (locals_of locals.old))
+        (Switch place (written.expr_of value.now) (cases (map written.case_of labels.now)))) }
     ensures unchanged { IfOk result (λ _. locals_of locals.new ≡ locals_of locals.old) }
 {
-    let value = check_expr(&(&*scope).environment(locals), alloc, false, value)?;
+    let value = check_expr(&(&*scope).environment(locals), Position::Value, value)?;
     let chosen = Scope {
         in_switch: true,
         ..*scope
     };
-    let labels = check_cases(alloc, &chosen, locals, integer_type_in(value.ty), labels)?;
+    let labels = check_cases(&chosen, locals, integer_type_in(value.ty), labels)?;
     let of = integer_type(value.at, value.ty)?;
     Ok(nodes::switch(place.line, of, value.tree, labels))
 }
@@ -309,21 +358,27 @@ fn check_switch<'n>(
 /// Checks labels in their order, with the statements after each.
 #[cycle(statements)]
 fn check_cases<'n>(
-    alloc: Global,
     scope: &Scope<'_, 'n>,
     locals: &mut Vec<Binding<'n>>,
     kind: Option<Kind>,
     labels: &'n [Case],
 ) -> CheckResult<Vec<TypedCase>>
-    ensures typed { Agrees cases_in result (definition.cases_typed (scope_of scope.now (locals_of locals.old)) kind [] (cases (map written.case_of labels.now))) }
+    ensures typed { Agrees cases_in result
+        (definition.cases_typed (scope_of scope.now (locals_of locals.old)) kind []
+        (cases (map written.case_of labels.now))) }
     ensures unchanged { IfOk result (λ _. locals_of locals.new ≡ locals_of locals.old) }
 {
-    let mut typed = Vec::with_capacity(alloc, labels.len())?;
-    let mut before = Vec::with_capacity(alloc, labels.len())?;
+    let mut typed = Vec::with_capacity(scope.alloc, labels.len())?;
+    let mut before = Vec::with_capacity(scope.alloc, labels.len())?;
     for (i, case) in labels.iter().enumerate() {
         let last = is_last(labels, i);
-        let known = check_label(kind, &before, last, case.place.at, case.label)?;
-        let body = check_block(alloc, scope, locals, &case.body)?;
+        let context = LabelContext {
+            kind,
+            before: &before,
+            is_last: last,
+        };
+        let known = check_label(context, case.place.at, case.label)?;
+        let body = check_block(scope, locals, &case.body)?;
         before.push(case.label)?;
         typed.push(nodes::case(known, body))?;
     }

@@ -78,6 +78,14 @@ pub(crate) fn is_last(labels: &[Case], i: usize) -> bool
     i + 1 == labels.len()
 }
 
+/// What a label is checked against: the integer type of the value, where it has one, and the other labels.
+#[derive(Clone, Copy)]
+pub(crate) struct LabelContext<'a> {
+    pub(crate) kind: Option<Kind>,
+    pub(crate) before: &'a [Label],
+    pub(crate) is_last: bool,
+}
+
 /// The constant of a label at this offset, after the labels before it.
 #[tactic(auto, unfolding(ash_typing::specs::Switches::constant_typed))]
 fn check_constant(kind: Option<Kind>, before: &[Label], at: usize, label: Label) -> CheckResult<Label>
@@ -95,21 +103,21 @@ fn check_constant(kind: Option<Kind>, before: &[Label], at: usize, label: Label)
 /// A label at this offset: `default` has to be the last one.
 #[tactic(auto, unfolding(ash_typing::specs::Switches::label_typed))]
 pub(crate) fn check_label(
-    kind: Option<Kind>,
-    before: &[Label],
-    is_last: bool,
+    context: LabelContext,
     at: usize,
     label: Label,
 ) -> CheckResult<Label>
-    ensures { Agrees (λ l. l) result (definition.label_typed kind before.now is_last at label) }
+    ensures { Agrees (λ l. l) result
+        (definition.label_typed context.entry.kind context.entry.before.now context.entry.is_last at
+        label) }
 {
     match label {
         Label::Default => {
-            if !is_last {
+            if !context.is_last {
                 return Err(fault_at(Rule::Misplaced, at));
             }
             Ok(label)
         }
-        _ => check_constant(kind, before, at, label),
+        _ => check_constant(context.kind, context.before, at, label),
     }
 }

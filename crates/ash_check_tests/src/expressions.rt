@@ -4,8 +4,8 @@
 use crate::sources::{Question, check_rows, printed, tree_of};
 use ash_check::CheckFault;
 use ash_expressions::{
-    Binding, ClassSignature, Environment, FunctionSignature, InterfaceSignature, Signatures,
-    TypedExpr, check_expr,
+    Binding, ClassSignature, Environment, FunctionSignature, InterfaceSignature, Position,
+    Signatures, TypedExpr, check_expr,
 };
 use ash_registrations::Registrations;
 use ash_tree as written;
@@ -143,12 +143,13 @@ fn check_value(alloc: Global, value: &written::Expr) -> Result<TypedExpr, String
     };
     let registry = Registrations::new(alloc);
     let env = Environment {
+        alloc,
         signatures: &signatures,
         registry: &registry,
         this: None,
         locals: &[],
     };
-    match check_expr(&env, alloc, false, value) {
+    match check_expr(&env, Position::Value, value) {
         Ok(typed) => Ok(typed),
         Err(error) => Err(printed(alloc, &CheckFault::from(error))),
     }

@@ -1,10 +1,12 @@
 -- The checker's structs, as the definitions of typing see them.
-use Rattle.std.specs.Prelude.{ℕ, List, [], ◌∷◌, Option, Some, None, map, option_map}
+use Rattle.std.specs.Prelude.{ℕ, List, [], ◌∷◌, Bool, true, false, Option, Some, None, map, option_map}
 use Rattle.ash_expressions.specs.declared.typed_expr.TypedExpr as typed_expr
-use Rattle.ash_expressions.specs.declared.environment.Binding as binding
-use Rattle.ash_expressions.specs.declared.environment.FunctionSignature as function
-use Rattle.ash_expressions.specs.declared.environment.InterfaceSignature as interface
-use Rattle.ash_expressions.specs.declared.environment.ClassSignature as class
+use Rattle.ash_expressions.specs.declared.forms.Position.{Position}
+use Rattle.ash_expressions.specs.declared.forms.Position.TheVariants as positions
+use Rattle.ash_expressions.specs.declared.signatures.Binding as binding
+use Rattle.ash_expressions.specs.declared.signatures.FunctionSignature as function
+use Rattle.ash_expressions.specs.declared.signatures.InterfaceSignature as interface
+use Rattle.ash_expressions.specs.declared.signatures.ClassSignature as class
 use Rattle.ash_expressions.specs.declared.signatures.Signatures as signatures
 use Rattle.ash_expressions.specs.declared.environment.Environment as environment
 use Rattle.ash_registrations.specs.Registered.{registered}
@@ -13,10 +15,10 @@ use Rattle.std.specs.declared.alloc.Global.{Global}
 use Rattle.ash_typed.specs.Tree.{Exprs, exprs}
 use Rattle.ash_typed.specs.Views.{expr_of}
 use Rattle.std.specs.Borrow.{Bor}
-use Rattle.ash_expressions.specs.declared.environment.Parameters as parameters
-use Rattle.ash_expressions.specs.declared.environment.Parameters.TheVariants as the_parameters
-use Rattle.ash_expressions.specs.declared.environment.Callee as callee
-use Rattle.ash_expressions.specs.declared.environment.MethodCallee as method_callee
+use Rattle.ash_expressions.specs.declared.parameters.Parameters as parameters
+use Rattle.ash_expressions.specs.declared.parameters.Parameters.TheVariants as the_parameters
+use Rattle.ash_expressions.specs.declared.callees.Callee as callee
+use Rattle.ash_expressions.specs.declared.callees.MethodCallee as method_callee
 use Rattle.ash_expressions.specs.declared.operators.UnifiedOperands as unified
 use Rattle.ash_typing.specs.declared.types.Ty.{Ty}
 use Rattle.ash_typed.specs.declared.tree.expressions.Expr as expr_code
@@ -62,6 +64,11 @@ placed_interface found = (found.0, interface_signature_of found.1.now)
 
 abbrev pub placed_class : ℕ × Bor class.ClassSignature → ℕ × Class
 placed_class found = (found.0, class_signature_of found.1.now)
+
+-- whether an expression is left of `=`
+abbrev pub is_target : Position → Bool
+is_target positions.Target = true
+is_target positions.Value = false
 
 abbrev pub known_of : expr_code.Expr × Ty → Known
 known_of known = (expr_of known.0, known.1)

@@ -9,8 +9,9 @@ ghost use Rattle.ash_typing.specs.Expressions as typing;
 ghost use Rattle.ash_expressions.specs.Agreement.{Agrees};
 ghost use Rattle.ash_expressions.specs.Views.{typed_of, callee_of, method_callee_of, parameters_of};
 
-use crate::environment::{Callee, MethodCallee, Parameters};
+use crate::callees::{Callee, MethodCallee};
 use crate::error::{CheckResult, fault_at};
+use crate::parameters::Parameters;
 use crate::typed_expr::{TypedExpr, coerce, integer_type};
 use crate::types::ty_of_element;
 use ash_typed::{ArrayMethod, Element, Expr, Kind, Method, ObjectType, Target, nodes};
@@ -67,7 +68,8 @@ fn build_element(alloc: Global, array: TypedExpr, index: TypedExpr, ty: Ty, of: 
 }
 
 fn build_object_index(alloc: Global, array: TypedExpr, index: TypedExpr, object: ObjectType) -> CheckResult<TypedExpr>
-    ensures { Agrees typed_of result (typing.indexed_object (typed_of array) (typed_of index) object) }
+    ensures { Agrees typed_of result
+        (typing.indexed_object (typed_of array) (typed_of index) object) }
 {
     match object {
         ObjectType::Array(of) => build_element(alloc, array, index, ty_of_element(of), of),
@@ -89,7 +91,10 @@ pub(crate) fn build_index(alloc: Global, array: TypedExpr, index: TypedExpr) -> 
 
 /// The method of arrays that has this name.
 fn array_method(name: &str) -> Option<ArrayMethod>
-    ensures { result ≡ find (environment.is_array_method name.now) (arrays.Length ∷ arrays.Resize ∷ arrays.InsertLast ∷ arrays.RemoveLast ∷ arrays.IsEmpty ∷ []) }
+    ensures { result
+        ≡ find (environment.is_array_method name.now)
+        (arrays.Length ∷ arrays.Resize ∷ arrays.InsertLast ∷ arrays.RemoveLast ∷ arrays.IsEmpty
+        ∷ []) }
 {
     if name == "length" {
         Some(ArrayMethod::Length)

@@ -7,32 +7,36 @@ ghost use Rattle.ash_typing.specs.Checking.{◌>>=◌ as ◌and_then◌};
 ghost use Rattle.ash_typing.specs.Heads.{object_named};
 ghost use Rattle.ash_typing.specs.Expressions as typing;
 ghost use Rattle.ash_expressions.specs.Agreement.{Agrees};
-ghost use Rattle.ash_expressions.specs.Views.{typed_of, all_typed_of, environment_of, classes_of};
+ghost use Rattle.ash_expressions.specs.Views.{typed_of, all_typed_of, environment_of, classes_of, is_target};
 
 use crate::arrays::{array_callee, build_index, check_element_type};
 use crate::calls::{
-    build_brackets, build_call, build_field, build_method_call, callee_named, check_name,
-    check_this, find_method,
+    Arguments, Name, build_brackets, build_call, build_field, build_method_call, callee_named,
+    check_name, check_this, find_method,
 };
 use crate::environment::Environment;
 use crate::error::CheckResult;
+use crate::forms::{Position, target_position};
 use crate::operators::{
-    build_assignment, build_binary, build_cast, build_conditional, build_conversion, build_step,
-    build_unary, cast_target,
+    Prefix, build_assignment, build_binary, build_cast, build_conditional, build_conversion,
+    build_step, build_unary, cast_target,
 };
 use crate::type_names::{element_named, object_named};
 use crate::typed_expr::TypedExpr;
-use crate::types::is_assign;
-use ash_tree::{AssignOp, Element, Expr, ExprKind, Link, Primitive, Suffix, TypeName, UnaryOp};
+use ash_tree::{AssignOp, Element, Expr, ExprKind, Link, Primitive, Suffix, TypeName};
 use ash_typed::{Expr as Tree, Step};
 use ash_typing::Ty;
-use std::alloc::Global;
 
-/// Checks an expression; `left` is whether it is left of `=`. An expression with parts is checked by a function of its
-/// own, so that the frame of this one, which each level pays for, stays small.
+/// Checks an expression. One with parts is checked by a function of its own, so that the frame of this one, which each
+/// level pays for, stays small.
 #[cycle(expressions)]
-pub fn check_expr(env: &Environment, alloc: Global, left: bool, source: &Expr) -> CheckResult<TypedExpr>
-    ensures { Agrees typed_of result (typing.typed (environment_of env.now) left (written.expr_of source.now)) }
+pub fn check_expr(
+    env: &Environment,
+    position: Position,
+    source: &Expr,
+) -> CheckResult<TypedExpr>
+    ensures { Agrees typed_of result
+        (typing.typed (environment_of env.now) (is_target position) (written.expr_of source.now)) }
 {
     let at = source.place.at;
     match &source.kind {
@@ -40,35 +44,46 @@ pub fn check_expr(env: &Environment, alloc: Global, left: bool, source: &Expr) -
         ExprKind::Bool(value) => Ok(TypedExpr::value(at, Ty::Bool, Tree::Bool(*value))),
         ExprKind::Null => Ok(TypedExpr::value(at, Ty::Null, Tree::Null)),
         ExprKind::This => check_this(at, env.this),
-        ExprKind::Name(name) => check_name(env, alloc, at, name.as_str()),
-        ExprKind::Call { name, arguments } => check_call(env, alloc, at, name.as_str(), arguments),
-        ExprKind::Brackets(inner) => check_brackets(env, alloc, at, inner),
-        ExprKind::Convert { to, value } => check_conversion(env, alloc, at, *to, value),
-        ExprKind::NewArray { of, arguments } => check_new_array(env, alloc, at, of, arguments),
-        ExprKind::Cast { to, value } => check_cast(env, alloc, at, to, value),
-        ExprKind::Postfix { operand, suffixes } => check_postfix(env, alloc, operand, suffixes),
-        ExprKind::Unary { operator, operand } => check_unary(env, alloc, left, at, *operator, operand),
-        ExprKind::Binary { first, links } => check_binary(env, alloc, first, links),
+        ExprKind::Name(name) => check_name(env, Name { at, text: name.as_str() }),
+        ExprKind::Call { name, arguments } => {
+            check_call(env, Name { at, text: name.as_str() }, arguments)
+        }
+        ExprKind::Brackets(inner) => check_brackets(env, at, inner),
+        ExprKind::Convert { to, value } => check_conversion(env, at, *to, value),
+        ExprKind::NewArray { of, arguments } => check_new_array(env, at, of, arguments),
+        ExprKind::Cast { to, value } => check_cast(env, at, to, value),
+        ExprKind::Postfix { operand, suffixes } => check_postfix(env, operand, suffixes),
+        ExprKind::Unary { operator, operand } => {
+            let prefix = Prefix {
+                at,
+                operator: *operator,
+                position,
+            };
+            check_unary(env, prefix, operand)
+        }
+        ExprKind::Binary { first, links } => check_binary(env, first, links),
         ExprKind::Conditional {
             condition,
             then,
             otherwise,
-        } => check_conditional(env, alloc, condition, then, otherwise),
+        } => check_conditional(env, condition, then, otherwise),
         ExprKind::Assign {
             target,
             operator,
             value,
-        } => check_assignment(env, alloc, target, *operator, value),
+        } => check_assignment(env, target, *operator, value),
     }
 }
 
 /// `(inner)`
 #[cycle(expressions)]
 #[inline(never)]
-fn check_brackets(env: &Environment, alloc: Global, at: usize, inner: &Expr) -> CheckResult<TypedExpr>
-    ensures { Agrees typed_of result (typing.typed (environment_of env.now) false (written.expr_of inner.now) and_then λ t. Ok (typing.in_brackets at t)) }
+fn check_brackets(env: &Environment, at: usize, inner: &Expr) -> CheckResult<TypedExpr>
+    ensures { Agrees typed_of result
+        (typing.typed (environment_of env.now) false (written.expr_of inner.now)
+        and_then λ t. Ok (typing.in_brackets at t)) }
 {
-    let inner = check_expr(env, alloc, false, inner)?;
+    let inner = check_expr(env, Position::Value, inner)?;
     Ok(build_brackets(at, inner))
 }
 
@@ -77,27 +92,33 @@ fn check_brackets(env: &Environment, alloc: Global, at: usize, inner: &Expr) -> 
 #[inline(never)]
 fn check_conversion(
     env: &Environment,
-    alloc: Global,
     at: usize,
     to: Primitive,
     value: &Expr,
 ) -> CheckResult<TypedExpr>
-    ensures { Agrees typed_of result (typing.typed (environment_of env.now) false (written.expr_of value.now) and_then λ t. typing.convert_at at to t) }
+    ensures { Agrees typed_of result
+        (typing.typed (environment_of env.now) false (written.expr_of value.now)
+        and_then λ t. typing.convert_at at to t) }
 {
-    let value = check_expr(env, alloc, false, value)?;
-    build_conversion(alloc, at, to, value)
+    let value = check_expr(env, Position::Value, value)?;
+    build_conversion(env.alloc, at, to, value)
 }
 
 /// `cast<to>(value)`
 #[cycle(expressions)]
 #[inline(never)]
-fn check_cast(env: &Environment, alloc: Global, at: usize, to: &TypeName, value: &Expr) -> CheckResult<TypedExpr>
-    ensures { Agrees typed_of result (typing.cast_type to.now.place.at (object_named (environment_of env.now).registered (environment_of env.now).heads (written.type_name_of to.now).name) and_then λ o. typing.typed (environment_of env.now) false (written.expr_of value.now) and_then λ t. typing.cast_at at o t) }
+fn check_cast(env: &Environment, at: usize, to: &TypeName, value: &Expr) -> CheckResult<TypedExpr>
+    ensures { Agrees typed_of result
+        (typing.cast_type to.now.place.at
+        (object_named (environment_of env.now).registered (environment_of env.now).heads
+        (written.type_name_of to.now).name)
+        and_then λ o. typing.typed (environment_of env.now) false (written.expr_of value.now)
+        and_then λ t. typing.cast_at at o t) }
 {
     let object = object_named(env.registry, env.signatures, to.name.as_str());
     let to = cast_target(to.place.at, object)?;
-    let value = check_expr(env, alloc, false, value)?;
-    build_cast(alloc, at, to, value)
+    let value = check_expr(env, Position::Value, value)?;
+    build_cast(env.alloc, at, to, value)
 }
 
 /// `array<of>(arguments)`
@@ -105,47 +126,50 @@ fn check_cast(env: &Environment, alloc: Global, at: usize, to: &TypeName, value:
 #[inline(never)]
 fn check_new_array(
     env: &Environment,
-    alloc: Global,
     at: usize,
     of: &Element,
     arguments: &[Expr],
 ) -> CheckResult<TypedExpr>
-    ensures { Agrees typed_of result (typing.array_typed (environment_of env.now) at (written.element_of of.now) (typing.all_typed (environment_of env.now) (exprs (map written.expr_of arguments.now)))) }
+    ensures { Agrees typed_of result
+        (typing.array_typed (environment_of env.now) at (written.element_of of.now)
+        (typing.all_typed (environment_of env.now) (exprs (map written.expr_of arguments.now)))) }
 {
     let element = element_named(env.registry, env.signatures, of);
     let element = check_element_type(of.place.at, element)?;
-    let typed = check_exprs(env, alloc, arguments)?;
-    let callee = array_callee(element, typed.len());
-    build_call(env, alloc, at, &callee, typed)
+    let exprs = check_exprs(env, arguments)?;
+    let callee = array_callee(element, exprs.len());
+    build_call(env, &callee, Arguments { at, exprs })
 }
 
-/// An operator before its operand; `left` is whether it is left of `=`.
+/// An operator before its operand.
 #[cycle(expressions)]
 #[inline(never)]
 fn check_unary(
     env: &Environment,
-    alloc: Global,
-    left: bool,
-    at: usize,
-    operator: UnaryOp,
+    prefix: Prefix,
     operand: &Expr,
 ) -> CheckResult<TypedExpr>
-    ensures { Agrees typed_of result (typing.typed (environment_of env.now) false (written.expr_of operand.now) and_then λ t. typing.unary_at left at operator t) }
+    ensures { Agrees typed_of result
+        (typing.typed (environment_of env.now) false (written.expr_of operand.now)
+        and_then λ t. typing.unary_at (is_target prefix.position) prefix.at prefix.operator t) }
 {
-    let operand = check_expr(env, alloc, false, operand)?;
-    build_unary(alloc, left, at, operator, operand)
+    let operand = check_expr(env, Position::Value, operand)?;
+    build_unary(env.alloc, prefix, operand)
 }
 
 /// Operators of one level, from left to right.
 #[cycle(expressions)]
 #[inline(never)]
-fn check_binary(env: &Environment, alloc: Global, first: &Expr, operators: &[Link]) -> CheckResult<TypedExpr>
-    ensures { Agrees typed_of result (typing.typed (environment_of env.now) false (written.expr_of first.now) and_then λ t. typing.links_typed (environment_of env.now) t (links (map written.operation_of operators.now))) }
+fn check_binary(env: &Environment, first: &Expr, operators: &[Link]) -> CheckResult<TypedExpr>
+    ensures { Agrees typed_of result
+        (typing.typed (environment_of env.now) false (written.expr_of first.now)
+        and_then λ t. typing.links_typed (environment_of env.now) t
+        (links (map written.operation_of operators.now))) }
 {
-    let mut typed = check_expr(env, alloc, false, first)?;
+    let mut typed = check_expr(env, Position::Value, first)?;
     for link in operators {
-        let operand = check_expr(env, alloc, false, &link.operand)?;
-        typed = build_binary(alloc, link.operator, typed, operand)?;
+        let operand = check_expr(env, Position::Value, &link.operand)?;
+        typed = build_binary(env.alloc, link.operator, typed, operand)?;
     }
     Ok(typed)
 }
@@ -155,17 +179,20 @@ fn check_binary(env: &Environment, alloc: Global, first: &Expr, operators: &[Lin
 #[inline(never)]
 fn check_conditional(
     env: &Environment,
-    alloc: Global,
     condition: &Expr,
     then: &Expr,
     otherwise: &Expr,
 ) -> CheckResult<TypedExpr>
-    ensures { Agrees typed_of result (typing.typed (environment_of env.now) false (written.expr_of condition.now) and_then λ c. typing.typed (environment_of env.now) false (written.expr_of then.now) and_then λ a. typing.typed (environment_of env.now) false (written.expr_of otherwise.now) and_then λ b. typing.choice c a b) }
+    ensures { Agrees typed_of result
+        (typing.typed (environment_of env.now) false (written.expr_of condition.now)
+        and_then λ c. typing.typed (environment_of env.now) false (written.expr_of then.now)
+        and_then λ a. typing.typed (environment_of env.now) false (written.expr_of otherwise.now)
+        and_then λ b. typing.choice c a b) }
 {
-    let condition = check_expr(env, alloc, false, condition)?;
-    let then = check_expr(env, alloc, false, then)?;
-    let otherwise = check_expr(env, alloc, false, otherwise)?;
-    build_conditional(alloc, condition, then, otherwise)
+    let condition = check_expr(env, Position::Value, condition)?;
+    let then = check_expr(env, Position::Value, then)?;
+    let otherwise = check_expr(env, Position::Value, otherwise)?;
+    build_conditional(env.alloc, condition, then, otherwise)
 }
 
 /// `target operator value`
@@ -173,16 +200,19 @@ fn check_conditional(
 #[inline(never)]
 fn check_assignment(
     env: &Environment,
-    alloc: Global,
     target: &Expr,
     operator: AssignOp,
     value: &Expr,
 ) -> CheckResult<TypedExpr>
-    ensures { Agrees typed_of result (typing.typed (environment_of env.now) (typing.is_assign operator) (written.expr_of target.now) and_then λ t. typing.typed (environment_of env.now) false (written.expr_of value.now) and_then λ v. typing.assigned (classes_of env.now) t operator v) }
+    ensures { Agrees typed_of result
+        (typing.typed (environment_of env.now) (typing.is_assign operator)
+        (written.expr_of target.now)
+        and_then λ t. typing.typed (environment_of env.now) false (written.expr_of value.now)
+        and_then λ v. typing.assigned (classes_of env.now) t operator v) }
 {
-    let target = check_expr(env, alloc, is_assign(operator), target)?;
-    let value = check_expr(env, alloc, false, value)?;
-    build_assignment(env, alloc, target, operator, value)
+    let target = check_expr(env, target_position(operator), target)?;
+    let value = check_expr(env, Position::Value, value)?;
+    build_assignment(env, target, operator, value)
 }
 
 /// `name(arguments)`
@@ -190,26 +220,28 @@ fn check_assignment(
 #[inline(never)]
 fn check_call(
     env: &Environment,
-    alloc: Global,
-    at: usize,
-    name: &str,
+    name: Name,
     arguments: &[Expr],
 ) -> CheckResult<TypedExpr>
-    ensures { Agrees typed_of result (typing.call_typed (environment_of env.now) at name.now (typing.all_typed (environment_of env.now) (exprs (map written.expr_of arguments.now)))) }
+    ensures { Agrees typed_of result
+        (typing.call_typed (environment_of env.now) name.entry.at name.entry.text.now
+        (typing.all_typed (environment_of env.now) (exprs (map written.expr_of arguments.now)))) }
 {
-    let callee = callee_named(env, at, name)?;
-    let typed = check_exprs(env, alloc, arguments)?;
-    build_call(env, alloc, at, &callee, typed)
+    let callee = callee_named(env, name)?;
+    let exprs = check_exprs(env, arguments)?;
+    let arguments = Arguments { at: name.at, exprs };
+    build_call(env, &callee, arguments)
 }
 
 /// Checks expressions in their order.
 #[cycle(expressions)]
-pub fn check_exprs(env: &Environment, alloc: Global, arguments: &[Expr]) -> CheckResult<Vec<TypedExpr>>
-    ensures { Agrees all_typed_of result (typing.all_typed (environment_of env.now) (exprs (map written.expr_of arguments.now))) }
+pub fn check_exprs(env: &Environment, arguments: &[Expr]) -> CheckResult<Vec<TypedExpr>>
+    ensures { Agrees all_typed_of result
+        (typing.all_typed (environment_of env.now) (exprs (map written.expr_of arguments.now))) }
 {
-    let mut typed = Vec::with_capacity(alloc, arguments.len())?;
+    let mut typed = Vec::with_capacity(env.alloc, arguments.len())?;
     for argument in arguments {
-        typed.push(check_expr(env, alloc, false, argument)?)?;
+        typed.push(check_expr(env, Position::Value, argument)?)?;
     }
     Ok(typed)
 }
@@ -217,56 +249,67 @@ pub fn check_exprs(env: &Environment, alloc: Global, arguments: &[Expr]) -> Chec
 /// An operand with its suffixes, from left to right.
 #[cycle(expressions)]
 #[inline(never)]
-fn check_postfix(env: &Environment, alloc: Global, operand: &Expr, rest: &[Suffix]) -> CheckResult<TypedExpr>
-    ensures { Agrees typed_of result (typing.typed (environment_of env.now) false (written.expr_of operand.now) and_then λ t. typing.suffixes_typed (environment_of env.now) t (suffixes (map written.suffix_of rest.now))) }
+fn check_postfix(env: &Environment, operand: &Expr, rest: &[Suffix]) -> CheckResult<TypedExpr>
+    ensures { Agrees typed_of result
+        (typing.typed (environment_of env.now) false (written.expr_of operand.now)
+        and_then λ t. typing.suffixes_typed (environment_of env.now) t
+        (suffixes (map written.suffix_of rest.now))) }
 {
-    let mut typed = check_expr(env, alloc, false, operand)?;
+    let mut typed = check_expr(env, Position::Value, operand)?;
     for suffix in rest {
-        typed = check_suffix(env, alloc, typed, suffix)?;
+        typed = check_suffix(env, typed, suffix)?;
     }
     Ok(typed)
 }
 
 #[cycle(expressions)]
-fn check_suffix(env: &Environment, alloc: Global, base: TypedExpr, suffix: &Suffix) -> CheckResult<TypedExpr>
-    ensures { Agrees typed_of result (typing.suffix_typed (environment_of env.now) (typed_of base) (written.suffix_of suffix.now)) }
+fn check_suffix(env: &Environment, base: TypedExpr, suffix: &Suffix) -> CheckResult<TypedExpr>
+    ensures { Agrees typed_of result
+        (typing.suffix_typed (environment_of env.now) (typed_of base)
+        (written.suffix_of suffix.now)) }
 {
     match suffix {
-        Suffix::Field { place, name } => build_field(env, alloc, base, place.at, name.as_str()),
+        Suffix::Field { place, name } => {
+            build_field(env, base, Name { at: place.at, text: name.as_str() })
+        }
         Suffix::Method {
             place,
             name,
             arguments,
-        } => check_method_call(env, alloc, base, place.at, name.as_str(), arguments),
-        Suffix::Index(value) => check_index(env, alloc, base, value),
-        Suffix::Increment => build_step(alloc, base.at, Step::IncrementAfter, base),
-        Suffix::Decrement => build_step(alloc, base.at, Step::DecrementAfter, base),
+        } => check_method_call(env, base, Name { at: place.at, text: name.as_str() }, arguments),
+        Suffix::Index(value) => check_index(env, base, value),
+        Suffix::Increment => build_step(env.alloc, base.at, Step::IncrementAfter, base),
+        Suffix::Decrement => build_step(env.alloc, base.at, Step::DecrementAfter, base),
     }
 }
 
 /// `base[value]`
 #[cycle(expressions)]
 #[inline(never)]
-fn check_index(env: &Environment, alloc: Global, base: TypedExpr, value: &Expr) -> CheckResult<TypedExpr>
-    ensures { Agrees typed_of result (typing.typed (environment_of env.now) false (written.expr_of value.now) and_then λ i. typing.indexed (typed_of base) base.ty i) }
+fn check_index(env: &Environment, base: TypedExpr, value: &Expr) -> CheckResult<TypedExpr>
+    ensures { Agrees typed_of result
+        (typing.typed (environment_of env.now) false (written.expr_of value.now)
+        and_then λ i. typing.indexed (typed_of base) base.ty i) }
 {
-    let value = check_expr(env, alloc, false, value)?;
-    build_index(alloc, base, value)
+    let value = check_expr(env, Position::Value, value)?;
+    build_index(env.alloc, base, value)
 }
 
 /// `base.name(arguments)`
 #[cycle(expressions)]
 fn check_method_call(
     env: &Environment,
-    alloc: Global,
     base: TypedExpr,
-    at: usize,
-    name: &str,
+    name: Name,
     arguments: &[Expr],
 ) -> CheckResult<TypedExpr>
-    ensures { Agrees typed_of result (typing.invocation_typed (environment_of env.now) (typed_of base) at name.now (typing.all_typed (environment_of env.now) (exprs (map written.expr_of arguments.now)))) }
+    ensures { Agrees typed_of result
+        (typing.invocation_typed (environment_of env.now) (typed_of base) name.entry.at
+        name.entry.text.now
+        (typing.all_typed (environment_of env.now) (exprs (map written.expr_of arguments.now)))) }
 {
-    let method = find_method(env, &base, at, name)?;
-    let typed = check_exprs(env, alloc, arguments)?;
-    build_method_call(env, alloc, base, at, typed, method)
+    let method = find_method(env, &base, name)?;
+    let exprs = check_exprs(env, arguments)?;
+    let arguments = Arguments { at: name.at, exprs };
+    build_method_call(env, base, method, arguments)
 }

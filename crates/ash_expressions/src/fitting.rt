@@ -4,7 +4,7 @@ ghost use Rattle.std.specs.Prelude.{◌≡◌, map};
 ghost use Rattle.ash_typing.specs.Fitting as fitting;
 ghost use Rattle.ash_expressions.specs.Views.{class_signature_of};
 
-use crate::environment::ClassSignature;
+use crate::signatures::ClassSignature;
 use crate::types::is_same_object;
 use ash_typed::ObjectType;
 use ash_typing::Ty;

@@ -4,7 +4,7 @@ ghost use Rattle.std.specs.Prelude.{◌≡◌, map, slice_get, IfOk};
 ghost use Rattle.std.specs.Option.{option_copied};
 ghost use Rattle.ash_expressions.specs.NameIndex.{IsNameIndex, texts};
 
-use crate::environment::{Binding, ClassSignature, FunctionSignature, InterfaceSignature};
+use crate::signatures::{Binding, ClassSignature, FunctionSignature, InterfaceSignature};
 use indexmap::IndexMap;
 use std::alloc::{AllocError, Global};
 

@@ -6,19 +6,19 @@ ghost use Rattle.ash_typed.specs.Views.{expr_of, place_of};
 ghost use Rattle.ash_typing.specs.Terms as terms;
 ghost use Rattle.ash_typing.specs.Expressions as typing;
 ghost use Rattle.ash_expressions.specs.Agreement.{Agrees};
-ghost use Rattle.ash_expressions.specs.Views.{typed_of, unified_of, classes_of};
+ghost use Rattle.ash_expressions.specs.Views.{typed_of, unified_of, classes_of, is_target};
 
 use crate::environment::Environment;
 use crate::error::{CheckResult, fault_at};
+use crate::forms::{Position, assignable_place, handle_form, is_assignable_form};
+use crate::operator_types::{
+    accepts, assign_calculator, assumed_type, calculator_operator, common_operands,
+    operand_integer_type, operand_type, operator_result, operator_sort, typed_operator,
+};
 use crate::typed_expr::{
-    TypedExpr, adapt_operand, assignable_place, check_bool, coerce, coerce_for_assignment,
-    handle_type, integer_type,
+    TypedExpr, adapt_operand, check_bool, coerce, coerce_for_assignment, handle_type, integer_type,
 };
-use crate::types::{
-    accepts, assign_calculator, assumed_type, calculator_operator, common_operands, common_type,
-    conversion, handle_form, is_assignable_form, is_void, operand_integer_type, operand_type,
-    operator_result, operator_sort, signed_type, ty_of, typed_operator,
-};
+use crate::types::{common_type, conversion, is_void, signed_type, ty_of};
 use ash_tree::{AssignOp, BinaryOp, Primitive, UnaryOp};
 use ash_typed::{
     Calculation, Calculator, Change, Expr, Kind, Lazy, ObjectType, Operand, Operands, Operation,
@@ -26,6 +26,22 @@ use ash_typed::{
 };
 use ash_typing::{Operator, Rule, Sort, Ty};
 use std::alloc::{AllocError, Global};
+
+/// An operator before its operand, at the offset of the operator.
+#[derive(Clone, Copy)]
+pub(crate) struct Prefix {
+    pub(crate) at: usize,
+    pub(crate) operator: UnaryOp,
+    pub(crate) position: Position,
+}
+
+/// What is assigned to: a place of a type, at the offset of its first token.
+#[derive(Drop)]
+struct Destination {
+    at: usize,
+    of: Ty,
+    place: Place,
+}
 
 /// The operands of an operator, converted to one type, and what the operator takes them for.
 #[derive(Drop)]
@@ -36,7 +52,8 @@ pub(crate) struct UnifiedOperands {
 }
 
 fn right_operand(alloc: Global, sort: Sort, operands: Operands, right: TypedExpr) -> CheckResult<Expr>
-    ensures { Agrees expr_of result (Ok (terms.right_by sort operands (typing.term_of (typed_of right)))) }
+    ensures { Agrees expr_of result
+        (Ok (terms.right_by sort operands (typing.term_of (typed_of right)))) }
 {
     match sort {
         Sort::Shift => Ok(right.tree),
@@ -89,7 +106,10 @@ fn operation_tree(
     left: TypedExpr,
     right: Expr,
 ) -> Result<Expr, AllocError>
-    ensures { IfOk result (λ e. expr_of e ≡ Operate operation (typing.brought (terms.operand_type operands) (typed_of left)) (expr_of right)) }
+    ensures { IfOk result
+        (λ e. expr_of e
+        ≡ Operate operation (typing.brought (terms.operand_type operands) (typed_of left))
+        (expr_of right)) }
 {
     let next = Operand {
         before: conversion(operand_type(operands), left.ty),
@@ -107,7 +127,10 @@ fn lazy_tree(
     left: TypedExpr,
     right: Expr,
 ) -> Result<Expr, AllocError>
-    ensures { IfOk result (λ e. expr_of e ≡ Lazily operator (typing.brought (terms.operand_type operands) (typed_of left)) (expr_of right)) }
+    ensures { IfOk result
+        (λ e. expr_of e
+        ≡ Lazily operator (typing.brought (terms.operand_type operands) (typed_of left))
+        (expr_of right)) }
 {
     let left = coerce(alloc, operand_type(operands), left)?;
     nodes::lazily(alloc, operator, left, right)
@@ -121,7 +144,10 @@ fn operator_tree(
     left: TypedExpr,
     right: Expr,
 ) -> Result<Expr, AllocError>
-    ensures { IfOk result (λ e. expr_of e ≡ terms.applied operator operands (typing.brought (terms.operand_type operands) (typed_of left)) (expr_of right)) }
+    ensures { IfOk result
+        (λ e. expr_of e
+        ≡ terms.applied operator operands
+        (typing.brought (terms.operand_type operands) (typed_of left)) (expr_of right)) }
 {
     match typed_operator(operator) {
         Operator::Calculate(operator) => {
@@ -163,7 +189,9 @@ pub(crate) fn build_binary(
 /// `++` or `--` at a place.
 #[tactic(auto, unfolding(ash_typing::specs::Expressions::counted))]
 pub(crate) fn build_step(alloc: Global, at: usize, step: Step, operand: TypedExpr) -> CheckResult<TypedExpr>
-    ensures { Agrees typed_of result (typing.counted at step (typed_of operand) (terms.assignable operand.form (expr_of operand.tree))) }
+    ensures { Agrees typed_of result
+        (typing.counted at step (typed_of operand)
+        (terms.assignable operand.form (expr_of operand.tree))) }
 {
     let Some(place) = assignable_place(alloc, operand.form, operand.tree)? else {
         return Err(fault_at(Rule::NotAssignable, operand.at));
@@ -188,38 +216,42 @@ fn build_integer(alloc: Global, at: usize, kind: Kind, operand: TypedExpr) -> Ch
 }
 
 fn build_change(alloc: Global, at: usize, of: Ty, change: Change, operand: TypedExpr) -> CheckResult<TypedExpr>
-    ensures { Agrees typed_of result (Ok (typing.made at of (Alter change (expr_of operand.tree)))) }
+    ensures { Agrees typed_of result
+        (Ok (typing.made at of (Alter change (expr_of operand.tree)))) }
 {
     Ok(TypedExpr::value(at, of, nodes::alter(alloc, change, operand.tree)?))
 }
 
-fn build_handle(left: bool, at: usize, operand: TypedExpr) -> CheckResult<TypedExpr>
-    ensures { Agrees typed_of result (typing.handle_at left at (typed_of operand)) }
+/// `@operand`
+fn build_handle(position: Position, at: usize, operand: TypedExpr) -> CheckResult<TypedExpr>
+    ensures { Agrees typed_of result (typing.handle_at (is_target position) at (typed_of operand)) }
 {
-    if left {
-        return Ok(TypedExpr {
+    match position {
+        Position::Target => Ok(TypedExpr {
             at,
             ty: operand.ty,
             form: handle_form(operand.form),
             tree: operand.tree,
-        });
+        }),
+        Position::Value => {
+            let of = handle_type(operand.at, operand.ty)?;
+            Ok(TypedExpr::value(at, of, operand.tree))
+        }
     }
-    let of = handle_type(operand.at, operand.ty)?;
-    Ok(TypedExpr::value(at, of, operand.tree))
 }
 
-/// An operator before its operand; `left` is whether it is left of `=`.
+/// An operator before its operand.
 #[tactic(auto, unfolding(ash_typing::specs::Expressions::unary_at))]
 pub(crate) fn build_unary(
     alloc: Global,
-    left: bool,
-    at: usize,
-    operator: UnaryOp,
+    prefix: Prefix,
     operand: TypedExpr,
 ) -> CheckResult<TypedExpr>
-    ensures { Agrees typed_of result (typing.unary_at left at operator (typed_of operand)) }
+    ensures { Agrees typed_of result
+        (typing.unary_at (is_target prefix.position) prefix.at prefix.operator (typed_of operand)) }
 {
-    match operator {
+    let at = prefix.at;
+    match prefix.operator {
         UnaryOp::Plus => {
             let kind = integer_type(operand.at, operand.ty)?;
             build_integer(alloc, at, kind, operand)
@@ -238,7 +270,7 @@ pub(crate) fn build_unary(
         }
         UnaryOp::Increment => build_step(alloc, at, Step::Increment, operand),
         UnaryOp::Decrement => build_step(alloc, at, Step::Decrement, operand),
-        UnaryOp::Handle => build_handle(left, at, operand),
+        UnaryOp::Handle => build_handle(prefix.position, at, operand),
     }
 }
 
@@ -289,7 +321,8 @@ pub(crate) fn build_conditional(
     then: TypedExpr,
     otherwise: TypedExpr,
 ) -> CheckResult<TypedExpr>
-    ensures { Agrees typed_of result (typing.choice (typed_of condition) (typed_of then) (typed_of otherwise)) }
+    ensures { Agrees typed_of result
+        (typing.choice (typed_of condition) (typed_of then) (typed_of otherwise)) }
 {
     check_bool(condition.at, condition.ty)?;
     let Some(of) = common_type(then.ty, otherwise.ty) else {
@@ -309,61 +342,61 @@ pub(crate) fn build_conditional(
 /// `place operator= value`
 fn build_update(
     alloc: Global,
-    at: usize,
-    of: Ty,
-    place: Place,
+    target: Destination,
     operator: Calculator,
     value: TypedExpr,
 ) -> CheckResult<TypedExpr>
-    ensures { Agrees typed_of result (typing.updated at of (place_of place) operator (typed_of value)) }
+    ensures { Agrees typed_of result
+        (typing.updated target.at target.of (place_of target.place) operator (typed_of value)) }
 {
-    let unified = unify_operands(alloc, calculator_operator(operator), TypedExpr::value(at, of, Expr::Null), value)?;
-    let kind = integer_type(at, of)?;
+    let left = TypedExpr::value(target.at, target.of, Expr::Null);
+    let unified = unify_operands(alloc, calculator_operator(operator), left, value)?;
+    let kind = integer_type(target.at, target.of)?;
     let calculation = Calculation {
         operator,
         of: operand_integer_type(unified.operands),
     };
-    let tree = nodes::update(alloc, place, kind, calculation, unified.right)?;
-    Ok(TypedExpr::value(at, Ty::Integer(kind), tree))
+    let tree = nodes::update(alloc, target.place, kind, calculation, unified.right)?;
+    Ok(TypedExpr::value(target.at, Ty::Integer(kind), tree))
 }
 
 /// `place = value`
 #[tactic(auto, unfolding(ash_typing::specs::Expressions::stored))]
 fn build_store(
     env: &Environment,
-    alloc: Global,
-    at: usize,
-    of: Ty,
-    place: Place,
+    target: Destination,
     value: TypedExpr,
 ) -> CheckResult<TypedExpr>
-    ensures { Agrees typed_of result (typing.stored (classes_of env.now) at of (place_of place) None (typed_of value)) }
+    ensures { Agrees typed_of result
+        (typing.stored (classes_of env.now) target.at target.of (place_of target.place) None
+        (typed_of value)) }
 {
-    let value = coerce_for_assignment(env, alloc, of, value)?;
-    let tree = nodes::assign(alloc, place, value)?;
-    Ok(TypedExpr::value(at, of, tree))
+    let value = coerce_for_assignment(env, target.of, value)?;
+    let tree = nodes::assign(env.alloc, target.place, value)?;
+    Ok(TypedExpr::value(target.at, target.of, tree))
 }
 
 /// An assignment, once both sides are typed.
 #[tactic(auto, unfolding(ash_typing::specs::Expressions::assigned, ash_typing::specs::Expressions::stored))]
 pub(crate) fn build_assignment(
     env: &Environment,
-    alloc: Global,
     target: TypedExpr,
     operator: AssignOp,
     value: TypedExpr,
 ) -> CheckResult<TypedExpr>
-    ensures { Agrees typed_of result (typing.assigned (classes_of env.now) (typed_of target) operator (typed_of value)) }
+    ensures { Agrees typed_of result
+        (typing.assigned (classes_of env.now) (typed_of target) operator (typed_of value)) }
 {
     let (at, of, form) = (target.at, target.ty, target.form);
-    let Some(place) = assignable_place(alloc, form, target.tree)? else {
+    let Some(place) = assignable_place(env.alloc, form, target.tree)? else {
         return Err(fault_at(Rule::NotAssignable, at));
     };
     if !is_assignable_form(form, of) {
         return Err(fault_at(Rule::NotAssignable, at));
     }
+    let target = Destination { at, of, place };
     match assign_calculator(operator) {
-        None => build_store(env, alloc, at, of, place, value),
-        Some(operator) => build_update(alloc, at, of, place, operator, value),
+        None => build_store(env, target, value),
+        Some(operator) => build_update(env.alloc, target, operator, value),
     }
 }

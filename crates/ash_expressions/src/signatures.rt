@@ -3,12 +3,44 @@
 ghost use Rattle.std.specs.Prelude.{map};
 ghost use Rattle.ash_expressions.specs.NameIndex.{IsNameIndex};
 
-use crate::environment::{Binding, ClassSignature, FunctionSignature, InterfaceSignature};
 use crate::name_index::{
     NameIndex, class_names, function_names, interface_names, item_at, name_index_of, variable_names,
 };
 use ash_typing::Ty;
 use std::alloc::{AllocError, Global};
+
+/// A variable, a parameter or a field.
+#[derive(Clone, Copy)]
+pub struct Binding<'a> {
+    pub name: &'a str,
+    pub of: Ty,
+}
+
+/// A function or a method, whose result is `Void` where it has none.
+#[derive(Drop)]
+pub struct FunctionSignature<'a> {
+    pub name: &'a str,
+    pub result: Ty,
+    pub parameters: Vec<Ty>,
+}
+
+/// An interface, with the methods that it declares.
+#[derive(Drop)]
+pub struct InterfaceSignature<'a> {
+    pub name: &'a str,
+    pub methods: Vec<FunctionSignature<'a>>,
+}
+
+/// A class, with the places of the interfaces that it lists, and the parameters that its construction
+/// takes.
+#[derive(Drop)]
+pub struct ClassSignature<'a> {
+    pub name: &'a str,
+    pub interfaces: Vec<usize>,
+    pub fields: Vec<Binding<'a>>,
+    pub methods: Vec<FunctionSignature<'a>>,
+    pub parameters: Vec<Ty>,
+}
 
 /// What a module declares, with indexes of its names.
 #[derive(Drop)]
@@ -30,7 +62,9 @@ pub struct Signatures<'a> {
 impl<'a> Signatures<'a> {
     ghost use Rattle.std.specs.Prelude.{◌≡◌, option_map, IfOk};
     ghost use Rattle.ash_typing.specs.Environment as environment;
-    ghost use Rattle.ash_expressions.specs.Views.{binding_of, function_signature_of, interface_signature_of, class_signature_of, placed_type, placed_function, placed_interface, placed_class};
+    ghost use Rattle.ash_expressions.specs.Views.{binding_of, function_signature_of, interface_signature_of};
+    ghost use Rattle.ash_expressions.specs.Views.{class_signature_of, placed_type, placed_function};
+    ghost use Rattle.ash_expressions.specs.Views.{placed_interface, placed_class};
 
     /// What is declared.
     pub fn new(
@@ -63,7 +97,9 @@ impl<'a> Signatures<'a> {
 
     /// The first interface of this name, with its place.
     pub fn interface(&self, name: &str) -> Option<(usize, &InterfaceSignature<'a>)>
-        ensures { option_map placed_interface result ≡ environment.first_from (environment.is_interface_named name.now) 0 (map interface_signature_of self.now.interfaces.items) }
+        ensures { option_map placed_interface result
+            ≡ environment.first_from (environment.is_interface_named name.now) 0
+            (map interface_signature_of self.now.interfaces.items) }
     {
         let place = *self.interface_index.get(name)?;
         let interface = item_at(&self.interfaces, place)?;
@@ -72,7 +108,9 @@ impl<'a> Signatures<'a> {
 
     /// The first class of this name, with its place.
     pub fn class(&self, name: &str) -> Option<(usize, &ClassSignature<'a>)>
-        ensures { option_map placed_class result ≡ environment.first_from (environment.is_class name.now) 0 (map class_signature_of self.now.classes.items) }
+        ensures { option_map placed_class result
+            ≡ environment.first_from (environment.is_class name.now) 0
+            (map class_signature_of self.now.classes.items) }
     {
         let place = *self.class_index.get(name)?;
         let class = item_at(&self.classes, place)?;
@@ -81,7 +119,9 @@ impl<'a> Signatures<'a> {
 
     /// The first function of this name, with its place.
     pub(crate) fn function(&self, name: &str) -> Option<(usize, &FunctionSignature<'a>)>
-        ensures { option_map placed_function result ≡ environment.first_from (environment.is_called name.now) 0 (map function_signature_of self.now.functions.items) }
+        ensures { option_map placed_function result
+            ≡ environment.first_from (environment.is_called name.now) 0
+            (map function_signature_of self.now.functions.items) }
     {
         let place = *self.function_index.get(name)?;
         let function = item_at(&self.functions, place)?;
@@ -90,7 +130,10 @@ impl<'a> Signatures<'a> {
 
     /// The first global of this name, with its place.
     pub(crate) fn global(&self, name: &str) -> Option<(usize, Ty)>
-        ensures { result ≡ option_map placed_type (environment.first_from (environment.declares name.now) 0 (map binding_of self.now.globals.items)) }
+        ensures { result
+            ≡ option_map placed_type
+            (environment.first_from (environment.declares name.now) 0
+            (map binding_of self.now.globals.items)) }
     {
         let place = *self.global_index.get(name)?;
         let global = item_at(&self.globals, place)?;

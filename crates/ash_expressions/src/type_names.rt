@@ -28,7 +28,9 @@ fn host_object_type(call: &Call) -> Option<ObjectType>
 /// type.
 #[tactic(auto, unfolding(ash_typing::specs::Heads::object_named))]
 pub fn object_named(registry: &Registrations, signatures: &Signatures, name: &str) -> Option<ObjectType>
-    ensures { result ≡ definition.object_named (registered registry.now) (signatures_of signatures.now) name.now }
+    ensures { result
+        ≡ definition.object_named (registered registry.now) (signatures_of signatures.now)
+        name.now }
 {
     if let Some((place, _)) = signatures.class(name) {
         return Some(ObjectType::Class(place));
@@ -71,7 +73,9 @@ pub fn element_named(
     signatures: &Signatures,
     of: &ash_tree::Element,
 ) -> Option<Element>
-    ensures { result ≡ definition.element_named (registered registry.now) (signatures_of signatures.now) (element_of of.now) }
+    ensures { result
+        ≡ definition.element_named (registered registry.now) (signatures_of signatures.now)
+        (element_of of.now) }
 {
     match &of.kind {
         ElementKind::Primitive(primitive) => Some(element_of_primitive(*primitive)),
@@ -84,7 +88,9 @@ fn array_type_named(
     signatures: &Signatures,
     of: &ash_tree::Element,
 ) -> Option<ObjectType>
-    ensures { result ≡ definition.array_named (registered registry.now) (signatures_of signatures.now) (element_of of.now) }
+    ensures { result
+        ≡ definition.array_named (registered registry.now) (signatures_of signatures.now)
+        (element_of of.now) }
 {
     Some(ObjectType::Array(element_named(registry, signatures, of)?))
 }
@@ -110,7 +116,9 @@ fn handle_type_of(object: Option<ObjectType>) -> Ty
 /// The type that is written.
 #[tactic(auto, unfolding(ash_typing::specs::Heads::ty_named))]
 pub fn ty_named(registry: &Registrations, signatures: &Signatures, of: &Type) -> Ty
-    ensures { result ≡ definition.ty_named (registered registry.now) (signatures_of signatures.now) (type_of of.now) }
+    ensures { result
+        ≡ definition.ty_named (registered registry.now) (signatures_of signatures.now)
+        (type_of of.now) }
 {
     match &of.kind {
         TypeKind::Primitive(primitive) => ty_of(*primitive),
@@ -123,7 +131,9 @@ pub fn ty_named(registry: &Registrations, signatures: &Signatures, of: &Type) ->
 
 /// The type of a function's result: `void` where none is written.
 pub fn result_named(registry: &Registrations, signatures: &Signatures, of: &Option<Type>) -> Ty
-    ensures { result ≡ definition.result_named (registered registry.now) (signatures_of signatures.now) (option_map type_of of.now) }
+    ensures { result
+        ≡ definition.result_named (registered registry.now) (signatures_of signatures.now)
+        (option_map type_of of.now) }
 {
     match of {
         None => Ty::Void,

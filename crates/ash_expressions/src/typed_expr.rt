@@ -1,8 +1,8 @@
 //! Typed expressions, and conversions of their values.
 
-ghost use Rattle.std.specs.Prelude.{◌≡◌, option_map, IfOk};
+ghost use Rattle.std.specs.Prelude.{◌≡◌, IfOk};
 ghost use Rattle.ash_typed.specs.Tree.{converted};
-ghost use Rattle.ash_typed.specs.Views.{expr_of, place_of};
+ghost use Rattle.ash_typed.specs.Views.{expr_of};
 ghost use Rattle.ash_typing.specs.Terms as terms;
 ghost use Rattle.ash_typing.specs.Expressions as typing;
 ghost use Rattle.ash_expressions.specs.Agreement.{Agrees};
@@ -12,7 +12,7 @@ use crate::environment::Environment;
 use crate::error::{CheckResult, fault_at};
 use crate::fitting::fits;
 use crate::types::{conversion, holds, number_type};
-use ash_typed::{Expr, Kind, Place, nodes};
+use ash_typed::{Expr, Kind, nodes};
 use ash_typing::{Form, Rule, Sort, Ty};
 use std::alloc::{AllocError, Global};
 
@@ -67,16 +67,6 @@ impl TypedExpr {
     }
 }
 
-/// The place that can be assigned, where an expression of this form is one.
-pub(crate) fn assignable_place(alloc: Global, form: Form, tree: Expr) -> Result<Option<Place>, AllocError>
-    ensures { IfOk result (λ found. option_map place_of found ≡ terms.assignable form (expr_of tree)) }
-{
-    match form {
-        Form::Place | Form::HandlePlace => nodes::place(alloc, tree),
-        Form::Number(_) | Form::Value => Ok(None),
-    }
-}
-
 /// The value, converted to the type `to`.
 pub(crate) fn coerce(alloc: Global, to: Ty, typed: TypedExpr) -> Result<Expr, AllocError>
     ensures { IfOk result (λ e. expr_of e ≡ typing.brought to (typed_of typed)) }
@@ -86,13 +76,17 @@ pub(crate) fn coerce(alloc: Global, to: Ty, typed: TypedExpr) -> Result<Expr, Al
 
 /// The value, converted to the type `to` of the variable that it is assigned to.
 #[tactic(auto, unfolding(ash_typing::specs::Expressions::fitted))]
-pub fn coerce_for_assignment(env: &Environment, alloc: Global, to: Ty, typed: TypedExpr) -> CheckResult<Expr>
+pub fn coerce_for_assignment(
+    env: &Environment,
+    to: Ty,
+    typed: TypedExpr,
+) -> CheckResult<Expr>
     ensures { Agrees expr_of result (typing.fitted (classes_of env.now) to (typed_of typed)) }
 {
     if !fits(&env.signatures.classes, to, typed.ty) {
         return Err(fault_at(Rule::TypeMismatch, typed.at));
     }
-    Ok(coerce(alloc, to, typed)?)
+    Ok(coerce(env.alloc, to, typed)?)
 }
 
 /// The integer type of an operand.
@@ -129,7 +123,9 @@ pub(crate) fn handle_type(at: usize, of: Ty) -> CheckResult<Ty>
 
 /// A number takes the type of the other operand where that is an integer type that holds it.
 fn adapt_number(other: Form, of: Ty, typed: &mut TypedExpr)
-    ensures { typed_of typed.new ≡ typing.placed typed.old.at (terms.taking other of typed.old.form (typing.term_of (typed_of typed.old))) }
+    ensures { typed_of typed.new
+        ≡ typing.placed typed.old.at
+        (terms.taking other of typed.old.form (typing.term_of (typed_of typed.old))) }
 {
     match (other, of, typed.form) {
         (Form::Number(_), _, Form::Number(_)) => {}

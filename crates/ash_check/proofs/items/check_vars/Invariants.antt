@@ -7,4 +7,4 @@ use Rattle.ash_check.proofs.items.check_vars.Given as goal
 
 -- the outcome of what is left is that of the whole
 abbrev pub invariant-loop-decl : goal.invariant-loop-decl
-invariant-loop-decl l = decls_typed (environment_of l.env) l.place.at l.of (row_of (names_of l.names) l.variables) (map decl_of (drop l.decl-index l.vars.decls.items)) ≡ decls_typed (environment_of l.env) l.place.at l.of (row_of (names_of l.initial.names) l.initial.variables) (map decl_of l.vars.decls.items)
+invariant-loop-decl l = decls_typed (environment_of l.env) l.written.at l.written.of (row_of (names_of l.names) l.variables) (map decl_of (drop l.decl-index l.vars.decls.items)) ≡ decls_typed (environment_of l.env) l.written.at l.written.of (row_of (names_of l.initial.names) l.initial.variables) (map decl_of l.vars.decls.items)

@@ -116,6 +116,6 @@ pub check_for-returns-clause-unchanged : goal.check_for-returns-clause-unchanged
 check_for-returns-clause-unchanged t c =
     let k : c.len-outer.result ≡ length c.args.locals.now.items = omega (arith, c.len-outer.ensures, c.args.locals.now.ok.0) in
     let scope = scope_of c.args.scope.now (locals_of c.args.locals.now) in
-    let first : Extends (locals_of c.args.locals.now) (locals_of c.check_for_head.new.locals) = extends_next (locals_of c.args.locals.now) (at_first scope c.len-outer.result) (at_first (scope_of c.args.scope.now (locals_of c.check_for_head.new.locals)) c.len-outer.result) (stmt_of c.args.first.now) c.in_ok-first.ensures.locals (extends_itself (locals_of c.args.locals.now)) in
+    let first : Extends (locals_of c.args.locals.now) (locals_of c.check_for_head.new.locals) = extends_next (locals_of c.args.locals.now) (at_first scope c.len-outer.result) (at_first (scope_of c.args.scope.now (locals_of c.check_for_head.new.locals)) c.len-outer.result) (stmt_of c.args.parts.first.now) c.in_ok-first.ensures.locals (extends_itself (locals_of c.args.locals.now)) in
     let go : locals_of c.truncate.new.self ≡ locals_of c.args.locals.now = locals_go c.args.locals.now.items _ c.truncate.new.self.items c.len-outer.result k c.truncate.ensures.items (first.0, c.in_ok-body.ensures.unchanged ∙ first.1) in
     any_ok _ c.build_for.result go

@@ -28,7 +28,7 @@ abbrev pub decreases-check_if : goal.decreases-check_if
 decreases-check_if l = 3 * size-Stmt l.inner.now + 2
 
 abbrev pub decreases-check_if_else : goal.decreases-check_if_else
-decreases-check_if_else l = 3 * max (size-Stmt l.then.now) (size-Stmt l.otherwise.now) + 2
+decreases-check_if_else l = 3 * max (size-Stmt l.branches.then.now) (size-Stmt l.branches.otherwise.now) + 2
 
 abbrev pub decreases-check_while : goal.decreases-check_while
 decreases-check_while l = 3 * size-Stmt l.inner.now + 2
@@ -37,7 +37,7 @@ abbrev pub decreases-check_do_while : goal.decreases-check_do_while
 decreases-check_do_while l = 3 * size-Stmt l.inner.now + 2
 
 abbrev pub decreases-check_for : goal.decreases-check_for
-decreases-check_for l = 3 * size-Stmt l.body.now + 2
+decreases-check_for l = 3 * size-Stmt l.parts.body.now + 2
 
 abbrev pub decreases-check_switch : goal.decreases-check_switch
 decreases-check_switch l = 3 * most size-Case l.labels.now + 2
