@@ -13,7 +13,7 @@ ghost use Rattle.ash_check.specs.WalkViews.{names_of, routine_of, row_of, member
 use crate::declarations::{WrittenType, check_decl, check_variable_type, place_of, ty_in};
 use crate::implementations::check_listed_interfaces;
 use crate::interfaces::check_interface;
-use crate::names::Names;
+use crate::names::{MAX_GLOBALS, MAX_MEMBERS, Names};
 use crate::routines::{Routine, as_routine, check_result_type, check_routine};
 use crate::signatures::module_signatures;
 use ash_expressions::{CheckResult, Environment, Signatures, fault_at};
@@ -23,6 +23,9 @@ use ash_typed::{Class, Implementation, Module, Variables};
 use ash_typing::{Rule, Ty};
 use indexmap::IndexSet;
 use std::alloc::Global;
+
+/// How many classes and interfaces a module has at most.
+const MAX_TYPES: usize = 256;
 
 /// Checks variables of a module or of a class.
 #[tactic(auto, unfolding(ash_typing::specs::Items::vars_typed))]
@@ -122,7 +125,7 @@ fn check_members<'a>(
     let mut names = Names {
         registry: None,
         taken: IndexSet::new(env.alloc),
-        room: 32,
+        room: MAX_MEMBERS,
     };
     let mut typed = Class {
         name: class.name.clone()?,
@@ -152,12 +155,12 @@ fn check_class<'a>(
     check_members(env, place, class, listed.interfaces)
 }
 
-/// Requires that a module has room for one more class or interface: it has at most 256 of both.
+/// Requires that a module has room for one more class or interface.
 #[tactic(auto, unfolding(ash_typing::specs::Items::room_for_type))]
 fn check_type_count(at: usize, typed: &Module) -> CheckResult<usize>
     ensures { Agrees (λ place. place) result (definition.room_for_type at (module_of typed.now)) }
 {
-    if typed.classes.len() + typed.interfaces.len() >= 256 {
+    if typed.classes.len() + typed.interfaces.len() >= MAX_TYPES {
         return Err(fault_at(Rule::TooMany, at));
     }
     Ok(typed.classes.len())
@@ -223,7 +226,7 @@ fn check_items<'a>(
     let mut names = Names {
         registry: Some(registry),
         taken: IndexSet::new(alloc),
-        room: 256,
+        room: MAX_GLOBALS,
     };
     let mut typed = Module {
         interfaces: Vec::new(alloc),
