@@ -27,13 +27,14 @@ type Named = (&'static str, Ty);
 /// A function or a method: its name, its result and its parameters.
 type Signature = (&'static str, Ty, &'static [Ty]);
 
-// `interface Shape { int get(int k); }`, and `class Node : Shape { int v; Node@ next; Node(int k) {} int get(int k) {..} }`
+// `interface Shape { int get(int k); }`, and
+// `class Node : Shape { int v; Node@ next; Node(int k) {} int get(int k) {..} }`
 const FIELDS: &[Named] = &[("v", INT), ("next", NODE)];
 
 const METHODS: &[Signature] = &[("get", INT, &[INT])];
 
-// `int a; uint u; int64 l; bool b; Node@ h; Node o(1); Shape@ s; array<int> r; array<Node@>@ t; void g(int k, bool c) {}`
-// beside these two.
+// `int a; uint u; int64 l; bool b; Node@ h; Node o(1); Shape@ s; array<int> r; array<Node@>@ t;` and
+// `void g(int k, bool c) {}`, beside these two.
 const GLOBALS: &[Named] = &[
     ("a", INT),
     ("u", Ty::Integer(Kind::Uint)),
