@@ -6,7 +6,7 @@ ghost use Rattle.ash_tree.specs.Tree.{place_of_type};
 ghost use Rattle.ash_tree.specs.Views.{element_of, type_of, initializer_of, decl_of};
 ghost use Rattle.ash_typed.specs.BodyViews.{value_of};
 ghost use Rattle.ash_typing.specs.Environment as environment;
-ghost use Rattle.ash_typing.specs.Heads as heads;
+ghost use Rattle.ash_typing.specs.Heads as type_names;
 ghost use Rattle.ash_typing.specs.Expressions as typing;
 ghost use Rattle.ash_typing.specs.Declarations as definition;
 ghost use Rattle.ash_expressions.specs.Agreement.{Agrees};
@@ -30,7 +30,7 @@ pub(crate) fn place_of(of: &Type) -> Place
 
 /// The type that is written.
 pub(crate) fn ty_in(env: &Environment, of: &Type) -> Ty
-    ensures { result ≡ heads.ty_in (environment_of env.now) (type_of of.now) }
+    ensures { result ≡ type_names.ty_in (environment_of env.now) (type_of of.now) }
 {
     ty_named(env.registry, env.signatures, of)
 }

@@ -96,8 +96,8 @@ fn check_member<'a>(
             class.methods.push(typed)?;
         }
         Member::Constructor(constructor) => {
-            let named = check_constructor_name(class, constructor)?;
-            let typed = check_routine(env, Ty::Void, named)?;
+            let routine = check_constructor_name(class, constructor)?;
+            let typed = check_routine(env, Ty::Void, routine)?;
             class.constructor = Some(typed);
         }
     }

@@ -38,6 +38,7 @@ mod scopes;
 mod signatures;
 mod statements;
 mod switches;
+mod type_names;
 
 pub use ash_classes::search_is_exact;
 pub use checked::Checked;

@@ -36,7 +36,7 @@ fn contains_name(names: &IndexSet<&str>, name: &str) -> bool
     names.contains(name)
 }
 
-/// Adds a name that is not among them.
+/// Inserts a name that is not among them.
 fn insert_name<'a>(names: &mut IndexSet<&'a str>, name: &'a str) -> Result<(), AllocError>
     requires { list_any (bytes_eq name.now) (texts names.old.keys) ≡ false }
     ensures { OnOk result (texts names.new.keys ≡ texts names.old.keys ++ name.now ∷ []) }
@@ -56,7 +56,7 @@ impl<'a> Names<'a> {
         is_registered || contains_name(&self.taken, name)
     }
 
-    /// A name at this offset that was not taken, and is from now on.
+    /// Takes a name at this offset, which has to be free.
     #[tactic(auto, unfolding(ash_typing::specs::Items::untaken))]
     pub(crate) fn take(&mut self, at: usize, name: &'a str) -> CheckResult<()>
         ensures { Agrees (λ _. names_of self.new) result
@@ -69,7 +69,7 @@ impl<'a> Names<'a> {
         Ok(())
     }
 
-    /// One more, at this offset.
+    /// Counts one more, at this offset.
     #[tactic(auto, unfolding(ash_typing::specs::Items::one_more))]
     pub(crate) fn count(&mut self, at: usize) -> CheckResult<()>
         ensures { Agrees (λ _. names_of self.new) result
@@ -82,7 +82,7 @@ impl<'a> Names<'a> {
         Ok(())
     }
 
-    /// A name of which there may be so many.
+    /// Takes a name at this offset, and counts it.
     pub(crate) fn take_counted(&mut self, at: usize, name: &'a str) -> CheckResult<()>
         ensures { Agrees (λ _. names_of self.new) result
             (definition.placed (names_of self.old) at name.now) }

@@ -10,6 +10,7 @@ ghost use Rattle.ash_typing.specs.Heads as definition;
 ghost use Rattle.ash_expressions.specs.Views.{binding_of, function_signature_of, interface_signature_of};
 ghost use Rattle.ash_expressions.specs.Views.{class_signature_of, signatures_of};
 
+use crate::type_names::type_names;
 use ash_expressions::{
     Binding, ClassSignature, FunctionSignature, InterfaceSignature, Signatures, object_named,
     result_named, ty_named,
@@ -249,45 +250,6 @@ fn class_signature<'a>(
     })
 }
 
-/// The interfaces by their names alone.
-fn named_interfaces(alloc: Global, items: &[Item]) -> Result<Vec<InterfaceSignature<'_>>, AllocError>
-    ensures { IfOk result
-        (λ all. map interface_signature_of all.items
-        ≡ map definition.named_interface (by_kind.interfaces_of (map item_of items.now))) }
-{
-    let mut all = Vec::new(alloc);
-    for item in items {
-        if let Item::Interface(interface) = item {
-            all.push(InterfaceSignature {
-                name: interface.name.as_str(),
-                methods: Vec::new(alloc),
-            })?;
-        }
-    }
-    Ok(all)
-}
-
-/// The classes by their names alone.
-fn named_classes(alloc: Global, items: &[Item]) -> Result<Vec<ClassSignature<'_>>, AllocError>
-    ensures { IfOk result
-        (λ all. map class_signature_of all.items
-        ≡ map definition.named_class (by_kind.classes_of (map item_of items.now))) }
-{
-    let mut all = Vec::new(alloc);
-    for item in items {
-        if let Item::Class(class) = item {
-            all.push(ClassSignature {
-                name: class.name.as_str(),
-                interfaces: Vec::new(alloc),
-                fields: Vec::new(alloc),
-                methods: Vec::new(alloc),
-                parameters: Vec::new(alloc),
-            })?;
-        }
-    }
-    Ok(all)
-}
-
 fn interface_signatures<'a>(
     alloc: Global,
     registry: &Registrations,
@@ -366,16 +328,6 @@ fn global_bindings<'a>(
         }
     }
     Ok(all)
-}
-
-/// What types name: the interfaces and the classes by their names alone.
-fn type_names<'a>(alloc: Global, items: &'a [Item]) -> Result<Signatures<'a>, AllocError>
-    ensures { IfOk result (λ h. signatures_of h ≡ definition.names_in (map item_of items.now)) }
-{
-    let interfaces = named_interfaces(alloc, items)?;
-    let classes = named_classes(alloc, items)?;
-    let signatures = Signatures::new(alloc, interfaces, classes, Vec::new(alloc), Vec::new(alloc))?;
-    Ok(signatures)
 }
 
 /// What a module declares, where this is what types name.

@@ -8,6 +8,8 @@
 #[cfg(test)]
 mod cycles;
 #[cfg(test)]
+mod declared;
+#[cfg(test)]
 mod expressions;
 #[cfg(test)]
 mod foreign;

@@ -10,6 +10,7 @@ ghost use Rattle.ash_expressions.specs.Agreement.{Agrees};
 ghost use Rattle.ash_expressions.specs.Views.{typed_of, all_typed_of, environment_of, classes_of, is_target};
 
 use crate::arrays::{array_callee, build_index, check_element_type};
+use crate::assignments::build_assignment;
 use crate::calls::{
     Arguments, Name, build_brackets, build_call, build_field, build_method_call, callee_named,
     check_name, check_this, find_method,
@@ -18,8 +19,8 @@ use crate::environment::Environment;
 use crate::error::CheckResult;
 use crate::forms::{Position, target_position};
 use crate::operators::{
-    Prefix, build_assignment, build_binary, build_cast, build_conditional, build_conversion,
-    build_step, build_unary, cast_target,
+    Prefix, build_binary, build_cast, build_conditional, build_conversion, build_step, build_unary,
+    cast_target,
 };
 use crate::type_names::{element_named, object_named};
 use crate::typed_expr::TypedExpr;

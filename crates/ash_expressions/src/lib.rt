@@ -10,7 +10,7 @@
 //! A function `check_*` takes a part of a script; a function `build_*` takes parts that are checked, and returns the
 //! typed phrase that they are the parts of, or its fault.
 //!
-//! In reading order: `expressions`, the walk over an expression; `operators` and `calls`, which build a phrase of its
+//! In reading order: `expressions`, the walk over an expression; `operators`, `assignments` and `calls`, which build a phrase of its
 //! checked parts, with `operator_types`, `callees` and `parameters`; `arrays`, their construction, indexes and methods;
 //! `environment`, what names mean, with `lookup`, and `type_names`, the names of types; `signatures` and `name_index`,
 //! what a module declares, found by its name; `typed_expr`, `forms`, `types` and `fitting`; `error`, the error that
@@ -18,6 +18,7 @@
 #![tactic(auto)]
 
 mod arrays;
+mod assignments;
 mod callees;
 mod calls;
 mod environment;

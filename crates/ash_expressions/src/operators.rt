@@ -1,28 +1,26 @@
-//! Operators, conversions and assignments, once their operands are typed.
+//! Operators and conversions, once their operands are typed.
 
-ghost use Rattle.std.specs.Prelude.{◌≡◌, None, Ok, IfOk};
+ghost use Rattle.std.specs.Prelude.{◌≡◌, Ok, IfOk};
 ghost use Rattle.ash_typed.specs.Tree.{Alter, Operate, Lazily};
-ghost use Rattle.ash_typed.specs.Views.{expr_of, place_of};
+ghost use Rattle.ash_typed.specs.Views.{expr_of};
 ghost use Rattle.ash_typing.specs.Terms as terms;
 ghost use Rattle.ash_typing.specs.Expressions as typing;
 ghost use Rattle.ash_expressions.specs.Agreement.{Agrees};
-ghost use Rattle.ash_expressions.specs.Views.{typed_of, unified_of, classes_of, is_target};
+ghost use Rattle.ash_expressions.specs.Views.{typed_of, unified_of, is_target};
 
-use crate::environment::Environment;
 use crate::error::{CheckResult, fault_at};
-use crate::forms::{Position, assignable_place, handle_form, is_assignable_form};
+use crate::forms::{Position, assignable_place, handle_form};
 use crate::operator_types::{
-    accepts, assign_calculator, assumed_type, calculator_operator, common_operands,
-    operand_integer_type, operand_type, operator_result, operator_sort, typed_operator,
+    accepts, assumed_type, common_operands, operand_integer_type, operand_type, operator_result,
+    operator_sort, typed_operator,
 };
 use crate::typed_expr::{
-    TypedExpr, adapt_operand, check_bool, coerce, coerce_for_assignment, handle_type, integer_type,
+    TypedExpr, adapt_operand, check_bool, coerce, handle_type, integer_type,
 };
 use crate::types::{common_type, conversion, is_void, signed_type, ty_of};
-use ash_tree::{AssignOp, BinaryOp, Primitive, UnaryOp};
+use ash_tree::{BinaryOp, Primitive, UnaryOp};
 use ash_typed::{
-    Calculation, Calculator, Change, Expr, Kind, Lazy, ObjectType, Operand, Operands, Operation,
-    Place, Step, nodes,
+    Calculation, Change, Expr, Kind, Lazy, ObjectType, Operand, Operands, Operation, Step, nodes,
 };
 use ash_typing::{Operator, Rule, Sort, Ty};
 use std::alloc::{AllocError, Global};
@@ -35,20 +33,12 @@ pub(crate) struct Prefix {
     pub(crate) position: Position,
 }
 
-/// What is assigned to: a place of a type, at the offset of its first token.
-#[derive(Drop)]
-struct Destination {
-    at: usize,
-    of: Ty,
-    place: Place,
-}
-
 /// The operands of an operator, converted to one type, and what the operator takes them for.
 #[derive(Drop)]
 pub(crate) struct UnifiedOperands {
-    left: TypedExpr,
-    operands: Operands,
-    right: Expr,
+    pub(crate) left: TypedExpr,
+    pub(crate) operands: Operands,
+    pub(crate) right: Expr,
 }
 
 fn right_operand(alloc: Global, sort: Sort, operands: Operands, right: TypedExpr) -> CheckResult<Expr>
@@ -83,7 +73,7 @@ fn unify_adapted(alloc: Global, sort: Sort, left: TypedExpr, right: TypedExpr) -
 }
 
 #[tactic(auto, unfolding(ash_typing::specs::Expressions::met))]
-fn unify_operands(
+pub(crate) fn unify_operands(
     alloc: Global,
     operator: BinaryOp,
     mut left: TypedExpr,
@@ -337,66 +327,4 @@ pub(crate) fn build_conditional(
     let otherwise = coerce(alloc, of, otherwise)?;
     let tree = nodes::conditional(alloc, condition.tree, then, otherwise)?;
     Ok(TypedExpr::value(condition.at, of, tree))
-}
-
-/// `place operator= value`
-fn build_update(
-    alloc: Global,
-    target: Destination,
-    operator: Calculator,
-    value: TypedExpr,
-) -> CheckResult<TypedExpr>
-    ensures { Agrees typed_of result
-        (typing.updated target.at target.of (place_of target.place) operator (typed_of value)) }
-{
-    let left = TypedExpr::value(target.at, target.of, Expr::Null);
-    let unified = unify_operands(alloc, calculator_operator(operator), left, value)?;
-    let kind = integer_type(target.at, target.of)?;
-    let calculation = Calculation {
-        operator,
-        of: operand_integer_type(unified.operands),
-    };
-    let tree = nodes::update(alloc, target.place, kind, calculation, unified.right)?;
-    Ok(TypedExpr::value(target.at, Ty::Integer(kind), tree))
-}
-
-/// `place = value`
-#[tactic(auto, unfolding(ash_typing::specs::Expressions::stored))]
-fn build_store(
-    env: &Environment,
-    target: Destination,
-    value: TypedExpr,
-) -> CheckResult<TypedExpr>
-    ensures { Agrees typed_of result
-        (typing.stored (classes_of env.now) target.at target.of (place_of target.place) None
-        (typed_of value)) }
-{
-    let value = coerce_for_assignment(env, target.of, value)?;
-    let tree = nodes::assign(env.alloc, target.place, value)?;
-    Ok(TypedExpr::value(target.at, target.of, tree))
-}
-
-/// An assignment, once both sides are typed.
-#[tactic(auto, unfolding(ash_typing::specs::Expressions::assigned, ash_typing::specs::Expressions::stored))]
-pub(crate) fn build_assignment(
-    env: &Environment,
-    target: TypedExpr,
-    operator: AssignOp,
-    value: TypedExpr,
-) -> CheckResult<TypedExpr>
-    ensures { Agrees typed_of result
-        (typing.assigned (classes_of env.now) (typed_of target) operator (typed_of value)) }
-{
-    let (at, of, form) = (target.at, target.ty, target.form);
-    let Some(place) = assignable_place(env.alloc, form, target.tree)? else {
-        return Err(fault_at(Rule::NotAssignable, at));
-    };
-    if !is_assignable_form(form, of) {
-        return Err(fault_at(Rule::NotAssignable, at));
-    }
-    let target = Destination { at, of, place };
-    match assign_calculator(operator) {
-        None => build_store(env, target, value),
-        Some(operator) => build_update(env.alloc, target, operator, value),
-    }
 }
