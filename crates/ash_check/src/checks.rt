@@ -29,7 +29,11 @@ use std::alloc::{AllocError, Global};
 use std::snapshot::Snapshot;
 
 // The names of the classes at these places.
-fn class_names_at(alloc: Global, classes: &[&Class], places: &[usize]) -> Result<Vec<String>, AllocError>
+fn class_names_at(
+    alloc: Global,
+    classes: &[&Class],
+    places: &[usize],
+) -> Result<Vec<String>, AllocError>
     requires { All (λ place. place < length classes.now) places.now }
     ensures { IfOk result
         (λ names. map string_bytes names.items ≡ map (name_at (seen classes.now)) places.now) }

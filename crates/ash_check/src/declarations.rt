@@ -130,10 +130,7 @@ fn build_object(
 
 /// `T x`, of this type.
 #[tactic(auto, unfolding(ash_typing::specs::Declarations::begun))]
-fn build_default(
-    env: &Environment,
-    written: WrittenType,
-) -> CheckResult<Option<Expr>>
+fn build_default(env: &Environment, written: WrittenType) -> CheckResult<Option<Expr>>
     ensures { Agrees optional_expr result
         (definition.begun (environment_of env.now) written.at written.of) }
 {
@@ -160,12 +157,7 @@ fn build_first_value(env: &Environment, of: Ty, typed: TypedExpr) -> CheckResult
 
 /// `T x = e`, with x at this offset: objects are not assigned.
 #[tactic(auto, unfolding(ash_typing::specs::Declarations::begun_with))]
-fn build_value(
-    env: &Environment,
-    at: usize,
-    of: Ty,
-    typed: TypedExpr,
-) -> CheckResult<Option<Expr>>
+fn build_value(env: &Environment, at: usize, of: Ty, typed: TypedExpr) -> CheckResult<Option<Expr>>
     ensures { Agrees optional_expr result
         (definition.begun_with (classes_of env.now) at of (typed_of typed)) }
 {

@@ -56,7 +56,10 @@ fn has_types_of(one: &FunctionSignature, other: &FunctionSignature) -> bool
 }
 
 /// The place of the method of a class that a method of an interface runs.
-fn matching_method(method: &FunctionSignature, found: Option<(usize, &FunctionSignature)>) -> Option<usize>
+fn matching_method(
+    method: &FunctionSignature,
+    found: Option<(usize, &FunctionSignature)>,
+) -> Option<usize>
     ensures { result
         ≡ implementing.matching (function_signature_of method.now)
         (option_map placed_function found.entry) }

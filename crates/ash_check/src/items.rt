@@ -54,7 +54,10 @@ fn check_vars<'a>(
 
 /// A class has one constructor, which has its name.
 #[tactic(auto, unfolding(ash_typing::specs::Items::constructor_named))]
-fn check_constructor_name<'a>(class: &Class, constructor: &'a Constructor) -> CheckResult<Routine<'a>>
+fn check_constructor_name<'a>(
+    class: &Class,
+    constructor: &'a Constructor,
+) -> CheckResult<Routine<'a>>
     ensures { Agrees routine_of result
         (definition.constructor_named (class_of class.now) (constructor_of constructor.now)) }
 {

@@ -57,12 +57,7 @@ fn returns_nothing(of: Ty) -> bool
 
 /// A value that is returned at this offset.
 #[tactic(auto, unfolding(ash_typing::specs::Statements::returned))]
-fn build_return_value(
-    env: &Environment,
-    of: Ty,
-    at: usize,
-    value: TypedExpr,
-) -> CheckResult<Tree>
+fn build_return_value(env: &Environment, of: Ty, at: usize, value: TypedExpr) -> CheckResult<Tree>
     ensures { Agrees expr_of result
         (definition.returned (classes_of env.now) of at (typed_of value)) }
 {

@@ -23,11 +23,7 @@ use std::alloc::{AllocError, Global};
 
 /// Checks the head of a `for`, which the grammar has as a statement: nothing, variables, which are added to the locals,
 /// or an expression.
-#[tactic(
-    auto,
-    using(ash_tree::proofs::Rows::block_is, ash_tree::proofs::Rows::switch_is),
-    unfolding(ash_typing::specs::Statements::head_typed)
-)]
+#[tactic(auto, using(ash_tree::proofs::Rows::block_is, ash_tree::proofs::Rows::switch_is), unfolding(ash_typing::specs::Statements::head_typed))]
 pub(crate) fn check_for_head<'n>(
     scope: &Scope<'_, 'n>,
     locals: &mut Vec<Binding<'n>>,
@@ -107,11 +103,7 @@ pub(crate) struct CheckedFor {
 
 /// `for (head condition; steps) body`
 #[tactic(auto, unfolding(ash_typing::specs::Statements::for_typed))]
-pub(crate) fn build_for(
-    alloc: Global,
-    line: usize,
-    parts: CheckedFor,
-) -> CheckResult<Stmt>
+pub(crate) fn build_for(alloc: Global, line: usize, parts: CheckedFor) -> CheckResult<Stmt>
     ensures { Agrees stmt_of result
         (definition.for_typed line (Ok (head_of parts.head))
         (Ok (optional_typed_of parts.condition)) (Ok (all_typed_of parts.steps))

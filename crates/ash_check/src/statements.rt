@@ -71,9 +71,7 @@ fn check_stmt<'n>(
             let branches = Branches { then, otherwise };
             check_if_else(scope, locals, place, condition, branches)
         }
-        StmtKind::While { condition, body } => {
-            check_while(scope, locals, place, condition, body)
-        }
+        StmtKind::While { condition, body } => check_while(scope, locals, place, condition, body),
         StmtKind::DoWhile { body, condition } => {
             check_do_while(scope, locals, place, body, condition)
         }
@@ -92,9 +90,7 @@ fn check_stmt<'n>(
             };
             check_for(scope, locals, parts)
         }
-        StmtKind::Switch { value, cases } => {
-            check_switch(scope, locals, place, value, cases)
-        }
+        StmtKind::Switch { value, cases } => check_switch(scope, locals, place, value, cases),
         StmtKind::Break => check_break(scope, place),
         StmtKind::Continue => check_continue(scope, place),
         StmtKind::Return(value) => check_return(scope, locals, place, value),

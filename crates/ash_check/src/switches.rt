@@ -88,7 +88,12 @@ pub(crate) struct LabelContext<'a> {
 
 /// The constant of a label at this offset, after the labels before it.
 #[tactic(auto, unfolding(ash_typing::specs::Switches::constant_typed))]
-fn check_constant(kind: Option<Kind>, before: &[Label], at: usize, label: Label) -> CheckResult<Label>
+fn check_constant(
+    kind: Option<Kind>,
+    before: &[Label],
+    at: usize,
+    label: Label,
+) -> CheckResult<Label>
     ensures { Agrees (λ l. l) result (definition.constant_typed kind before.now at label) }
 {
     if !is_within(kind, label) {
@@ -102,11 +107,7 @@ fn check_constant(kind: Option<Kind>, before: &[Label], at: usize, label: Label)
 
 /// A label at this offset: `default` has to be the last one.
 #[tactic(auto, unfolding(ash_typing::specs::Switches::label_typed))]
-pub(crate) fn check_label(
-    context: LabelContext,
-    at: usize,
-    label: Label,
-) -> CheckResult<Label>
+pub(crate) fn check_label(context: LabelContext, at: usize, label: Label) -> CheckResult<Label>
     ensures { Agrees (λ l. l) result
         (definition.label_typed context.entry.kind context.entry.before.now context.entry.is_last at
         label) }

@@ -11,7 +11,10 @@ use ash_tree::Item;
 use std::alloc::{AllocError, Global};
 
 /// The interfaces by their names alone.
-fn named_interfaces(alloc: Global, items: &[Item]) -> Result<Vec<InterfaceSignature<'_>>, AllocError>
+fn named_interfaces(
+    alloc: Global,
+    items: &[Item],
+) -> Result<Vec<InterfaceSignature<'_>>, AllocError>
     ensures { IfOk result
         (λ all. map interface_signature_of all.items
         ≡ map definition.named_interface (by_kind.interfaces_of (map item_of items.now))) }

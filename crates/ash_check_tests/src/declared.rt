@@ -1,8 +1,6 @@
 //! What is declared where expressions are checked by themselves.
 
-use ash_expressions::{
-    Binding, ClassSignature, FunctionSignature, InterfaceSignature, Signatures,
-};
+use ash_expressions::{Binding, ClassSignature, FunctionSignature, InterfaceSignature, Signatures};
 use ash_typed::{Element, Kind, ObjectType};
 use ash_typing::Ty;
 use std::alloc::{AllocError, Global};
@@ -54,7 +52,10 @@ fn bindings(alloc: Global, variables: &[Named]) -> Result<Vec<Binding<'static>>,
 }
 
 /// A function of this signature.
-fn function(alloc: Global, signature: &Signature) -> Result<FunctionSignature<'static>, AllocError> {
+fn function(
+    alloc: Global,
+    signature: &Signature,
+) -> Result<FunctionSignature<'static>, AllocError> {
     let (name, result, parameters) = *signature;
     Ok(FunctionSignature {
         name,
@@ -64,7 +65,10 @@ fn function(alloc: Global, signature: &Signature) -> Result<FunctionSignature<'s
 }
 
 /// Functions of these signatures.
-fn functions(alloc: Global, signatures: &[Signature]) -> Result<Vec<FunctionSignature<'static>>, AllocError> {
+fn functions(
+    alloc: Global,
+    signatures: &[Signature],
+) -> Result<Vec<FunctionSignature<'static>>, AllocError> {
     let mut found = Vec::new(alloc);
     for signature in signatures {
         found.push(function(alloc, signature)?)?;

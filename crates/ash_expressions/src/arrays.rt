@@ -59,7 +59,13 @@ fn coerce_index(alloc: Global, index: TypedExpr) -> CheckResult<Expr>
     Ok(coerce(alloc, Ty::Integer(Kind::Uint), index)?)
 }
 
-fn build_element(alloc: Global, array: TypedExpr, index: TypedExpr, ty: Ty, of: Element) -> CheckResult<TypedExpr>
+fn build_element(
+    alloc: Global,
+    array: TypedExpr,
+    index: TypedExpr,
+    ty: Ty,
+    of: Element,
+) -> CheckResult<TypedExpr>
     ensures { Agrees typed_of result (typing.indexed_at (typed_of array) (typed_of index) ty of) }
 {
     let index = coerce_index(alloc, index)?;
@@ -67,7 +73,12 @@ fn build_element(alloc: Global, array: TypedExpr, index: TypedExpr, ty: Ty, of: 
     Ok(TypedExpr::place(array.at, ty, tree))
 }
 
-fn build_object_index(alloc: Global, array: TypedExpr, index: TypedExpr, object: ObjectType) -> CheckResult<TypedExpr>
+fn build_object_index(
+    alloc: Global,
+    array: TypedExpr,
+    index: TypedExpr,
+    object: ObjectType,
+) -> CheckResult<TypedExpr>
     ensures { Agrees typed_of result
         (typing.indexed_object (typed_of array) (typed_of index) object) }
 {
@@ -79,7 +90,11 @@ fn build_object_index(alloc: Global, array: TypedExpr, index: TypedExpr, object:
 
 /// `array[index]`
 #[tactic(auto, unfolding(ash_typing::specs::Expressions::indexed))]
-pub(crate) fn build_index(alloc: Global, array: TypedExpr, index: TypedExpr) -> CheckResult<TypedExpr>
+pub(crate) fn build_index(
+    alloc: Global,
+    array: TypedExpr,
+    index: TypedExpr,
+) -> CheckResult<TypedExpr>
     ensures { Agrees typed_of result (typing.indexed (typed_of array) array.ty (typed_of index)) }
 {
     match array.ty {

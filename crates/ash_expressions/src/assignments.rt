@@ -48,11 +48,7 @@ fn build_update(
 
 /// `place = value`
 #[tactic(auto, unfolding(ash_typing::specs::Expressions::stored))]
-fn build_store(
-    env: &Environment,
-    target: Destination,
-    value: TypedExpr,
-) -> CheckResult<TypedExpr>
+fn build_store(env: &Environment, target: Destination, value: TypedExpr) -> CheckResult<TypedExpr>
     ensures { Agrees typed_of result
         (typing.stored (classes_of env.now) target.at target.of (place_of target.place) None
         (typed_of value)) }

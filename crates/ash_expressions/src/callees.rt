@@ -73,7 +73,11 @@ pub(crate) fn class_callee<'a>(signatures: &'a Signatures<'_>, name: &str) -> Op
 }
 
 /// A method of a class, as it is called.
-pub(crate) fn class_method_callee<'a>(class: usize, of: &'a ClassSignature<'_>, name: &str) -> Option<MethodCallee<'a>>
+pub(crate) fn class_method_callee<'a>(
+    class: usize,
+    of: &'a ClassSignature<'_>,
+    name: &str,
+) -> Option<MethodCallee<'a>>
     ensures { option_map method_callee_of result
         ≡ environment.class_method class name.now (class_signature_of of.now) }
 {
@@ -91,7 +95,11 @@ pub(crate) fn class_method_callee<'a>(class: usize, of: &'a ClassSignature<'_>, 
 }
 
 /// A method of an interface, as it is called.
-pub(crate) fn interface_method_callee<'a>(interface: usize, of: &'a InterfaceSignature<'_>, name: &str) -> Option<MethodCallee<'a>>
+pub(crate) fn interface_method_callee<'a>(
+    interface: usize,
+    of: &'a InterfaceSignature<'_>,
+    name: &str,
+) -> Option<MethodCallee<'a>>
     ensures { option_map method_callee_of result
         ≡ environment.interface_method interface name.now (interface_signature_of of.now) }
 {

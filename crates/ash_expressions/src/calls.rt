@@ -171,17 +171,17 @@ fn build_member(
 {
     match env.member(of, name.text) {
         None => Err(fault_at(Rule::UnknownName, name.at)),
-        Some((member, of)) => Ok(TypedExpr::place(base.at, of, nodes::member(env.alloc, base.tree, member)?)),
+        Some((member, of)) => Ok(TypedExpr::place(
+            base.at,
+            of,
+            nodes::member(env.alloc, base.tree, member)?,
+        )),
     }
 }
 
 /// `base.name`
 #[tactic(auto, unfolding(ash_typing::specs::Expressions::field_of))]
-pub(crate) fn build_field(
-    env: &Environment,
-    base: TypedExpr,
-    name: Name,
-) -> CheckResult<TypedExpr>
+pub(crate) fn build_field(env: &Environment, base: TypedExpr, name: Name) -> CheckResult<TypedExpr>
     ensures { Agrees typed_of result
         (typing.field_of (environment_of env.now) (typed_of base) base.ty name.entry.at
         name.entry.text.now) }

@@ -234,7 +234,11 @@ impl<'a, 'n> Environment<'a, 'n> {
         ensures { result ≡ environment.member_in (environment_of self.now) of name.now }
     {
         match of {
-            ObjectType::Class(place) => class_field(place, self.signatures.classes.get(place)?, name),
+            ObjectType::Class(place) => class_field(
+                place,
+                self.signatures.classes.get(place)?,
+                name,
+            ),
             ObjectType::Host(kind) => host_property(self.host_member(kind, name)?),
             ObjectType::Interface(_) | ObjectType::Array(_) => None,
         }

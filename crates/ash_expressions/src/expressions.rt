@@ -31,11 +31,7 @@ use ash_typing::Ty;
 /// Checks an expression. One with parts is checked by a function of its own, so that the frame of this one, which each
 /// level pays for, stays small.
 #[cycle(expressions)]
-pub fn check_expr(
-    env: &Environment,
-    position: Position,
-    source: &Expr,
-) -> CheckResult<TypedExpr>
+pub fn check_expr(env: &Environment, position: Position, source: &Expr) -> CheckResult<TypedExpr>
     ensures { Agrees typed_of result
         (typing.typed (environment_of env.now) (is_target position) (written.expr_of source.now)) }
 {
@@ -45,9 +41,22 @@ pub fn check_expr(
         ExprKind::Bool(value) => Ok(TypedExpr::value(at, Ty::Bool, Tree::Bool(*value))),
         ExprKind::Null => Ok(TypedExpr::value(at, Ty::Null, Tree::Null)),
         ExprKind::This => check_this(at, env.this),
-        ExprKind::Name(name) => check_name(env, Name { at, text: name.as_str() }),
+        ExprKind::Name(name) => check_name(
+            env,
+            Name {
+                at,
+                text: name.as_str(),
+            },
+        ),
         ExprKind::Call { name, arguments } => {
-            check_call(env, Name { at, text: name.as_str() }, arguments)
+            check_call(
+                env,
+                Name {
+                    at,
+                    text: name.as_str(),
+                },
+                arguments,
+            )
         }
         ExprKind::Brackets(inner) => check_brackets(env, at, inner),
         ExprKind::Convert { to, value } => check_conversion(env, at, *to, value),
@@ -145,11 +154,7 @@ fn check_new_array(
 /// An operator before its operand.
 #[cycle(expressions)]
 #[inline(never)]
-fn check_unary(
-    env: &Environment,
-    prefix: Prefix,
-    operand: &Expr,
-) -> CheckResult<TypedExpr>
+fn check_unary(env: &Environment, prefix: Prefix, operand: &Expr) -> CheckResult<TypedExpr>
     ensures { Agrees typed_of result
         (typing.typed (environment_of env.now) false (written.expr_of operand.now)
         and_then λ t. typing.unary_at (is_target prefix.position) prefix.at prefix.operator t) }
@@ -219,11 +224,7 @@ fn check_assignment(
 /// `name(arguments)`
 #[cycle(expressions)]
 #[inline(never)]
-fn check_call(
-    env: &Environment,
-    name: Name,
-    arguments: &[Expr],
-) -> CheckResult<TypedExpr>
+fn check_call(env: &Environment, name: Name, arguments: &[Expr]) -> CheckResult<TypedExpr>
     ensures { Agrees typed_of result
         (typing.call_typed (environment_of env.now) name.entry.at name.entry.text.now
         (typing.all_typed (environment_of env.now) (exprs (map written.expr_of arguments.now)))) }
@@ -271,13 +272,28 @@ fn check_suffix(env: &Environment, base: TypedExpr, suffix: &Suffix) -> CheckRes
 {
     match suffix {
         Suffix::Field { place, name } => {
-            build_field(env, base, Name { at: place.at, text: name.as_str() })
+            build_field(
+                env,
+                base,
+                Name {
+                    at: place.at,
+                    text: name.as_str(),
+                },
+            )
         }
         Suffix::Method {
             place,
             name,
             arguments,
-        } => check_method_call(env, base, Name { at: place.at, text: name.as_str() }, arguments),
+        } => check_method_call(
+            env,
+            base,
+            Name {
+                at: place.at,
+                text: name.as_str(),
+            },
+            arguments,
+        ),
         Suffix::Index(value) => check_index(env, base, value),
         Suffix::Increment => build_step(env.alloc, base.at, Step::IncrementAfter, base),
         Suffix::Decrement => build_step(env.alloc, base.at, Step::DecrementAfter, base),

@@ -62,7 +62,11 @@ pub(crate) fn bracketed_form(form: Form) -> Form
 }
 
 /// The place that can be assigned, where an expression of this form is one.
-pub(crate) fn assignable_place(alloc: Global, form: Form, tree: Expr) -> Result<Option<Place>, AllocError>
+pub(crate) fn assignable_place(
+    alloc: Global,
+    form: Form,
+    tree: Expr,
+) -> Result<Option<Place>, AllocError>
     ensures { IfOk result
         (λ found. option_map place_of found ≡ terms.assignable form (expr_of tree)) }
 {

@@ -10,11 +10,11 @@
 //! A function `check_*` takes a part of a script; a function `build_*` takes parts that are checked, and returns the
 //! typed phrase that they are the parts of, or its fault.
 //!
-//! In reading order: `expressions`, the walk over an expression; `operators`, `assignments` and `calls`, which build a phrase of its
-//! checked parts, with `operator_types`, `callees` and `parameters`; `arrays`, their construction, indexes and methods;
-//! `environment`, what names mean, with `lookup`, and `type_names`, the names of types; `signatures` and `name_index`,
-//! what a module declares, found by its name; `typed_expr`, `forms`, `types` and `fitting`; `error`, the error that
-//! ends checking.
+//! In reading order: `expressions`, the walk over an expression; `operators`, `assignments` and `calls`, which build a
+//! phrase of its checked parts, with `operator_types`, `callees` and `parameters`; `arrays`, their construction, indexes
+//! and methods; `environment`, what names mean, with `lookup`, and `type_names`, the names of types; `signatures` and
+//! `name_index`, what a module declares, found by its name; `typed_expr`, `forms`, `types` and `fitting`; `error`, the
+//! error that ends checking.
 #![tactic(auto)]
 
 mod arrays;
@@ -45,9 +45,7 @@ pub use expressions::{check_expr, check_exprs};
 pub use forms::Position;
 pub use lookup::first_function;
 pub use parameters::Parameters;
-pub use signatures::{
-    Binding, ClassSignature, FunctionSignature, InterfaceSignature, Signatures,
-};
+pub use signatures::{Binding, ClassSignature, FunctionSignature, InterfaceSignature, Signatures};
 pub use type_names::{element_named, object_named, result_named, ty_named};
 pub use typed_expr::{TypedExpr, check_bool, coerce_for_assignment, integer_type};
 pub use types::{holds, is_same, is_void, result_type, ty_of, ty_of_element, var_type};

@@ -12,7 +12,10 @@ use std::alloc::{AllocError, Global};
 pub(crate) type NameIndex<'a> = IndexMap<&'a str, usize>;
 
 /// The index of these names.
-pub(crate) fn name_index_of<'a>(alloc: Global, names: &[&'a str]) -> Result<NameIndex<'a>, AllocError>
+pub(crate) fn name_index_of<'a>(
+    alloc: Global,
+    names: &[&'a str],
+) -> Result<NameIndex<'a>, AllocError>
     ensures { IfOk result (λ places. IsNameIndex places (texts names.now)) }
 {
     let mut places = IndexMap::with_capacity(alloc, names.len())?;
@@ -37,7 +40,10 @@ pub(crate) fn interface_names<'a>(
     Ok(names)
 }
 
-pub(crate) fn class_names<'a>(alloc: Global, all: &[ClassSignature<'a>]) -> Result<Vec<&'a str>, AllocError>
+pub(crate) fn class_names<'a>(
+    alloc: Global,
+    all: &[ClassSignature<'a>],
+) -> Result<Vec<&'a str>, AllocError>
     ensures { IfOk result (λ names. texts names.items ≡ map (λ c. c.name.now) all.now) }
 {
     let mut names = Vec::with_capacity(alloc, all.len())?;

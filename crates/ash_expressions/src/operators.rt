@@ -14,9 +14,7 @@ use crate::operator_types::{
     accepts, assumed_type, common_operands, operand_integer_type, operand_type, operator_result,
     operator_sort, typed_operator,
 };
-use crate::typed_expr::{
-    TypedExpr, adapt_operand, check_bool, coerce, handle_type, integer_type,
-};
+use crate::typed_expr::{TypedExpr, adapt_operand, check_bool, coerce, handle_type, integer_type};
 use crate::types::{common_type, conversion, is_void, signed_type, ty_of};
 use ash_tree::{BinaryOp, Primitive, UnaryOp};
 use ash_typed::{
@@ -41,7 +39,12 @@ pub(crate) struct UnifiedOperands {
     pub(crate) right: Expr,
 }
 
-fn right_operand(alloc: Global, sort: Sort, operands: Operands, right: TypedExpr) -> CheckResult<Expr>
+fn right_operand(
+    alloc: Global,
+    sort: Sort,
+    operands: Operands,
+    right: TypedExpr,
+) -> CheckResult<Expr>
     ensures { Agrees expr_of result
         (Ok (terms.right_by sort operands (typing.term_of (typed_of right)))) }
 {
@@ -51,7 +54,12 @@ fn right_operand(alloc: Global, sort: Sort, operands: Operands, right: TypedExpr
     }
 }
 
-fn unify_adapted(alloc: Global, sort: Sort, left: TypedExpr, right: TypedExpr) -> CheckResult<UnifiedOperands>
+fn unify_adapted(
+    alloc: Global,
+    sort: Sort,
+    left: TypedExpr,
+    right: TypedExpr,
+) -> CheckResult<UnifiedOperands>
     ensures { Agrees unified_of result (typing.met_by sort (typed_of left) (typed_of right)) }
 {
     let one = assumed_type(sort, right.ty, left.ty);
@@ -178,7 +186,12 @@ pub(crate) fn build_binary(
 
 /// `++` or `--` at a place.
 #[tactic(auto, unfolding(ash_typing::specs::Expressions::counted))]
-pub(crate) fn build_step(alloc: Global, at: usize, step: Step, operand: TypedExpr) -> CheckResult<TypedExpr>
+pub(crate) fn build_step(
+    alloc: Global,
+    at: usize,
+    step: Step,
+    operand: TypedExpr,
+) -> CheckResult<TypedExpr>
     ensures { Agrees typed_of result
         (typing.counted at step (typed_of operand)
         (terms.assignable operand.form (expr_of operand.tree))) }
@@ -190,7 +203,13 @@ pub(crate) fn build_step(alloc: Global, at: usize, step: Step, operand: TypedExp
     Ok(TypedExpr::value(at, Ty::Integer(kind), nodes::count(place, kind, step)))
 }
 
-fn build_integer_change(alloc: Global, at: usize, kind: Kind, change: Change, operand: TypedExpr) -> CheckResult<TypedExpr>
+fn build_integer_change(
+    alloc: Global,
+    at: usize,
+    kind: Kind,
+    change: Change,
+    operand: TypedExpr,
+) -> CheckResult<TypedExpr>
     ensures { Agrees typed_of result (Ok (typing.altered at kind change (typed_of operand))) }
 {
     let value = coerce(alloc, Ty::Integer(kind), operand)?;
@@ -205,7 +224,13 @@ fn build_integer(alloc: Global, at: usize, kind: Kind, operand: TypedExpr) -> Ch
     Ok(TypedExpr::value(at, Ty::Integer(kind), value))
 }
 
-fn build_change(alloc: Global, at: usize, of: Ty, change: Change, operand: TypedExpr) -> CheckResult<TypedExpr>
+fn build_change(
+    alloc: Global,
+    at: usize,
+    of: Ty,
+    change: Change,
+    operand: TypedExpr,
+) -> CheckResult<TypedExpr>
     ensures { Agrees typed_of result
         (Ok (typing.made at of (Alter change (expr_of operand.tree)))) }
 {
@@ -266,7 +291,12 @@ pub(crate) fn build_unary(
 
 /// `prim(e)`
 #[tactic(auto, unfolding(ash_typing::specs::Expressions::convert_at))]
-pub(crate) fn build_conversion(alloc: Global, at: usize, to: Primitive, value: TypedExpr) -> CheckResult<TypedExpr>
+pub(crate) fn build_conversion(
+    alloc: Global,
+    at: usize,
+    to: Primitive,
+    value: TypedExpr,
+) -> CheckResult<TypedExpr>
     ensures { Agrees typed_of result (typing.convert_at at to (typed_of value)) }
 {
     match ty_of(to) {
@@ -295,7 +325,12 @@ pub(crate) fn cast_target(at: usize, object: Option<ObjectType>) -> CheckResult<
 
 /// `cast<to>(value)`
 #[tactic(auto, unfolding(ash_typing::specs::Expressions::cast_at))]
-pub(crate) fn build_cast(alloc: Global, at: usize, to: ObjectType, value: TypedExpr) -> CheckResult<TypedExpr>
+pub(crate) fn build_cast(
+    alloc: Global,
+    at: usize,
+    to: ObjectType,
+    value: TypedExpr,
+) -> CheckResult<TypedExpr>
     ensures { Agrees typed_of result (typing.cast_at at to (typed_of value)) }
 {
     handle_type(value.at, value.ty)?;

@@ -27,7 +27,11 @@ fn host_object_type(call: &Call) -> Option<ObjectType>
 /// A type of objects, by its name: a class of the module, else an interface, else a registered
 /// type.
 #[tactic(auto, unfolding(ash_typing::specs::Heads::object_named))]
-pub fn object_named(registry: &Registrations, signatures: &Signatures, name: &str) -> Option<ObjectType>
+pub fn object_named(
+    registry: &Registrations,
+    signatures: &Signatures,
+    name: &str,
+) -> Option<ObjectType>
     ensures { result
         ≡ definition.object_named (registered registry.now) (signatures_of signatures.now)
         name.now }
@@ -79,7 +83,11 @@ pub fn element_named(
 {
     match &of.kind {
         ElementKind::Primitive(primitive) => Some(element_of_primitive(*primitive)),
-        ElementKind::Handle(name) => element_of_object(object_named(registry, signatures, name.as_str())?),
+        ElementKind::Handle(name) => element_of_object(object_named(
+            registry,
+            signatures,
+            name.as_str(),
+        )?),
     }
 }
 

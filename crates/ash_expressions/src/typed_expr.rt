@@ -76,11 +76,7 @@ pub(crate) fn coerce(alloc: Global, to: Ty, typed: TypedExpr) -> Result<Expr, Al
 
 /// The value, converted to the type `to` of the variable that it is assigned to.
 #[tactic(auto, unfolding(ash_typing::specs::Expressions::fitted))]
-pub fn coerce_for_assignment(
-    env: &Environment,
-    to: Ty,
-    typed: TypedExpr,
-) -> CheckResult<Expr>
+pub fn coerce_for_assignment(env: &Environment, to: Ty, typed: TypedExpr) -> CheckResult<Expr>
     ensures { Agrees expr_of result (typing.fitted (classes_of env.now) to (typed_of typed)) }
 {
     if !fits(&env.signatures.classes, to, typed.ty) {
