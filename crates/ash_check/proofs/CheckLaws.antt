@@ -1,4 +1,4 @@
--- What checking tells, from what its parts tell; and the names on a way round.
+-- What checking reports, from what its parts report; and the names of a cycle's classes.
 use Rattle.std.proofs.Common.{◌≡◌, ℕ, zero, suc, ◌+◌, ◌<◌, List, [], ◌∷◌, ◌++◌, length, map, drop, get_or, slice_get, Some, None, Result, Ok, Err, IsErrAnd, MatchResult, String, Global, string_bytes, refl, sym, ap, ap₂, ◌∙◌, subst, arith, append_assoc}
 use Rattle.std.proofs.Common.{add-one, drop-cons}
 use Rattle.std.proofs.lemmas.Option.{slice_get_within, get_or_from_slice_get}
@@ -11,52 +11,52 @@ use Rattle.ash_typing.specs.declared.fault.Rule.{Rule}
 use Rattle.ash_typing.specs.declared.fault.Rule.TheVariants as rules
 use Rattle.ash_typed.specs.Modules.{Module}
 use Rattle.ash_typing.specs.Items.{module_typed}
-use Rattle.ash_expressions.specs.declared.stop.Stop.{Stop}
-use Rattle.ash_expressions.specs.declared.stop.Stop.TheVariants as stops
-use Rattle.ash_expressions.specs.Gives.{Fails}
+use Rattle.ash_expressions.specs.declared.error.CheckError.{CheckError}
+use Rattle.ash_expressions.specs.declared.error.CheckError.TheVariants as errors
+use Rattle.ash_expressions.specs.Agreement.{FailsWith}
 use Rattle.ash_classes.specs.Ways.{IsWay}
 use Rattle.ash_classes.specs.References.{Refers, classes_of}
 use Rattle.ash_classes.specs.ToldCycle.{told_cycle}
 use Rattle.ash_check.specs.declared.faults.CheckFault.{CheckFault}
-use Rattle.ash_check.specs.Told.{told_at, stopped}
+use Rattle.ash_check.specs.Faults.{rule_fault, fault_of_error}
 use Rattle.ash_check.specs.Checks.{Told, Cyclic, name_at, round_of, unless_round, checked_by, checked, broken_at, told_of, IsWhatIsTold, Tells, HoldsNamed, LeadsTo, GoesRound}
 
--- what is told
+-- faults
 
-rule_is_told : (rule : Rule) (at : ℕ) → told_of (told_at rule at) ≡ broken_at rule at
-rule_is_told rules.UnknownName at = refl
-rule_is_told rules.UnknownType at = refl
-rule_is_told rules.NameTaken at = refl
-rule_is_told rules.TypeMismatch at = refl
-rule_is_told rules.WrongArgumentCount at = refl
-rule_is_told rules.NotAssignable at = refl
-rule_is_told rules.NoReturn at = refl
-rule_is_told rules.Misplaced at = refl
-rule_is_told rules.NoFactory at = refl
-rule_is_told rules.TooMany at = refl
-rule_is_told rules.ConstantOutOfRange at = refl
-rule_is_told rules.DuplicateCase at = refl
+rule_is_reported : (rule : Rule) (at : ℕ) → told_of (rule_fault rule at) ≡ broken_at rule at
+rule_is_reported rules.UnknownName at = refl
+rule_is_reported rules.UnknownType at = refl
+rule_is_reported rules.NameTaken at = refl
+rule_is_reported rules.TypeMismatch at = refl
+rule_is_reported rules.WrongArgumentCount at = refl
+rule_is_reported rules.NotAssignable at = refl
+rule_is_reported rules.NoReturn at = refl
+rule_is_reported rules.Misplaced at = refl
+rule_is_reported rules.NoFactory at = refl
+rule_is_reported rules.TooMany at = refl
+rule_is_reported rules.ConstantOutOfRange at = refl
+rule_is_reported rules.DuplicateCase at = refl
 
--- a fault of the walk is what is told
-pub stop_is_told : (calls : List Call) (items : List Item) (stop : Stop) → Fails stop (module_typed calls items) → Tells (checked calls items) (stopped stop)
+-- a fault of the walk is what is reported
+pub error_is_reported : (calls : List Call) (items : List Item) (error : CheckError) → FailsWith error (module_typed calls items) → Tells (checked calls items) (fault_of_error error)
 unfolding checked
-stop_is_told calls items (stops.Fault f) fails = subst (λ why. IsWhatIsTold why (checked calls items)) (sym (rule_is_told f.rule f.at)) (ap (checked_by (classes_of items)) fails)
-stop_is_told calls items stops.NoMemory fails = tt
+error_is_reported calls items (errors.Fault f) fails = subst (λ why. IsWhatIsTold why (checked calls items)) (sym (rule_is_reported f.rule f.at)) (ap (checked_by (classes_of items)) fails)
+error_is_reported calls items errors.NoMemory fails = tt
 
--- and so what is answered
-pub tells_if_err : {T : Type 0} (r : Result T CheckFault) (why : CheckFault) (answer : Result Module Told) (P : T → Type 0) → IsErrAnd r (λ fault. fault ≡ why) → Tells answer why → MatchResult r P (λ fault. Tells answer fault)
-tells_if_err (Ok done) why answer P is tells = absurd is
-tells_if_err (Err fault) why answer P is tells = subst (λ f. Tells answer f) (sym is) tells
+-- and so what is returned
+pub reported_if_err : {T : Type 0} (r : Result T CheckFault) (why : CheckFault) (answer : Result Module Told) (P : T → Type 0) → IsErrAnd r (λ fault. fault ≡ why) → Tells answer why → MatchResult r P (λ fault. Tells answer fault)
+reported_if_err (Ok done) why answer P is tells = absurd is
+reported_if_err (Err fault) why answer P is tells = subst (λ f. Tells answer f) (sym is) tells
 
--- where every rule is kept and no class reaches itself, the typed module
+-- where no rule is broken and no class reaches itself, the typed module
 pub typed_is_checked : (calls : List Call) (items : List Item) (typed : Module) → module_typed calls items ≡ Ok typed → told_cycle (classes_of items) ≡ None → checked calls items ≡ Ok typed
 unfolding checked
 typed_is_checked calls items typed fine none = ap (checked_by (classes_of items)) fine ∙ ap (λ way. unless_round (classes_of items) way typed) none
 
--- else the cycle that is told
-pub cycle_is_told : (calls : List Call) (items : List Item) (typed : Module) (first : ℕ) (others : List ℕ) → module_typed calls items ≡ Ok typed → told_cycle (classes_of items) ≡ Some (first, others) → checked calls items ≡ Err (Cyclic (round_of (classes_of items) (first, others)))
+-- else the cycle that is reported
+pub cycle_is_reported : (calls : List Call) (items : List Item) (typed : Module) (first : ℕ) (others : List ℕ) → module_typed calls items ≡ Ok typed → told_cycle (classes_of items) ≡ Some (first, others) → checked calls items ≡ Err (Cyclic (round_of (classes_of items) (first, others)))
 unfolding checked
-cycle_is_told calls items typed first others fine some = ap (checked_by (classes_of items)) fine ∙ ap (λ way. unless_round (classes_of items) way typed) some
+cycle_is_reported calls items typed first others fine some = ap (checked_by (classes_of items)) fine ∙ ap (λ way. unless_round (classes_of items) way typed) some
 
 -- places of classes
 
@@ -76,7 +76,7 @@ way_is_within classes from (next ∷ between) to way (suc k) d behind = way_is_w
 pub name_is : (classes : List Class) (place : ℕ) (class : Class) → slice_get classes place ≡ Some class → name_at classes place ≡ class.name
 name_is classes place class at = ap (λ found. option_map_or (λ (c : Class). c.name) found []) at
 
--- one more name behind those so far
+-- one more name after those so far
 pub one_more_name : (classes : List Class) (names : List (String Global)) (name : String Global) (places : List ℕ) (i d : ℕ) → i < length places → string_bytes name ≡ name_at classes (get_or places i d) → map string_bytes (names ++ name ∷ []) ++ map (name_at classes) (drop (i + 1) places) ≡ map string_bytes names ++ map (name_at classes) (drop i places)
 one_more_name classes names name places i d within is =
     let begins : drop i places ≡ get_or places i d ∷ drop (suc i) places = drop-cons places i d within in

@@ -1,4 +1,4 @@
--- What the check answers, by the rules of typing and by which classes reach themselves.
+-- What the check returns, by the rules of typing and by which classes reach themselves.
 use Rattle.std.proofs.Common.{◌≡◌, ◌↔◌, ◌∙◌, ℕ, List, Option, Some, None, Result, Ok, Err, refl, sym, ap}
 use Rattle.ash_registrations.specs.Calls.{Call}
 use Rattle.ash_tree.specs.Tree.{Class, Item}
@@ -13,9 +13,9 @@ use Rattle.ash_classes.specs.ToldCycle.{told_cycle}
 use Rattle.ash_classes.specs.Ways.{IsTold, Reaches}
 use Rattle.ash_classes.proofs.ToldSearches.{told_is, none_is_told}
 use Rattle.ash_check.specs.Checks.{Told, Broken, Cyclic, round_of, unless_round, checked_by, checked}
-use Rattle.ash_check.proofs.CheckLaws.{typed_is_checked, cycle_is_told}
+use Rattle.ash_check.proofs.CheckLaws.{typed_is_checked, cycle_is_reported}
 
--- answers
+-- outcomes
 
 same_answer : (x y : Module) → ◌≡◌ {A = Result Module Told} (Ok x) (Ok y) → x ≡ y
 same_answer x y h = cc
@@ -72,7 +72,7 @@ typed_cyclic : (calls : List Call) (items : List Item) (names : List (List ℕ))
 unfolding checked
 typed_cyclic calls items names h = by_cyclic (classes_of items) (module_typed calls items) names h
 
--- by the cycle that is answered
+-- by the cycle that is returned
 pub cycle_is : (calls : List Call) (items : List Item) (names : List (List ℕ)) → (checked calls items ≡ Err (Cyclic names)) ↔ ((typed : Module) × (first : ℕ) × (others : List ℕ) × IsTyped calls items typed × IsTold (Refers (classes_of items)) first others × (names ≡ round_of (classes_of items) (first, others)))
 cycle_is calls items names = (go, back)
   where
@@ -85,7 +85,7 @@ cycle_is calls items names = (go, back)
     back : (typed : Module) × (first : ℕ) × (others : List ℕ) × IsTyped calls items typed × IsTold (Refers (classes_of items)) first others × (names ≡ round_of (classes_of items) (first, others)) → checked calls items ≡ Err (Cyclic names)
     back h =
         let found : told_cycle (classes_of items) ≡ Some (h.1, h.2) = (told_is (classes_of items) h.1 h.2).1 h.4 in
-        cycle_is_told calls items h.0 h.1 h.2 ((module_typed-exact calls items h.0).1 h.3) found ∙ ap (λ ns. Err (Cyclic ns)) (sym h.5)
+        cycle_is_reported calls items h.0 h.1 h.2 ((module_typed-exact calls items h.0).1 h.3) found ∙ ap (λ ns. Err (Cyclic ns)) (sym h.5)
 
 some_round : (classes : List Class) (way : Option (ℕ × List ℕ)) → told_cycle classes ≡ way → (class : ℕ) → Reaches (Refers classes) class class → (round : ℕ × List ℕ) × (told_cycle classes ≡ Some round)
 some_round classes None h class reaches = absurd ((none_is_told classes).0 h class reaches)

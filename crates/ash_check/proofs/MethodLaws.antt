@@ -1,4 +1,4 @@
--- Lists of types that are the same, and places of methods behind those so far.
+-- Lists of types that are the same, and places of methods after those so far.
 use Rattle.std.proofs.Common.{◌≡◌, ◌<◌, ℕ, List, [], ◌∷◌, ◌++◌, false, Option, Some, None, length, drop, refl, sym, ap, append_assoc, arith}
 use Rattle.std.proofs.lemmas.List.{length-drop}
 use Rattle.ash_typing.specs.declared.types.Ty.{Ty}
@@ -17,14 +17,14 @@ too_few ts us i h k = nothing_left (drop i ts) us (omega (arith, h, length-drop 
 
 -- places
 
-abbrev pub behind : List ℕ → Option (List ℕ) → Option (List ℕ)
-behind before None = None
-behind before (Some places) = Some (before ++ places)
+abbrev pub prepended : List ℕ → Option (List ℕ) → Option (List ℕ)
+prepended before None = None
+prepended before (Some places) = Some (before ++ places)
 
-pub nothing_before : (r : Option (List ℕ)) → behind [] r ≡ r
-nothing_before None = refl
-nothing_before (Some places) = refl
+pub none_prepended : (r : Option (List ℕ)) → prepended [] r ≡ r
+none_prepended None = refl
+none_prepended (Some places) = refl
 
-pub one_before : (before : List ℕ) (place : ℕ) (r : Option (List ℕ)) → behind before (with_first (Some place) r) ≡ behind (before ++ place ∷ []) r
-one_before before place None = refl
-one_before before place (Some places) = ap Some (sym (append_assoc before (place ∷ []) places))
+pub one_prepended : (before : List ℕ) (place : ℕ) (r : Option (List ℕ)) → prepended before (with_first (Some place) r) ≡ prepended (before ++ place ∷ []) r
+one_prepended before place None = refl
+one_prepended before place (Some places) = ap Some (sym (append_assoc before (place ∷ []) places))

@@ -1,4 +1,4 @@
--- Typed nodes that hold an optional node, and the fields of a class with more behind them.
+-- Typed nodes that hold an optional node, and the fields of a class with more after them.
 use Rattle.std.proofs.Common.{◌≡◌, ℕ, List, ◌++◌, Some, None, map, rules}
 use Rattle.std.proofs.lemmas.List.{map-append}
 use Rattle.std.specs.declared.boxed.Box.{Box}

@@ -1,4 +1,4 @@
--- Labels and branches of written statements, and what is behind the last label.
+-- Labels and branches of written statements, and what is after the last label.
 use Rattle.std.proofs.lemmas.Option.{none-some, same_Some}
 use Rattle.std.proofs.Common.{ℕ, zero, suc, ◌+◌, ◌-◌, ◌<◌, length, Some, slice_get, get_or, drop, drop-cons, add-one, arith, ◌≡◌, List, [], ◌∷◌, map, Bool, true, false, ◌||◌, refl, sym, ap, ◌∙◌, Box, Vec, Global, rules}
 use Rattle.ash_tree.specs.declared.tree.places.Place.{Place}

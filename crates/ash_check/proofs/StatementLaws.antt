@@ -1,4 +1,4 @@
--- Statements of a block, each behind those before it, and the locals that go with it.
+-- Statements of a block in their order, and the locals that end with it.
 use Rattle.std.proofs.Common.{◌≡◌, ℕ, List, [], ◌∷◌, ◌++◌, Ok, Err, refl, sym, subst, ap, ◌∙◌, append_assoc, append-nil, length, take, drop, get_or, map, ◌<◌, ◌≤◌, ◌+◌, suc, add-one, drop-cons, drop_of_length-le, Result, Option, option_map, rules, IfOk}
 use Rattle.std.proofs.lemmas.List.{take_at, take-map, length-map, map-append}
 use Rattle.std.specs.declared.vec.Vec.{Vec}
@@ -22,16 +22,16 @@ use Rattle.ash_typing.specs.Checking.{Checking, ◌>>=◌}
 use Rattle.ash_typed.specs.StatementTree.{Initialization, Stmt, Block, Stmts, no_stmt, stmt, stmts, Case, labelled, Cases, no_case, next_case, cases}
 use Rattle.ash_typing.specs.Environment.{Declared}
 use Rattle.ash_typing.specs.Statements.{stmt_typed, stmts_typed, cases_typed}
-use Rattle.ash_expressions.specs.declared.environment.Declared as code_declared
-use Rattle.ash_expressions.specs.declared.stop.Stop.{Stop}
-use Rattle.ash_expressions.specs.declared.stop.Stop.TheVariants as stops
-use Rattle.ash_expressions.specs.Gives.{Fails}
-use Rattle.ash_expressions.specs.Views.{declared_of}
+use Rattle.ash_expressions.specs.declared.signatures.Binding as code_binding
+use Rattle.ash_expressions.specs.declared.error.CheckError.{CheckError}
+use Rattle.ash_expressions.specs.declared.error.CheckError.TheVariants as errors
+use Rattle.ash_expressions.specs.Agreement.{FailsWith}
+use Rattle.ash_expressions.specs.Views.{binding_of}
 use Rattle.ash_check.proofs.ReturnLaws.{case_is, begins_at}
 use Rattle.ash_typing.specs.Scopes.{Scope, block_of, behind}
 use Rattle.ash_typing.specs.Labels.{is_last}
 
--- what was made before, with what is made of the rest
+-- the results so far, with those of the rest
 
 abbrev pub values_after : List Initialization → Checking (List Initialization) → Checking (List Initialization)
 values_after done r = r >>= λ values. Ok (done ++ values)
@@ -58,8 +58,8 @@ before_none : (done : List Stmt) → stmts_before done no_stmt ≡ stmts done
 before_none [] = refl
 before_none (s ∷ done) = ap (stmt s) (before_none done)
 
-pub no_stmt_behind : (done : List Stmt) → stmts_after done (Ok no_stmt) ≡ Ok (stmts done)
-no_stmt_behind done = ap Ok (before_none done)
+pub no_stmt_after : (done : List Stmt) → stmts_after done (Ok no_stmt) ≡ Ok (stmts done)
+no_stmt_after done = ap Ok (before_none done)
 
 before_more : (done : List Stmt) (s : Stmt) (ss : Stmts) → stmts_before done (stmt s ss) ≡ stmts_before (done ++ s ∷ []) ss
 before_more [] s ss = refl
@@ -69,14 +69,14 @@ after_more : (done : List Stmt) (s : Stmt) (r : Checking Stmts) → stmts_after 
 after_more done s (Ok ss) = ap Ok (before_more done s ss)
 after_more done s (Err f) = refl
 
--- a statement, and those behind it
+-- a statement, and those after it
 pub next_stmt : (done : List Stmt) (scope next : Scope) (s : written.Stmt) (ss : written.Stmts) (t : Stmt) → stmt_typed scope s ≡ Ok t → next ≡ behind scope s → stmts_after done (stmts_typed scope (written.stmt s ss)) ≡ stmts_after (done ++ t ∷ []) (stmts_typed next ss)
 next_stmt done scope next s ss t h k =
     ap (λ r. stmts_after done (r >>= λ x. stmts_typed (behind scope s) ss >>= λ xs. Ok (stmt x xs))) h
     ∙ after_more done t (stmts_typed (behind scope s) ss)
     ∙ ap (λ x. stmts_after (done ++ t ∷ []) (stmts_typed x ss)) (sym k)
 
--- locals with others behind them
+-- locals with others after them
 
 abbrev pub Extends : List Declared → List Declared → Type 0
 Extends before locals = (more : List Declared) × (locals ≡ before ++ more)
@@ -106,13 +106,13 @@ extends_behind before scope (written.Return p e) h = h
 pub extends_next : (before : List Declared) (scope next : Scope) (s : written.Stmt) → next ≡ behind scope s → Extends before scope.env.locals → Extends before next.env.locals
 extends_next before scope next s k h = subst (λ (x : Scope). Extends before x.env.locals) (sym k) (extends_behind before scope s h)
 
--- at the end of a block its locals go
-pub locals_go : (old all new : List code_declared.Declared) (kept : ℕ) → kept ≡ length old → new ≡ take kept all → Extends (map declared_of old) (map declared_of all) → map declared_of new ≡ map declared_of old
-locals_go old all new kept k n h =
-    ap (map declared_of) n
-    ∙ sym (take-map declared_of kept all)
-    ∙ ap (take kept) h.1
-    ∙ take_at (map declared_of old) h.0 kept (length-map old declared_of ∙ sym k)
+-- at the end of a block its locals end
+pub locals_go : (old all new : List code_binding.Binding) (count : ℕ) → count ≡ length old → new ≡ take count all → Extends (map binding_of old) (map binding_of all) → map binding_of new ≡ map binding_of old
+locals_go old all new count k n h =
+    ap (map binding_of) n
+    ∙ sym (take-map binding_of count all)
+    ∙ ap (take count) h.1
+    ∙ take_at (map binding_of old) h.0 count (length-map old binding_of ∙ sym k)
 
 -- blocks and switches, which hold lists
 
@@ -126,10 +126,10 @@ pub block_typed : (scope inner : Scope) (s : written.Stmt) (p : Place) (ss : wri
 block_typed scope inner s p ss body is k h =
     ap (stmt_typed scope) is ∙ ap (λ x. stmts_typed x ss >>= λ b. Ok (Block p.line b)) (sym k) ∙ ap (λ r. r >>= λ b. Ok (Block p.line b)) h
 
-pub block_fails : (scope inner : Scope) (s : written.Stmt) (p : Place) (ss : written.Stmts) (e : Stop) → s ≡ written.Block p ss → inner ≡ block_of scope → Fails e (stmts_typed inner ss) → Fails e (stmt_typed scope s)
-block_fails scope inner s p ss (stops.Fault f) is k h =
+pub block_fails : (scope inner : Scope) (s : written.Stmt) (p : Place) (ss : written.Stmts) (e : CheckError) → s ≡ written.Block p ss → inner ≡ block_of scope → FailsWith e (stmts_typed inner ss) → FailsWith e (stmt_typed scope s)
+block_fails scope inner s p ss (errors.Fault f) is k h =
     ap (stmt_typed scope) is ∙ ap (λ x. stmts_typed x ss >>= λ b. Ok (Block p.line b)) (sym k) ∙ ap (λ r. r >>= λ b. Ok (Block p.line b)) h
-block_fails scope inner s p ss stops.NoMemory is k h = tt
+block_fails scope inner s p ss errors.NoMemory is k h = tt
 
 -- a turn of the walk over a block, and its end
 
@@ -147,7 +147,7 @@ pub block_end : (done : List typed_stmt.Stmt) (scope : Scope) (body : List code_
 block_end done scope body i whole past so =
     sym so
     ∙ ap (λ xs. stmts_after (map typed_views.stmt_of done) (stmts_typed scope (written.stmts (map stmt_of xs)))) (drop_of_length-le body past)
-    ∙ no_stmt_behind (map typed_views.stmt_of done)
+    ∙ no_stmt_after (map typed_views.stmt_of done)
 
 -- a turn of the walk over the labels of a switch, its faults, and its end
 
@@ -183,33 +183,33 @@ first_is scope kind before done labels i x within is =
 pub cases_step : (done new : List typed_case.Case) (one : typed_case.Case) (scope next : Scope) (kind : Option Kind) (before more : List Label) (labels : List code_case.Case) (i : ℕ) (x : code_case.Case) (known : Label) (body : Stmts) (whole : Checking Cases) → new ≡ done ++ one ∷ [] → more ≡ before ++ (code_case.out-Case x).label ∷ [] → next ≡ scope → i < length labels → x ≡ get_or labels i x → known_at kind before x (drop (i + 1) labels) ≡ Ok known → body_at scope x ≡ Ok body → typed_views.case_of one ≡ labelled known body → walked scope kind before (map typed_views.case_of done) (drop i labels) ≡ whole → walked next kind more (map typed_views.case_of new) (drop (i + 1) labels) ≡ whole
 cases_step done new one scope next kind before more labels i x known body whole n m same within is h k made so =
     let rest : List code_case.Case = drop (i + 1) labels in
-    let told : List Case = map typed_views.case_of done in
+    let earlier : List Case = map typed_views.case_of done in
     let added : List Label = before ++ (code_case.out-Case x).label ∷ [] in
     ap (λ y. walked y kind more (map typed_views.case_of new) rest) same
     ∙ ap (λ y. walked scope kind y (map typed_views.case_of new) rest) m
     ∙ ap (λ y. walked scope kind added (map typed_views.case_of y) rest) n
     ∙ ap (λ y. walked scope kind added y rest) (map-append typed_views.case_of done (one ∷ []))
-    ∙ ap (λ y. walked scope kind added (told ++ y ∷ []) rest) made
-    ∙ sym (cases_after_more told (labelled known body) (cases_typed scope kind added (written.cases (map case_of rest))))
-    ∙ sym (ap (first_label scope kind before told x rest (Ok known)) k)
-    ∙ sym (ap (λ y. first_label scope kind before told x rest y (body_at scope x)) h)
-    ∙ sym (first_is scope kind before told labels i x within is)
+    ∙ ap (λ y. walked scope kind added (earlier ++ y ∷ []) rest) made
+    ∙ sym (cases_after_more earlier (labelled known body) (cases_typed scope kind added (written.cases (map case_of rest))))
+    ∙ sym (ap (first_label scope kind before earlier x rest (Ok known)) k)
+    ∙ sym (ap (λ y. first_label scope kind before earlier x rest y (body_at scope x)) h)
+    ∙ sym (first_is scope kind before earlier labels i x within is)
     ∙ so
 
-pub label_fails : (done : List typed_case.Case) (scope : Scope) (kind : Option Kind) (before : List Label) (labels : List code_case.Case) (i : ℕ) (x : code_case.Case) (e : Stop) (whole : Checking Cases) → i < length labels → x ≡ get_or labels i x → Fails e (known_at kind before x (drop (i + 1) labels)) → walked scope kind before (map typed_views.case_of done) (drop i labels) ≡ whole → Fails e whole
-label_fails done scope kind before labels i x (stops.Fault f) whole within is h so =
+pub label_fails : (done : List typed_case.Case) (scope : Scope) (kind : Option Kind) (before : List Label) (labels : List code_case.Case) (i : ℕ) (x : code_case.Case) (e : CheckError) (whole : Checking Cases) → i < length labels → x ≡ get_or labels i x → FailsWith e (known_at kind before x (drop (i + 1) labels)) → walked scope kind before (map typed_views.case_of done) (drop i labels) ≡ whole → FailsWith e whole
+label_fails done scope kind before labels i x (errors.Fault f) whole within is h so =
     sym so
     ∙ first_is scope kind before (map typed_views.case_of done) labels i x within is
     ∙ ap (λ y. first_label scope kind before (map typed_views.case_of done) x (drop (i + 1) labels) y (body_at scope x)) h
-label_fails done scope kind before labels i x stops.NoMemory whole within is h so = tt
+label_fails done scope kind before labels i x errors.NoMemory whole within is h so = tt
 
-pub labelled_fails : (done : List typed_case.Case) (scope : Scope) (kind : Option Kind) (before : List Label) (labels : List code_case.Case) (i : ℕ) (x : code_case.Case) (known : Label) (e : Stop) (whole : Checking Cases) → i < length labels → x ≡ get_or labels i x → known_at kind before x (drop (i + 1) labels) ≡ Ok known → Fails e (body_at scope x) → walked scope kind before (map typed_views.case_of done) (drop i labels) ≡ whole → Fails e whole
-labelled_fails done scope kind before labels i x known (stops.Fault f) whole within is h k so =
+pub labelled_fails : (done : List typed_case.Case) (scope : Scope) (kind : Option Kind) (before : List Label) (labels : List code_case.Case) (i : ℕ) (x : code_case.Case) (known : Label) (e : CheckError) (whole : Checking Cases) → i < length labels → x ≡ get_or labels i x → known_at kind before x (drop (i + 1) labels) ≡ Ok known → FailsWith e (body_at scope x) → walked scope kind before (map typed_views.case_of done) (drop i labels) ≡ whole → FailsWith e whole
+labelled_fails done scope kind before labels i x known (errors.Fault f) whole within is h k so =
     sym so
     ∙ first_is scope kind before (map typed_views.case_of done) labels i x within is
     ∙ ap (λ y. first_label scope kind before (map typed_views.case_of done) x (drop (i + 1) labels) y (body_at scope x)) h
     ∙ ap (first_label scope kind before (map typed_views.case_of done) x (drop (i + 1) labels) (Ok known)) k
-labelled_fails done scope kind before labels i x known stops.NoMemory whole within is h k so = tt
+labelled_fails done scope kind before labels i x known errors.NoMemory whole within is h k so = tt
 
 pub cases_end : (done : List typed_case.Case) (scope : Scope) (kind : Option Kind) (before : List Label) (labels : List code_case.Case) (i : ℕ) (whole : Checking Cases) → length labels ≤ i → walked scope kind before (map typed_views.case_of done) (drop i labels) ≡ whole → whole ≡ Ok (cases (map typed_views.case_of done))
 cases_end done scope kind before labels i whole past so =
@@ -217,7 +217,7 @@ cases_end done scope kind before labels i whole past so =
     ∙ ap (walked scope kind before (map typed_views.case_of done)) (drop_of_length-le labels past)
     ∙ ap Ok (cases_none (map typed_views.case_of done))
 
--- the scope of a block, and what a `for` leaves behind it
+-- the scope of a block, and what is left after a `for`
 
 abbrev pub at_first : Scope → ℕ → Scope
 at_first scope n = record { env = scope.env; first = n; gives = scope.gives; in_loop = scope.in_loop; in_switch = scope.in_switch }

@@ -1,4 +1,4 @@
--- What the check gives of a script that it accepts, and what holds of it by the typed tree alone.
+-- What the check returns for a script that it accepts, and what holds of it by the typed tree alone.
 use Rattle.std.specs.Prelude.{ℕ, List}
 use Rattle.ash_registrations.specs.Calls.{Call}
 use Rattle.ash_typed.specs.declared.tree.items.Module as code

@@ -1,4 +1,4 @@
--- What checking tells of a script: its typed module; or the first rule that is broken; else classes that could form
+-- What checking finds of a script: its typed module; or the first rule that is broken; else classes that could form
 -- cycles.
 use Rattle.std.specs.Prelude.{◌≡◌, ℕ, List, [], ◌∷◌, Option, Some, None, Result, Ok, Err, map, slice_get, string_bytes}
 use Rattle.std.specs.List.{Contains}
@@ -20,18 +20,18 @@ use Rattle.ash_check.specs.declared.faults.CheckFault.TheVariants as faults
 pub data Told : Type 0 where
   -- a rule that is broken at an offset
   Broken : Fault → Told
-  -- classes that could form a cycle, by their names: the first one told, and the others on the way back to it
+  -- classes that could form a cycle, by their names: the first one, and the others on the way back to it
   Cyclic : List (List ℕ) → Told
 
 -- the name of the class at this place
 abbrev pub name_at : List Class → ℕ → List ℕ
 name_at classes place = option_map_or (λ (class : Class). class.name) (slice_get classes place) []
 
--- the names of the classes on a way round
+-- the names of the classes on a cycle
 abbrev pub round_of : List Class → ℕ × List ℕ → List (List ℕ)
 round_of classes way = map (name_at classes) (way.0 ∷ way.1)
 
--- what is typed, unless a way round is told
+-- the typed module, unless there is a cycle
 abbrev pub unless_round : List Class → Option (ℕ × List ℕ) → Module → Result Module Told
 unless_round classes None typed = Ok typed
 unless_round classes (Some way) typed = Err (Cyclic (round_of classes way))
@@ -40,11 +40,11 @@ abbrev pub checked_by : List Class → Checking Module → Result Module Told
 checked_by classes (Ok typed) = unless_round classes (told_cycle classes) typed
 checked_by classes (Err fault) = Err (Broken fault)
 
--- The typed module of a script; or its first fault; or, where every rule is kept, the classes that could form a cycle.
+-- The typed module of a script; or its first fault; or, where no rule is broken, the classes that could form a cycle.
 unfoldable pub checked : List Call → List Item → Result Module Told
 checked calls items = checked_by (classes_of items) (module_typed calls items)
 
--- what the code's faults tell
+-- what the code's faults report
 
 abbrev pub broken_at : Rule → ℕ → Option Told
 broken_at rule at = Some (Broken (record { rule = rule; at = at }))
@@ -66,12 +66,12 @@ told_of (faults.ConstantOutOfRange at) = broken_at rules.ConstantOutOfRange at
 told_of (faults.DuplicateCase at) = broken_at rules.DuplicateCase at
 told_of faults.NoMemory = None
 
--- this is what checking tells, where it is told at all
+-- this is what checking finds, where it is reported at all
 abbrev pub IsWhatIsTold : Option Told → Result Module Told → Type 0
 IsWhatIsTold None answer = Unit {0}
 IsWhatIsTold (Some why) answer = answer ≡ Err why
 
--- checking tells this fault, unless it says nothing of the script
+-- checking finds this fault, unless the fault says nothing of the script
 abbrev pub Tells : Result Module Told → CheckFault → Type 0
 Tells answer fault = IsWhatIsTold (told_of fault) answer
 

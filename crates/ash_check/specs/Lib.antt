@@ -1,4 +1,4 @@
-pub mod Told
+pub mod Faults
 pub mod WalkViews
 pub mod StatementViews
 pub mod Checks

@@ -1,4 +1,4 @@
--- What the walk over statements stands for.
+-- The structs of the walk over statements, as the definitions of typing see them.
 use Rattle.std.specs.Prelude.{List, Option, map, option_map}
 use Rattle.std.specs.declared.vec.Vec.{Vec}
 use Rattle.std.specs.declared.alloc.Global.{Global}
@@ -11,17 +11,17 @@ use Rattle.ash_typed.specs.BodyViews.{value_of, case_of, body_of}
 use Rattle.ash_typing.specs.Environment.{Declared}
 use Rattle.ash_typing.specs.Expressions.{Typed}
 use Rattle.ash_typing.specs.Scopes.{Scope}
-use Rattle.ash_expressions.specs.declared.environment.Declared as declared
-use Rattle.ash_expressions.specs.declared.typed.Typed as typed
-use Rattle.ash_expressions.specs.Views.{declared_of, heads_of, typed_of}
+use Rattle.ash_expressions.specs.declared.signatures.Binding as binding
+use Rattle.ash_expressions.specs.declared.typed_expr.TypedExpr as typed_expr
+use Rattle.ash_expressions.specs.Views.{binding_of, signatures_of, typed_of}
 use Rattle.ash_check.specs.declared.scopes.Scope as scope
 
-abbrev pub locals_of : Vec declared.Declared Global → List Declared
-locals_of locals = map declared_of locals.items
+abbrev pub locals_of : Vec binding.Binding Global → List Declared
+locals_of locals = map binding_of locals.items
 
 -- what a statement sees, with these locals
 abbrev pub scope_of : scope.Scope → List Declared → Scope
-scope_of s locals = record { env = record { heads = heads_of s.heads.now; registered = registered s.registry.now; this = s.this; locals = locals }; first = s.first; gives = s.gives; in_loop = s.in_loop; in_switch = s.in_switch }
+scope_of s locals = record { env = record { heads = signatures_of s.signatures.now; registered = registered s.registry.now; this = s.this; locals = locals }; first = s.block_start; gives = s.result; in_loop = s.in_loop; in_switch = s.in_switch }
 
 abbrev pub values_of : Vec initialization_code.Initialization Global → List Initialization
 values_of values = map value_of values.items
@@ -32,5 +32,5 @@ stmts_in body = body_of body.items
 abbrev pub cases_in : Vec case_code.Case Global → Cases
 cases_in labels = cases (map case_of labels.items)
 
-abbrev pub maybe_typed_of : Option typed.Typed → Option Typed
-maybe_typed_of t = option_map typed_of t
+abbrev pub optional_typed_of : Option typed_expr.TypedExpr → Option Typed
+optional_typed_of t = option_map typed_of t

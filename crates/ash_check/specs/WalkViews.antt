@@ -1,4 +1,4 @@
--- What the structs of the walk over a module's items stand for.
+-- The structs of the walk over a module's items, as the definitions of typing see them.
 use Rattle.std.specs.Prelude.{ℕ, List, [], Option, None, Some, Ok, map, option_map}
 use Rattle.std.specs.Borrow.{Bor}
 use Rattle.std.specs.declared.vec.Vec.{Vec}
@@ -18,11 +18,11 @@ use Rattle.ash_typed.specs.Modules.{Implementation, Class, variables_of, signatu
 use Rattle.ash_typed.specs.declared.tree.items.Variables as variables
 use Rattle.ash_typed.specs.declared.tree.items.Class as class
 use Rattle.ash_typed.specs.declared.tree.items.Module as script
-use Rattle.ash_expressions.specs.Places.{texts}
+use Rattle.ash_expressions.specs.NameIndex.{texts}
 use Rattle.ash_check.specs.declared.names.Names as names
 use Rattle.ash_check.specs.declared.routines.Routine as routine
-use Rattle.ash_check.specs.declared.interfaces.Signatures as signatures
-use Rattle.ash_check.specs.declared.implementations.Listed as listed
+use Rattle.ash_check.specs.declared.interfaces.InterfaceParts as interface_parts
+use Rattle.ash_check.specs.declared.implementations.ListedInterfaces as listed_interfaces
 use Rattle.ash_tree.specs.Items.{Routine}
 
 abbrev pub registered_in : Option (Bor Registrations) → List host.Call
@@ -35,19 +35,19 @@ names_of n = record { registered = registered_in n.registry; taken = texts n.tak
 abbrev pub routine_of : routine.Routine → Routine
 routine_of c = record { place = c.place; name = c.name.now; parameters = map parameter_of c.parameters.now; body = map stmt_of c.body.now }
 
--- the methods of an interface, and the interfaces that a class lists, so far
+-- the methods of an interface so far, and the interfaces that a class lists so far
 
-abbrev pub signatures_of : signatures.Signatures → Signatures
-signatures_of ss = record { names = names_of ss.names; methods = map signature_of ss.methods.items }
+abbrev pub interface_parts_of : interface_parts.InterfaceParts → Signatures
+interface_parts_of ss = record { names = names_of ss.names; methods = map signature_of ss.methods.items }
 
-abbrev pub listed_of : listed.Listed → Listed
-listed_of l = record { names = names_of l.names; interfaces = map implementation_of l.interfaces.items }
+abbrev pub listed_interfaces_of : listed_interfaces.ListedInterfaces → Listed
+listed_interfaces_of l = record { names = names_of l.names; interfaces = map implementation_of l.interfaces.items }
 
 -- the places of methods, where there is one for each
-abbrev pub maybe_places : Option (Vec ℕ Global) → Option (List ℕ)
-maybe_places places = option_map (λ (all : Vec ℕ Global). all.items) places
+abbrev pub optional_places : Option (Vec ℕ Global) → Option (List ℕ)
+optional_places places = option_map (λ (all : Vec ℕ Global). all.items) places
 
--- variables, a class and a module so far, with the names that are taken
+-- variables, a class and a module so far, each with the names that are taken
 
 abbrev pub row_of : Names → variables.Variables → Row
 row_of names v = record { names = names; variables = variables_of v }
@@ -58,9 +58,9 @@ members_of names c = record { names = names; class = class_of c }
 abbrev pub walked_of : Names → script.Module → Walked
 walked_of names m = record { names = names; typed = module_of m }
 
--- what a variable begins with
-abbrev pub maybe_expr : Option typed_expr.Expr → Option Expr
-maybe_expr value = option_map expr_of value
+-- the initial value of a variable, where it has one
+abbrev pub optional_expr : Option typed_expr.Expr → Option Expr
+optional_expr value = option_map expr_of value
 
 -- the class of this place, with the interfaces that it lists
 abbrev pub class_with : Environment → ℕ → written.Class → List Implementation → Checking Class

@@ -6,38 +6,40 @@ ghost use Rattle.ash_typing.specs.Environment.{with_locals};
 ghost use Rattle.ash_typing.specs.Returning as returning;
 ghost use Rattle.ash_typing.specs.Statements as definition;
 ghost use Rattle.ash_typed.specs.BodyViews.{body_of};
-ghost use Rattle.ash_expressions.specs.Gives.{Gives};
-ghost use Rattle.ash_expressions.specs.Views.{declared_of, environment_of};
+ghost use Rattle.ash_expressions.specs.Agreement.{Agrees};
+ghost use Rattle.ash_expressions.specs.Views.{binding_of, environment_of};
 
 use crate::returning::any_returns;
 use crate::scopes::Scope;
-use crate::statements::block;
-use ash_expressions::{Checking, Declared, Environment};
+use crate::statements::check_block;
+use ash_expressions::{Binding, CheckResult, Environment};
 use ash_tree::Stmt;
 use ash_typing::Ty;
-use std::alloc::Global;
 
-/// The body of a function that gives this type, whose parameters are the locals.
+/// Checks the body of a function that returns this type, whose parameters are the locals.
 #[tactic(auto, unfolding(ash_typing::specs::Statements::body_typed))]
-pub(crate) fn body_typed<'a>(
-    alloc: Global,
+pub(crate) fn check_body<'a>(
     env: &Environment<'_, 'a>,
-    mut locals: Vec<Declared<'a>>,
+    mut locals: Vec<Binding<'a>>,
     of: Ty,
     body: &'a [Stmt],
-) -> Checking<Vec<ash_typed::Stmt>>
-    ensures { Gives (λ b. body_of b.items) result (definition.body_typed (with_locals (environment_of env.now) (map declared_of locals.entry.items)) of (map stmt_of body.now)) }
+) -> CheckResult<Vec<ash_typed::Stmt>>
+    ensures { Agrees (λ b. body_of b.items) result
+        (definition.body_typed
+        (with_locals (environment_of env.now) (map binding_of locals.entry.items)) of
+        (map stmt_of body.now)) }
 {
     let scope = Scope {
-        heads: env.heads,
+        alloc: env.alloc,
+        signatures: env.signatures,
         registry: env.registry,
         this: env.this,
-        first: 0,
-        gives: of,
+        block_start: 0,
+        result: of,
         in_loop: false,
         in_switch: false,
     };
-    block(alloc, &scope, &mut locals, body)
+    check_block(&scope, &mut locals, body)
 }
 
 /// Whether a body returns, however its conditions turn out.

@@ -1,4 +1,4 @@
-//! What the check gives of a script that it accepts.
+//! What the check returns for a script that it accepts.
 
 ghost use Rattle.std.specs.Prelude.{◌≡◌};
 ghost use Rattle.ash_typed.specs.Modules.{module_of};
@@ -13,8 +13,8 @@ use std::marker::Model;
 use std::snapshot::Snapshot;
 
 /// A script that was checked: its typed module, with a rank for each of its classes. The module is sound where that is
-/// registered which it was checked against, so that what walks it meets no place out of range and no value of another type
-/// than it awaits; and the ranks fall along what objects of its classes hold of one another.
+/// registered which it was checked against, so that what walks it meets no place out of range and no value of another
+/// type than it awaits; and the ranks fall along what objects of its classes hold of one another.
 #[derive(Drop)]
 pub struct Checked {
     pub(crate) module: Module,
@@ -48,11 +48,12 @@ impl Checked {
         &self.module
     }
 
-    /// A rank for each class, by its place in `module().classes`: a number below that of the classes, and greater than the
-    /// rank of each class that it refers to.
+    /// A rank for each class, by its place in `module().classes`: a number below that of the classes, and greater than
+    /// the rank of each class that it refers to.
     pub fn ranks(&self) -> &[usize]
         ensures items { result.now ≡ self.now.ranks }
-        ensures fall { AreRanks (signatures_of (offered self.now.registered) (module_of self.now.typed)) result.now }
+        ensures fall { AreRanks
+            (signatures_of (offered self.now.registered) (module_of self.now.typed)) result.now }
     {
         &self.ranks
     }

@@ -1,6 +1,7 @@
 //! The check of a script: its typed module with a rank for each class, or why it is refused.
 
-ghost use Rattle.std.specs.Prelude.{◌≡◌, ◌↔◌, ◌<◌, ℕ, List, Ok, Err, length, map, string_bytes, All, IfOk, IfErr, OnOk, MatchResult};
+ghost use Rattle.std.specs.Prelude.{◌≡◌, ◌↔◌, ◌<◌, ℕ, List, Ok, Err, length, map, string_bytes, All, IfOk};
+ghost use Rattle.std.specs.Prelude.{IfErr, OnOk, MatchResult};
 ghost use Rattle.ash_registrations.specs.Calls.{Call};
 ghost use Rattle.ash_registrations.specs.Registered as table;
 ghost use Rattle.ash_registry.specs.Registered.{registered};
@@ -19,7 +20,7 @@ ghost use Rattle.ash_check.specs.Checks.{Broken, Cyclic, checked, Tells, told_of
 
 use crate::checked::Checked;
 use crate::faults::{CheckFault, ClassNames};
-use crate::items::module_typed;
+use crate::items::check_module;
 use ash_classes::{Cycle, class_ranks, classes};
 use ash_registrations::Registrations;
 use ash_registry::Registry;
@@ -28,9 +29,14 @@ use std::alloc::{AllocError, Global};
 use std::snapshot::Snapshot;
 
 // The names of the classes at these places.
-fn names_at(alloc: Global, classes: &[&Class], places: &[usize]) -> Result<Vec<String>, AllocError>
+fn class_names_at(
+    alloc: Global,
+    classes: &[&Class],
+    places: &[usize],
+) -> Result<Vec<String>, AllocError>
     requires { All (λ place. place < length classes.now) places.now }
-    ensures { IfOk result (λ names. map string_bytes names.items ≡ map (name_at (seen classes.now)) places.now) }
+    ensures { IfOk result
+        (λ names. map string_bytes names.items ≡ map (name_at (seen classes.now)) places.now) }
 {
     let mut names = Vec::new(alloc);
     for place in places {
@@ -39,25 +45,29 @@ fn names_at(alloc: Global, classes: &[&Class], places: &[usize]) -> Result<Vec<S
     Ok(names)
 }
 
-// The names of the classes on a way round.
-fn round_names(
+// The names of the classes on a cycle.
+fn cycle_names(
     alloc: Global,
     script: &ash_tree::Module,
     cycle: &Cycle,
 ) -> Result<ClassNames, AllocError>
     requires first { cycle.now.first < length (classes_of (written_module script.now)) }
-    requires others { All (λ place. place < length (classes_of (written_module script.now))) cycle.now.others.items }
-    ensures { IfOk result (λ names. map string_bytes names.0.items ≡ round_of (classes_of (written_module script.now)) (cycle.now.first, cycle.now.others.items)) }
+    requires others { All (λ place. place < length (classes_of (written_module script.now)))
+        cycle.now.others.items }
+    ensures { IfOk result
+        (λ names. map string_bytes names.0.items
+        ≡ round_of (classes_of (written_module script.now))
+        (cycle.now.first, cycle.now.others.items)) }
 {
     let classes = classes(alloc, &script.items)?;
     let mut places = Vec::new(alloc);
     places.push(cycle.first)?;
     places.extend_from_slice(&cycle.others)?;
-    Ok(ClassNames(names_at(alloc, &classes, &places)?))
+    Ok(ClassNames(class_names_at(alloc, &classes, &places)?))
 }
 
-/// Checks a script where this is registered.
-fn check_by(
+/// Checks a script against what is registered.
+fn check_against(
     alloc: Global,
     registry: &Registrations,
     script: &ash_tree::Module,
@@ -71,25 +81,27 @@ fn check_by(
     ensures ranks { IfOk result (λ done. AreRanks (Refers (classes_of (written_module script.now)))
         (length (classes_of (written_module script.now))) done.ranks) }
     ensures registered { IfOk result (λ done. done.registered ≡ table.registered registry.now) }
-    ensures sound { IfOk result (λ done. IsChecked (table.registered registry.now) (module_of done.typed) done.ranks) }
+    ensures sound { IfOk result
+        (λ done. IsChecked (table.registered registry.now) (module_of done.typed) done.ranks) }
     ensures acyclic { OnOk result ((class : ℕ) →
         Reaches (Refers (classes_of (written_module script.now))) class class → ⊥) }
-    ensures round { IfErr result (λ fault. GoesRoundIfCyclic (classes_of (written_module script.now)) (told_of fault)) }
+    ensures round { IfErr result
+        (λ fault. GoesRoundIfCyclic (classes_of (written_module script.now)) (told_of fault)) }
 {
-    let module = module_typed(alloc, registry, script)?;
+    let module = check_module(alloc, registry, script)?;
     match class_ranks(alloc, script)? {
         Ok(ranks) => Ok(Checked {
             module,
             ranks,
             registrations: Snapshot::of(registry),
         }),
-        Err(cycle) => Err(CheckFault::CyclicType(round_names(alloc, script, &cycle)?)),
+        Err(cycle) => Err(CheckFault::CyclicType(cycle_names(alloc, script, &cycle)?)),
     }
 }
 
-/// Checks a script by itself and against what is registered: names, types, where phrases may stand, limits, and that
-/// none of its classes could form a cycle. Its declarations must be in blocks or in the heads of loops, as in every script
-/// that the grammar derives.
+/// Checks a script by itself and against what is registered: names, types, where phrases may be, limits, and that
+/// none of its classes could form a cycle. Its declarations must be in blocks or in the heads of loops, as in every
+/// script that the grammar derives.
 ///
 /// # Errors
 ///
@@ -110,18 +122,20 @@ pub fn check(
     ensures ranks { IfOk result (λ done. AreRanks (Refers (classes_of (written_module script.now)))
         (length (classes_of (written_module script.now))) done.ranks) }
     ensures registered { IfOk result (λ done. done.registered ≡ registered registry.now) }
-    ensures sound { IfOk result (λ done. IsChecked (registered registry.now) (module_of done.typed) done.ranks) }
+    ensures sound { IfOk result
+        (λ done. IsChecked (registered registry.now) (module_of done.typed) done.ranks) }
     ensures acyclic { OnOk result ((class : ℕ) →
         Reaches (Refers (classes_of (written_module script.now))) class class → ⊥) }
-    ensures round { IfErr result (λ fault. GoesRoundIfCyclic (classes_of (written_module script.now)) (told_of fault)) }
+    ensures round { IfErr result
+        (λ fault. GoesRoundIfCyclic (classes_of (written_module script.now)) (told_of fault)) }
 {
-    check_by(alloc, registry.registrations(), script)
+    check_against(alloc, registry.registrations(), script)
 }
 
 /// That the check accepts a script, with this typed module, exactly where the rules give it this module and no class
-/// reaches itself. And that it answers a cycle exactly where the rules give it a module and some class reaches itself: the
-/// cycle from the first class that does, by the first of its shortest ways back. Else it answers the first fault of the walk.
-/// It does nothing when it runs.
+/// reaches itself. And that it returns a cycle exactly where the rules give it a module and some class reaches itself:
+/// the cycle from the first class that does, by the first of its shortest ways back. Else it returns the first fault of
+/// the walk. It does nothing when it runs.
 pub fn check_is_exact()
     ensures accepted { (calls : List Call) (items : List Item) (typed : modules.Module) →
         (checked calls items ≡ Ok typed) ↔ (IsTyped calls items typed ×

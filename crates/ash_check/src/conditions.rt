@@ -5,24 +5,25 @@ ghost use Rattle.ash_typed.specs.Views.{expr_of};
 ghost use Rattle.ash_typed.specs.StatementTree.{If, no_branch, branch};
 ghost use Rattle.ash_typed.specs.BodyViews.{stmt_of};
 ghost use Rattle.ash_typing.specs.Statements as definition;
-ghost use Rattle.ash_expressions.specs.Gives.{Gives};
+ghost use Rattle.ash_expressions.specs.Agreement.{Agrees};
 ghost use Rattle.ash_expressions.specs.Views.{typed_of};
 
-use ash_expressions::{Checking, Typed, truth};
-use ash_typed::{Expr as TypedExpr, Stmt, StmtKind};
+use ash_expressions::{CheckResult, TypedExpr, check_bool};
+use ash_typed::{Expr as Tree, Stmt, StmtKind};
 use std::alloc::{AllocError, Global};
 
 /// `if (condition) inner`
 #[tactic(auto, unfolding(ash_typing::specs::Statements::if_typed))]
-pub(crate) fn if_made(line: usize, condition: Typed, inner: Box<Stmt>) -> Checking<Stmt>
-    ensures { Gives stmt_of result (definition.if_typed line (Ok (typed_of condition)) (Ok (stmt_of inner.value))) }
+pub(crate) fn build_if(line: usize, condition: TypedExpr, inner: Box<Stmt>) -> CheckResult<Stmt>
+    ensures { Agrees stmt_of result
+        (definition.if_typed line (Ok (typed_of condition)) (Ok (stmt_of inner.value))) }
 {
-    truth(condition.at, condition.ty)?;
-    Ok(if_of(line, condition.tree, inner))
+    check_bool(condition.at, condition.ty)?;
+    Ok(if_stmt(line, condition.tree, inner))
 }
 
 #[tactic(auto, using(crate::proofs::NodeLaws::if_is))]
-fn if_of(line: usize, condition: TypedExpr, then: Box<Stmt>) -> Stmt
+fn if_stmt(line: usize, condition: Tree, then: Box<Stmt>) -> Stmt
     ensures { stmt_of result ≡ If line (expr_of condition) (stmt_of then.value) no_branch }
 {
     Stmt {
@@ -37,21 +38,24 @@ fn if_of(line: usize, condition: TypedExpr, then: Box<Stmt>) -> Stmt
 
 /// `if (condition) inner else other`
 #[tactic(auto, unfolding(ash_typing::specs::Statements::if_else_typed))]
-pub(crate) fn if_else_made(
+pub(crate) fn build_if_else(
     line: usize,
-    condition: Typed,
+    condition: TypedExpr,
     inner: Box<Stmt>,
     other: Box<Stmt>,
-) -> Checking<Stmt>
-    ensures { Gives stmt_of result (definition.if_else_typed line (Ok (typed_of condition)) (Ok (stmt_of inner.value)) (Ok (stmt_of other.value))) }
+) -> CheckResult<Stmt>
+    ensures { Agrees stmt_of result
+        (definition.if_else_typed line (Ok (typed_of condition)) (Ok (stmt_of inner.value))
+        (Ok (stmt_of other.value))) }
 {
-    truth(condition.at, condition.ty)?;
-    Ok(if_else_of(line, condition.tree, inner, other))
+    check_bool(condition.at, condition.ty)?;
+    Ok(if_else_stmt(line, condition.tree, inner, other))
 }
 
 #[tactic(auto, using(crate::proofs::NodeLaws::if_else_is))]
-fn if_else_of(line: usize, condition: TypedExpr, then: Box<Stmt>, otherwise: Box<Stmt>) -> Stmt
-    ensures { stmt_of result ≡ If line (expr_of condition) (stmt_of then.value) (branch (stmt_of otherwise.value)) }
+fn if_else_stmt(line: usize, condition: Tree, then: Box<Stmt>, otherwise: Box<Stmt>) -> Stmt
+    ensures { stmt_of result
+        ≡ If line (expr_of condition) (stmt_of then.value) (branch (stmt_of otherwise.value)) }
 {
     Stmt {
         line,
@@ -64,7 +68,7 @@ fn if_else_of(line: usize, condition: TypedExpr, then: Box<Stmt>, otherwise: Box
 }
 
 /// A statement in a box, where there is memory for it.
-pub(crate) fn boxed(alloc: Global, inner: Stmt) -> Result<Box<Stmt>, AllocError>
+pub(crate) fn boxed_stmt(alloc: Global, inner: Stmt) -> Result<Box<Stmt>, AllocError>
     ensures { IfOk result (λ b. b.value ≡ inner) }
 {
     Ok(Box::new(alloc, inner)?)

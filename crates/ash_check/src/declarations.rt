@@ -1,4 +1,4 @@
-//! Variables that are declared, and what they begin with.
+//! Declared variables, and their initial values.
 
 ghost use Rattle.std.specs.Prelude.{◌≡◌, map, option_map, IfOk};
 ghost use Rattle.ash_registrations.specs.Registered.{registered};
@@ -6,21 +6,20 @@ ghost use Rattle.ash_tree.specs.Tree.{place_of_type};
 ghost use Rattle.ash_tree.specs.Views.{element_of, type_of, initializer_of, decl_of};
 ghost use Rattle.ash_typed.specs.BodyViews.{value_of};
 ghost use Rattle.ash_typing.specs.Environment as environment;
-ghost use Rattle.ash_typing.specs.Heads as heads;
+ghost use Rattle.ash_typing.specs.Heads as type_names;
 ghost use Rattle.ash_typing.specs.Expressions as typing;
 ghost use Rattle.ash_typing.specs.Declarations as definition;
-ghost use Rattle.ash_expressions.specs.Gives.{Gives};
-ghost use Rattle.ash_expressions.specs.Views.{class_of, classes_of, typed_of, callee_of, environment_of};
-ghost use Rattle.ash_check.specs.WalkViews.{maybe_expr};
+ghost use Rattle.ash_expressions.specs.Agreement.{Agrees};
+ghost use Rattle.ash_expressions.specs.Views.{class_signature_of, classes_of, typed_of, callee_of, environment_of};
+ghost use Rattle.ash_check.specs.WalkViews.{optional_expr};
 
 use ash_expressions::{
-    Callee, Checking, Environment, Parameters, Typed, all_typed, array_built, broken, called,
-    expression, fitted, ty_named, var_type,
+    Arguments, Callee, CheckResult, Environment, Parameters, Position, TypedExpr, array_callee,
+    build_call, check_expr, check_exprs, coerce_for_assignment, fault_at, ty_named, var_type,
 };
 use ash_tree::{Decl, Element, Initializer, Place, Type, TypeKind};
 use ash_typed::{Expr, Initialization, ObjectType, Target};
 use ash_typing::{Callable, Rule, Ty};
-use std::alloc::Global;
 
 #[tactic(auto, using(ash_tree::proofs::Rows::type_place_is))]
 pub(crate) fn place_of(of: &Type) -> Place
@@ -31,47 +30,49 @@ pub(crate) fn place_of(of: &Type) -> Place
 
 /// The type that is written.
 pub(crate) fn ty_in(env: &Environment, of: &Type) -> Ty
-    ensures { result ≡ heads.ty_in (environment_of env.now) (type_of of.now) }
+    ensures { result ≡ type_names.ty_in (environment_of env.now) (type_of of.now) }
 {
-    ty_named(env.registry, env.heads, of)
+    ty_named(env.registry, env.signatures, of)
 }
 
-fn at_element(of: &Element) -> usize
+fn element_offset(of: &Element) -> usize
     ensures { result ≡ typing.at_element (element_of of.now) }
 {
     of.place.at
 }
 
 /// Where the name in a type is: of an array, that of its elements' type.
-pub(crate) fn at_type_name(of: &Type) -> usize
+pub(crate) fn type_name_offset(of: &Type) -> usize
     ensures { result ≡ definition.at_type_name (type_of of.now) }
 {
     match &of.kind {
-        TypeKind::Array(element) | TypeKind::ArrayHandle(element) => at_element(element),
+        TypeKind::Array(element) | TypeKind::ArrayHandle(element) => element_offset(element),
         _ => of.place.at,
     }
 }
 
-/// The type of variables, which has to be known, and none of which stands for an object of an interface.
+/// Requires that the type of variables is known, and that it is not that of objects of an interface.
 #[tactic(auto, unfolding(ash_typing::specs::Declarations::known_ty))]
-pub(crate) fn known(written: &Type, of: Ty) -> Checking<Ty>
-    ensures typed { Gives (λ t. t) result (definition.known_ty (type_of written.now) of) }
+pub(crate) fn check_variable_type(written: &Type, of: Ty) -> CheckResult<Ty>
+    ensures typed { Agrees (λ t. t) result (definition.known_ty (type_of written.now) of) }
     ensures same { IfOk result (λ known. known ≡ of) }
 {
     match of {
-        Ty::Unknown => Err(broken(Rule::UnknownType, at_type_name(written))),
+        Ty::Unknown => Err(fault_at(Rule::UnknownType, type_name_offset(written))),
         Ty::Object(ObjectType::Interface(_)) => {
-            Err(broken(Rule::Misplaced, place_of(written).at))
+            Err(fault_at(Rule::Misplaced, place_of(written).at))
         }
         _ => Ok(of),
     }
 }
 
 #[tactic(auto, unfolding(ash_typing::specs::Environment::class_construction))]
-fn class_construction<'a>(env: &Environment<'a, '_>, place: usize) -> Option<Callee<'a>>
-    ensures { option_map callee_of result ≡ environment.class_construction (map class_of env.now.heads.now.classes.items) place }
+fn class_callee<'a>(env: &Environment<'a, '_>, place: usize) -> Option<Callee<'a>>
+    ensures { option_map callee_of result
+        ≡ environment.class_construction
+        (map class_signature_of env.now.signatures.now.classes.items) place }
 {
-    let class = env.heads.classes.get(place)?;
+    let class = env.signatures.classes.get(place)?;
     Some(Callee {
         target: Callable::Target(Target::Class(place)),
         result: Ty::Handle(ObjectType::Class(place)),
@@ -80,163 +81,177 @@ fn class_construction<'a>(env: &Environment<'a, '_>, place: usize) -> Option<Cal
 }
 
 #[tactic(auto, unfolding(ash_typing::specs::Environment::kind_construction))]
-fn kind_construction<'a>(env: &Environment<'a, '_>, kind: u16) -> Option<Callee<'a>>
-    ensures { option_map callee_of result ≡ environment.kind_construction (registered env.now.registry.now) kind }
+fn host_callee<'a>(env: &Environment<'a, '_>, kind: u16) -> Option<Callee<'a>>
+    ensures { option_map callee_of result
+        ≡ environment.kind_construction (registered env.now.registry.now) kind }
 {
     let call = env.registry.of_kind(kind)?;
-    env.host_type(call)
+    env.host_type_callee(call)
 }
 
-/// The construction of an object by so many arguments.
+/// A type, with the offset at which it is written.
+#[derive(Clone, Copy)]
+pub(crate) struct WrittenType {
+    pub(crate) at: usize,
+    pub(crate) of: Ty,
+}
+
+/// The construction of an object from so many arguments.
 #[tactic(auto, unfolding(ash_typing::specs::Environment::construction))]
-fn construction<'a>(env: &Environment<'a, '_>, of: ObjectType, count: usize) -> Option<Callee<'a>>
-    ensures { option_map callee_of result ≡ environment.construction (environment_of env.now) of count }
+fn object_callee<'a>(env: &Environment<'a, '_>, of: ObjectType, count: usize) -> Option<Callee<'a>>
+    ensures { option_map callee_of result
+        ≡ environment.construction (environment_of env.now) of count }
 {
     match of {
-        ObjectType::Class(place) => class_construction(env, place),
+        ObjectType::Class(place) => class_callee(env, place),
         ObjectType::Interface(_) => None,
-        ObjectType::Host(kind) => kind_construction(env, kind),
-        ObjectType::Array(element) => Some(array_built(element, count)),
+        ObjectType::Host(kind) => host_callee(env, kind),
+        ObjectType::Array(element) => Some(array_callee(element, count)),
     }
 }
 
-/// An object, by the type at this offset.
+/// An object, constructed by its callee.
 #[tactic(auto, unfolding(ash_typing::specs::Declarations::constructed))]
-fn constructed(
-    alloc: Global,
+fn build_object(
     env: &Environment,
-    at: usize,
-    typed: Vec<Typed>,
     callee: Option<Callee>,
-) -> Checking<Option<Expr>>
-    ensures { Gives maybe_expr result (definition.constructed (classes_of env.now) at (map typed_of typed.items) (option_map callee_of callee.entry)) }
+    arguments: Arguments,
+) -> CheckResult<Option<Expr>>
+    ensures { Agrees optional_expr result
+        (definition.constructed (classes_of env.now) arguments.at
+        (map typed_of arguments.exprs.items) (option_map callee_of callee.entry)) }
 {
     let Some(callee) = callee else {
-        return Err(broken(Rule::NoFactory, at));
+        return Err(fault_at(Rule::NoFactory, arguments.at));
     };
-    let object = called(env, alloc, at, &callee, typed)?;
+    let object = build_call(env, &callee, arguments)?;
     Ok(Some(object.tree))
 }
 
-/// `T x`, with the type at this offset.
+/// `T x`, of this type.
 #[tactic(auto, unfolding(ash_typing::specs::Declarations::begun))]
-fn begun(alloc: Global, env: &Environment, at: usize, of: Ty) -> Checking<Option<Expr>>
-    ensures { Gives maybe_expr result (definition.begun (environment_of env.now) at of) }
+fn build_default(env: &Environment, written: WrittenType) -> CheckResult<Option<Expr>>
+    ensures { Agrees optional_expr result
+        (definition.begun (environment_of env.now) written.at written.of) }
 {
-    match of {
+    match written.of {
         Ty::Object(object) => {
-            let callee = construction(env, object, 0);
-            constructed(alloc, env, at, Vec::new(alloc), callee)
+            let callee = object_callee(env, object, 0);
+            let arguments = Arguments {
+                at: written.at,
+                exprs: Vec::new(env.alloc),
+            };
+            build_object(env, callee, arguments)
         }
         _ => Ok(None),
     }
 }
 
-fn stored_first(alloc: Global, env: &Environment, of: Ty, typed: Typed) -> Checking<Option<Expr>>
-    ensures { Gives maybe_expr result (definition.stored_first (classes_of env.now) of (typed_of typed)) }
+fn build_first_value(env: &Environment, of: Ty, typed: TypedExpr) -> CheckResult<Option<Expr>>
+    ensures { Agrees optional_expr result
+        (definition.stored_first (classes_of env.now) of (typed_of typed)) }
 {
-    let value = fitted(env, alloc, of, typed)?;
+    let value = coerce_for_assignment(env, of, typed)?;
     Ok(Some(value))
 }
 
 /// `T x = e`, with x at this offset: objects are not assigned.
 #[tactic(auto, unfolding(ash_typing::specs::Declarations::begun_with))]
-fn begun_with(
-    alloc: Global,
-    env: &Environment,
-    at: usize,
-    of: Ty,
-    typed: Typed,
-) -> Checking<Option<Expr>>
-    ensures { Gives maybe_expr result (definition.begun_with (classes_of env.now) at of (typed_of typed)) }
+fn build_value(env: &Environment, at: usize, of: Ty, typed: TypedExpr) -> CheckResult<Option<Expr>>
+    ensures { Agrees optional_expr result
+        (definition.begun_with (classes_of env.now) at of (typed_of typed)) }
 {
     match of {
-        Ty::Object(_) => Err(broken(Rule::NotAssignable, at)),
-        _ => stored_first(alloc, env, of, typed),
+        Ty::Object(_) => Err(fault_at(Rule::NotAssignable, at)),
+        _ => build_first_value(env, of, typed),
     }
 }
 
 /// `T x(e)` is `T x = e` for a primitive type.
 #[tactic(auto, unfolding(ash_typing::specs::Declarations::begun_by_one))]
-fn begun_by_one(
-    alloc: Global,
+fn build_from_one(
     env: &Environment,
     at: usize,
     of: Ty,
-    mut typed: Vec<Typed>,
-) -> Checking<Option<Expr>>
-    ensures { Gives maybe_expr result (definition.begun_by_one (classes_of env.now) at of (map typed_of typed.items)) }
+    mut exprs: Vec<TypedExpr>,
+) -> CheckResult<Option<Expr>>
+    ensures { Agrees optional_expr result
+        (definition.begun_by_one (classes_of env.now) at of (map typed_of exprs.items)) }
 {
-    if typed.len() != 1 {
-        return Err(broken(Rule::TypeMismatch, at));
+    if exprs.len() != 1 {
+        return Err(fault_at(Rule::TypeMismatch, at));
     }
-    match typed.pop() {
-        Some(one) => stored_first(alloc, env, of, one),
-        None => Err(broken(Rule::TypeMismatch, at)),
+    match exprs.pop() {
+        Some(one) => build_first_value(env, of, one),
+        None => Err(fault_at(Rule::TypeMismatch, at)),
     }
 }
 
-/// `T x(e ..)`, with the type and x at these offsets.
+/// `T x(e ..)`, of this type, with x at this offset.
 #[tactic(auto, unfolding(ash_typing::specs::Declarations::begun_by))]
-fn begun_by(
-    alloc: Global,
+fn build_from_arguments(
     env: &Environment,
-    of_at: usize,
+    written: WrittenType,
     at: usize,
-    of: Ty,
-    typed: Vec<Typed>,
-) -> Checking<Option<Expr>>
-    ensures { Gives maybe_expr result (definition.begun_by (environment_of env.now) of_at at of (map typed_of typed.items)) }
+    exprs: Vec<TypedExpr>,
+) -> CheckResult<Option<Expr>>
+    ensures { Agrees optional_expr result
+        (definition.begun_by (environment_of env.now) written.at at written.of
+        (map typed_of exprs.items)) }
 {
-    match of {
+    match written.of {
         Ty::Object(object) => {
-            let callee = construction(env, object, typed.len());
-            constructed(alloc, env, of_at, typed, callee)
+            let callee = object_callee(env, object, exprs.len());
+            let arguments = Arguments {
+                at: written.at,
+                exprs,
+            };
+            build_object(env, callee, arguments)
         }
-        Ty::Handle(_) => Err(broken(Rule::TypeMismatch, at)),
-        _ => begun_by_one(alloc, env, at, of, typed),
+        Ty::Handle(_) => Err(fault_at(Rule::TypeMismatch, at)),
+        _ => build_from_one(env, at, written.of, exprs),
     }
 }
 
+/// Checks the initializer of a variable of this type, whose name is at this offset.
 #[tactic(auto, unfolding(ash_typing::specs::Declarations::initialized))]
-fn initialized(
-    alloc: Global,
+fn check_initializer(
     env: &Environment,
-    of_at: usize,
+    written: WrittenType,
     at: usize,
-    of: Ty,
     initializer: &Initializer,
-) -> Checking<Option<Expr>>
-    ensures { Gives maybe_expr result (definition.initialized (environment_of env.now) of_at at of (initializer_of initializer.now)) }
+) -> CheckResult<Option<Expr>>
+    ensures { Agrees optional_expr result
+        (definition.initialized (environment_of env.now) written.at at written.of
+        (initializer_of initializer.now)) }
 {
     match initializer {
-        Initializer::Default => begun(alloc, env, of_at, of),
+        Initializer::Default => build_default(env, written),
         Initializer::Value(value) => {
-            let typed = expression(env, alloc, false, value)?;
-            begun_with(alloc, env, at, of, typed)
+            let typed = check_expr(env, Position::Value, value)?;
+            build_value(env, at, written.of, typed)
         }
         Initializer::Arguments(arguments) => {
-            let typed = all_typed(env, alloc, arguments)?;
-            begun_by(alloc, env, of_at, at, of, typed)
+            let exprs = check_exprs(env, arguments)?;
+            build_from_arguments(env, written, at, exprs)
         }
     }
 }
 
-/// A variable of this type, which is written at this offset.
+/// Checks a variable of this type.
 #[tactic(auto, unfolding(ash_typing::specs::Declarations::decl_typed))]
-pub(crate) fn decl_typed(
-    alloc: Global,
+pub(crate) fn check_decl(
     env: &Environment,
-    at: usize,
-    of: Ty,
+    written: WrittenType,
     decl: &Decl,
-) -> Checking<Initialization>
-    ensures { Gives value_of result (definition.decl_typed (environment_of env.now) at of (decl_of decl.now)) }
+) -> CheckResult<Initialization>
+    ensures { Agrees value_of result
+        (definition.decl_typed (environment_of env.now) written.at written.of (decl_of decl.now)) }
 {
-    let value = initialized(alloc, env, at, decl.place.at, of, &decl.initializer)?;
+    let value = check_initializer(env, written, decl.place.at, &decl.initializer)?;
     Ok(Initialization {
         name: decl.name.clone()?,
-        of: var_type(of),
+        of: var_type(written.of),
         value,
     })
 }

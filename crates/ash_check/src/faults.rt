@@ -2,15 +2,15 @@
 
 ghost use Rattle.std.specs.Prelude.{◌≡◌};
 ghost use Rattle.ash_check.specs.declared.faults.CheckFault.TheVariants.{NoMemory};
-ghost use Rattle.ash_check.specs.Told.{told, stopped};
+ghost use Rattle.ash_check.specs.Faults.{fault_of, fault_of_error};
 
-use ash_expressions::Stop;
+use ash_expressions::CheckError;
 use ash_typing::{Fault, Rule};
 use std::alloc::{AllocError, AllocFailed};
 use std::fmt;
 use thiserror::Error;
 
-/// Why a script is refused. `at` is a byte offset, from 0: that of the first byte of the token that is told.
+/// Why a script is refused. `at` is a byte offset, from 0: that of the first byte of the token that is reported.
 #[derive(Debug, PartialEq, Eq, Drop, Error)]
 pub enum CheckFault {
     /// A name that nothing has.
@@ -34,7 +34,7 @@ pub enum CheckFault {
     /// A function with a result that may end without one.
     #[error("307 NoReturn {at}")]
     NoReturn { at: usize },
-    /// A phrase that may not stand where it stands.
+    /// A phrase that may not be where it is.
     #[error("308 Misplaced {at}")]
     Misplaced { at: usize },
     /// A class that reaches itself: it and the classes on a shortest way back.
@@ -57,7 +57,7 @@ pub enum CheckFault {
     NoMemory,
 }
 
-/// The names of classes on a way, in order. Printed, they are parted by a blank each.
+/// The names of the classes on a cycle, in order. Printed, they are separated by a blank each.
 #[derive(Debug, PartialEq, Eq, Drop)]
 pub struct ClassNames(pub Vec<String>);
 
@@ -89,21 +89,21 @@ impl<T: Drop> From<AllocFailed<T>> for CheckFault {
     }
 }
 
-impl From<Stop> for CheckFault {
-    ghost from_gives = { λ stop fault. fault ≡ stopped stop };
+impl From<CheckError> for CheckFault {
+    ghost from_gives = { λ error fault. fault ≡ fault_of_error error };
 
-    fn from(stop: Stop) -> CheckFault {
-        match stop {
-            Stop::Fault(fault) => CheckFault::told(fault),
-            Stop::NoMemory => CheckFault::NoMemory,
+    fn from(error: CheckError) -> CheckFault {
+        match error {
+            CheckError::Fault(fault) => CheckFault::of_fault(fault),
+            CheckError::NoMemory => CheckFault::NoMemory,
         }
     }
 }
 
 impl CheckFault {
-    /// A broken rule of typing, as it is told.
-    pub(crate) fn told(fault: Fault) -> CheckFault
-        ensures { result ≡ told fault }
+    /// The fault of a broken rule of typing.
+    pub(crate) fn of_fault(fault: Fault) -> CheckFault
+        ensures { result ≡ fault_of fault }
     {
         let at = fault.at;
         match fault.rule {

@@ -5,13 +5,13 @@ ghost use Rattle.ash_tree.specs.Views.{type_name_of};
 ghost use Rattle.ash_typing.specs.Implementations as implementing;
 ghost use Rattle.ash_typing.specs.Items as definition;
 ghost use Rattle.ash_typed.specs.Modules.{implementation_of};
-ghost use Rattle.ash_expressions.specs.Gives.{Gives};
-ghost use Rattle.ash_expressions.specs.Views.{function_of, environment_of, placed_function};
-ghost use Rattle.ash_check.specs.WalkViews.{maybe_places, listed_of};
+ghost use Rattle.ash_expressions.specs.Agreement.{Agrees};
+ghost use Rattle.ash_expressions.specs.Views.{function_signature_of, environment_of, placed_function};
+ghost use Rattle.ash_check.specs.WalkViews.{optional_places, listed_interfaces_of};
 
 use crate::names::Names;
 use ash_expressions::{
-    Checking, Environment, Function, broken, first_function, is_same, object_named,
+    CheckResult, Environment, FunctionSignature, fault_at, first_function, is_same, object_named,
 };
 use ash_tree::TypeName;
 use ash_typed::{Implementation, ObjectType};
@@ -20,13 +20,13 @@ use indexmap::IndexSet;
 use std::alloc::{AllocError, Global};
 
 /// An interface, whose name is at this offset.
-fn listed_at(at: usize, object: Option<ObjectType>) -> Checking<usize>
-    ensures { Gives (λ place. place) result (definition.listed_at at object) }
+fn listed_interface_place(at: usize, object: Option<ObjectType>) -> CheckResult<usize>
+    ensures { Agrees (λ place. place) result (definition.listed_at at object) }
 {
     match object {
         Some(ObjectType::Interface(place)) => Ok(place),
-        Some(ObjectType::Class(_)) => Err(broken(Rule::Misplaced, at)),
-        _ => Err(broken(Rule::UnknownType, at)),
+        Some(ObjectType::Class(_)) => Err(fault_at(Rule::Misplaced, at)),
+        _ => Err(fault_at(Rule::UnknownType, at)),
     }
 }
 
@@ -35,27 +35,34 @@ fn are_same(some: &[Ty], others: &[Ty]) -> bool
 {
     let mut rest = others;
     for of in some {
-        let Some((other, behind)) = rest.split_first() else {
+        let Some((other, rest_of_others)) = rest.split_first() else {
             return false;
         };
         if !is_same(*of, *other) {
             return false;
         }
-        rest = behind;
+        rest = rest_of_others;
     }
     rest.is_empty()
 }
 
 /// Whether a method has the result and the parameters of another.
-fn has_types_of(one: &Function, other: &Function) -> bool
-    ensures { result ≡ implementing.has_types_of (function_of one.now) (function_of other.now) }
+fn has_types_of(one: &FunctionSignature, other: &FunctionSignature) -> bool
+    ensures { result
+        ≡ implementing.has_types_of (function_signature_of one.now)
+        (function_signature_of other.now) }
 {
     is_same(one.result, other.result) && are_same(&one.parameters, &other.parameters)
 }
 
 /// The place of the method of a class that a method of an interface runs.
-fn matching(method: &Function, found: Option<(usize, &Function)>) -> Option<usize>
-    ensures { result ≡ implementing.matching (function_of method.now) (option_map placed_function found.entry) }
+fn matching_method(
+    method: &FunctionSignature,
+    found: Option<(usize, &FunctionSignature)>,
+) -> Option<usize>
+    ensures { result
+        ≡ implementing.matching (function_signature_of method.now)
+        (option_map placed_function found.entry) }
 {
     match found {
         Some((place, other)) if has_types_of(method, other) => Some(place),
@@ -64,20 +71,25 @@ fn matching(method: &Function, found: Option<(usize, &Function)>) -> Option<usiz
 }
 
 #[tactic(auto, unfolding(ash_typing::specs::Implementations::method_for))]
-fn method_for(methods: &[Function], method: &Function) -> Option<usize>
-    ensures { result ≡ implementing.method_for (map function_of methods.now) (function_of method.now) }
+fn method_for(methods: &[FunctionSignature], method: &FunctionSignature) -> Option<usize>
+    ensures { result
+        ≡ implementing.method_for (map function_signature_of methods.now)
+        (function_signature_of method.now) }
 {
-    matching(method, first_function(methods, method.name))
+    matching_method(method, first_function(methods, method.name))
 }
 
-/// The places of those for each method of an interface, where the class has them all.
-#[tactic(auto, using(crate::proofs::MethodLaws::nothing_before, crate::proofs::MethodLaws::one_before))]
+/// The place of the method for each method of an interface, where the class has them all.
+#[tactic(auto, using(crate::proofs::MethodLaws::none_prepended, crate::proofs::MethodLaws::one_prepended))]
 fn methods_for(
     alloc: Global,
-    methods: &[Function],
-    declared: &[Function],
+    methods: &[FunctionSignature],
+    declared: &[FunctionSignature],
 ) -> Result<Option<Vec<usize>>, AllocError>
-    ensures { IfOk result (λ places. maybe_places places ≡ implementing.methods_for (map function_of methods.now) (map function_of declared.now)) }
+    ensures { IfOk result
+        (λ places. optional_places places
+        ≡ implementing.methods_for (map function_signature_of methods.now)
+        (map function_signature_of declared.now)) }
 {
     let mut places = Vec::with_capacity(alloc, declared.len())?;
     for method in declared {
@@ -89,85 +101,89 @@ fn methods_for(
     Ok(Some(places))
 }
 
-/// The class of this place has the methods of the interface of that place.
+/// The methods of the class of this place for those of the interface of that place, where it has them all.
 #[tactic(auto, unfolding(ash_typing::specs::Implementations::implemented))]
-fn implemented(
-    alloc: Global,
+fn implementing_methods(
     env: &Environment,
     class: usize,
     interface: usize,
 ) -> Result<Option<Vec<usize>>, AllocError>
-    ensures { IfOk result (λ places. maybe_places places ≡ implementing.implemented (environment_of env.now) class interface) }
+    ensures { IfOk result
+        (λ places. optional_places places
+        ≡ implementing.implemented (environment_of env.now) class interface) }
 {
-    let Some(interface) = env.heads.interfaces.get(interface) else {
-        return Ok(Some(Vec::new(alloc)));
+    let Some(interface) = env.signatures.interfaces.get(interface) else {
+        return Ok(Some(Vec::new(env.alloc)));
     };
-    match env.heads.classes.get(class) {
-        Some(class) => methods_for(alloc, &class.methods, &interface.methods),
-        None => methods_for(alloc, &[], &interface.methods),
+    match env.signatures.classes.get(class) {
+        Some(class) => methods_for(env.alloc, &class.methods, &interface.methods),
+        None => methods_for(env.alloc, &[], &interface.methods),
     }
 }
 
-fn implemented_at(
+fn build_implementation(
     at: usize,
     interface: usize,
     methods: Option<Vec<usize>>,
-) -> Checking<Implementation>
-    ensures { Gives implementation_of result (definition.implemented_at at interface (maybe_places methods)) }
+) -> CheckResult<Implementation>
+    ensures { Agrees implementation_of result
+        (definition.implemented_at at interface (optional_places methods)) }
 {
     match methods {
-        None => Err(broken(Rule::TypeMismatch, at)),
+        None => Err(fault_at(Rule::TypeMismatch, at)),
         Some(methods) => Ok(Implementation { interface, methods }),
     }
 }
 
-/// The interfaces so far.
+/// The interfaces that a class lists, so far.
 #[derive(Drop)]
-pub(crate) struct Listed<'a> {
+pub(crate) struct ListedInterfaces<'a> {
     pub(crate) names: Names<'a>,
     pub(crate) interfaces: Vec<Implementation>,
 }
 
-/// One of those that the class of this place lists, behind those before it.
+/// Checks one of the interfaces that the class of this place lists, after those so far.
 #[tactic(auto, unfolding(ash_typing::specs::Items::listed_typed))]
-fn listed_typed<'a>(
-    alloc: Global,
+fn check_listed<'a>(
     env: &Environment,
     class: usize,
-    listed: &mut Listed<'a>,
+    listed: &mut ListedInterfaces<'a>,
     name: &'a TypeName,
-) -> Checking<()>
-    ensures { Gives (λ _. listed_of listed.new) result (definition.listed_typed (environment_of env.now) class (listed_of listed.old) (type_name_of name.now)) }
+) -> CheckResult<()>
+    ensures { Agrees (λ _. listed_interfaces_of listed.new) result
+        (definition.listed_typed (environment_of env.now) class (listed_interfaces_of listed.old)
+        (type_name_of name.now)) }
 {
     let at = name.place.at;
-    let object = object_named(env.registry, env.heads, name.name.as_str());
-    let interface = listed_at(at, object)?;
+    let object = object_named(env.registry, env.signatures, name.name.as_str());
+    let interface = listed_interface_place(at, object)?;
     listed.names.take(at, name.name.as_str())?;
-    let methods = implemented(alloc, env, class, interface)?;
-    let implementation = implemented_at(at, interface, methods)?;
+    let methods = implementing_methods(env, class, interface)?;
+    let implementation = build_implementation(at, interface, methods)?;
     listed.interfaces.push(implementation)?;
     Ok(())
 }
 
-/// The interfaces that the class of this place lists.
-pub(crate) fn all_listed<'a>(
-    alloc: Global,
+/// Checks the interfaces that the class of this place lists.
+pub(crate) fn check_listed_interfaces<'a>(
     env: &Environment,
     class: usize,
     names: &'a [TypeName],
-) -> Checking<Listed<'a>>
-    ensures { Gives listed_of result (definition.all_listed (environment_of env.now) class definition.none_listed (map type_name_of names.now)) }
+) -> CheckResult<ListedInterfaces<'a>>
+    ensures { Agrees listed_interfaces_of result
+        (definition.all_listed (environment_of env.now) class definition.none_listed
+        (map type_name_of names.now)) }
 {
-    let mut listed = Listed {
+    let mut listed = ListedInterfaces {
         names: Names {
             registry: None,
-            taken: IndexSet::new(alloc),
+            taken: IndexSet::new(env.alloc),
             room: 0,
         },
-        interfaces: Vec::new(alloc),
+        interfaces: Vec::new(env.alloc),
     };
     for name in names {
-        listed_typed(alloc, env, class, &mut listed, name)?;
+        check_listed(env, class, &mut listed, name)?;
     }
     Ok(listed)
 }

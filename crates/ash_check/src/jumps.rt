@@ -1,30 +1,32 @@
 //! Statements that leave: `break`, `continue` and `return`.
 
-ghost use Rattle.std.specs.Prelude.{◌≡◌, map, option_map};
+ghost use Rattle.std.specs.Prelude.{◌≡◌, ◌||◌, map, option_map};
 ghost use Rattle.ash_tree.specs.Views as written;
 ghost use Rattle.ash_typed.specs.Views.{expr_of};
 ghost use Rattle.ash_typed.specs.BodyViews.{stmt_of};
 ghost use Rattle.ash_typing.specs.Statements as definition;
-ghost use Rattle.ash_expressions.specs.Gives.{Gives};
-ghost use Rattle.ash_expressions.specs.Views.{classes_of, declared_of, typed_of};
+ghost use Rattle.ash_expressions.specs.Agreement.{Agrees};
+ghost use Rattle.ash_expressions.specs.Views.{classes_of, binding_of, typed_of};
 ghost use Rattle.ash_check.specs.StatementViews.{scope_of};
 
 use crate::scopes::Scope;
 use ash_expressions::{
-    Checking, Declared, Environment, Typed, broken, expression, fitted, is_void,
+    Binding, CheckResult, Environment, Position, TypedExpr, check_expr, coerce_for_assignment,
+    fault_at, is_void,
 };
 use ash_tree::{Expr, Place};
-use ash_typed::{Expr as TypedExpr, Stmt as TypedStmt, StmtKind as TypedKind};
+use ash_typed::{Expr as Tree, Stmt as TypedStmt, StmtKind as TypedKind};
 use ash_typing::{Rule, Ty};
-use std::alloc::Global;
 
 /// `break`, which has to leave a loop or a `switch`.
 #[tactic(auto, unfolding(ash_typing::specs::Statements::break_typed))]
-pub(crate) fn break_typed(leaves: bool, place: Place) -> Checking<TypedStmt>
-    ensures { Gives stmt_of result (definition.break_typed leaves place) }
+pub(crate) fn check_break(scope: &Scope, place: Place) -> CheckResult<TypedStmt>
+    ensures { Agrees stmt_of result
+        (definition.break_typed (scope.now.in_loop || scope.now.in_switch) place) }
 {
+    let leaves = scope.in_loop || scope.in_switch;
     if !leaves {
-        return Err(broken(Rule::Misplaced, place.at));
+        return Err(fault_at(Rule::Misplaced, place.at));
     }
     Ok(TypedStmt {
         line: place.line,
@@ -32,13 +34,13 @@ pub(crate) fn break_typed(leaves: bool, place: Place) -> Checking<TypedStmt>
     })
 }
 
-/// `continue`, which has to stand in a loop.
+/// `continue`, which has to be in a loop.
 #[tactic(auto, unfolding(ash_typing::specs::Statements::continue_typed))]
-pub(crate) fn continue_typed(leaves: bool, place: Place) -> Checking<TypedStmt>
-    ensures { Gives stmt_of result (definition.continue_typed leaves place) }
+pub(crate) fn check_continue(scope: &Scope, place: Place) -> CheckResult<TypedStmt>
+    ensures { Agrees stmt_of result (definition.continue_typed scope.now.in_loop place) }
 {
-    if !leaves {
-        return Err(broken(Rule::Misplaced, place.at));
+    if !scope.in_loop {
+        return Err(fault_at(Rule::Misplaced, place.at));
     }
     Ok(TypedStmt {
         line: place.line,
@@ -47,7 +49,7 @@ pub(crate) fn continue_typed(leaves: bool, place: Place) -> Checking<TypedStmt>
 }
 
 /// Whether a function of this type returns without a value.
-fn gives_nothing(of: Ty) -> bool
+fn returns_nothing(of: Ty) -> bool
     ensures { result ≡ definition.gives_nothing of }
 {
     matches!(of, Ty::Void | Ty::Unknown)
@@ -55,41 +57,37 @@ fn gives_nothing(of: Ty) -> bool
 
 /// A value that is returned at this offset.
 #[tactic(auto, unfolding(ash_typing::specs::Statements::returned))]
-fn returned(
-    alloc: Global,
-    env: &Environment,
-    of: Ty,
-    at: usize,
-    value: Typed,
-) -> Checking<TypedExpr>
-    ensures { Gives expr_of result (definition.returned (classes_of env.now) of at (typed_of value)) }
+fn build_return_value(env: &Environment, of: Ty, at: usize, value: TypedExpr) -> CheckResult<Tree>
+    ensures { Agrees expr_of result
+        (definition.returned (classes_of env.now) of at (typed_of value)) }
 {
     if is_void(of) {
-        return Err(broken(Rule::TypeMismatch, at));
+        return Err(fault_at(Rule::TypeMismatch, at));
     }
-    fitted(env, alloc, of, value)
+    coerce_for_assignment(env, of, value)
 }
 
-/// `return`, with a value where its function gives one.
+/// `return`, with a value where its function returns one.
 #[tactic(auto, unfolding(ash_typing::specs::Statements::return_typed))]
-pub(crate) fn return_typed(
-    alloc: Global,
+pub(crate) fn check_return(
     scope: &Scope,
-    locals: &[Declared],
+    locals: &[Binding],
     place: Place,
     value: &Option<Expr>,
-) -> Checking<TypedStmt>
-    ensures { Gives stmt_of result (definition.return_typed (scope_of scope.now (map declared_of locals.now)) place (option_map written.expr_of value.now)) }
+) -> CheckResult<TypedStmt>
+    ensures { Agrees stmt_of result
+        (definition.return_typed (scope_of scope.now (map binding_of locals.now)) place
+        (option_map written.expr_of value.now)) }
 {
     let value = match value {
-        None if !gives_nothing(scope.gives) => {
-            return Err(broken(Rule::TypeMismatch, place.at));
+        None if !returns_nothing(scope.result) => {
+            return Err(fault_at(Rule::TypeMismatch, place.at));
         }
         None => None,
         Some(value) => {
             let env = (&*scope).environment(locals);
-            let value = expression(&env, alloc, false, value)?;
-            Some(returned(alloc, &env, scope.gives, place.at, value)?)
+            let value = check_expr(&env, Position::Value, value)?;
+            Some(build_return_value(&env, scope.result, place.at, value)?)
         }
     };
     Ok(TypedStmt {

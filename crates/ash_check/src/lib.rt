@@ -1,19 +1,22 @@
 //! The check of scripts: from trees, with names as they are written, to typed trees, or to why a script is refused.
 //!
-//! `check` answers a script's typed module and a rank for each of its classes; else its first fault. What is typed, and
-//! which fault is the first, `ash_typing` defines: `module_typed` of its `specs/Items.antt` walks a script in the order of
-//! the text. Where every rule is kept, classes must not reach themselves by what their fields hold: `ash_classes` has
-//! their ranks, or the cycle that is told. `checked` of `specs/Checks.antt` says all this as one function, and `check`
-//! gives what it says, unless memory runs out; `check_is_exact` says what that is by the rules of typing alone.
-//! Expressions are typed by `ash_expressions`.
+//! `check` returns a script's typed module and a rank for each of its classes; else its first fault. What is typed, and
+//! which fault is the first, `ash_typing` defines: `module_typed` of its `specs/Items.antt` walks a script in the order
+//! of the text. Where no rule is broken, classes must not reach themselves by what their fields hold: `ash_classes` has
+//! their ranks, or the cycle that is reported. `checked` of `specs/Checks.antt` defines all this as one function, and
+//! `check` returns what it defines, unless memory runs out; `check_is_exact` says what that is by the rules of typing
+//! alone. Expressions are checked by `ash_expressions`.
 //!
-//! What is answered is a `Checked`. Of each value of that type it is known, by the typed tree alone, that its module is
+//! What is returned is a `Checked`. Of each value of that type it is known, by the typed tree alone, that its module is
 //! sound and that its ranks fall along what its classes hold: `IsChecked` of `specs/CheckedModules.antt`.
 //!
-//! In reading order: `checked`, what is answered; `checks`, the whole; `faults`, what is told; `items`, the walk over a
-//! module, with `names`, `interfaces`, `implementations`, `routines`, `declarations` and `bodies`; `heads`, what a module
-//! declares; `statements`, the walk over a body, with `scopes`, what a statement sees, `locals`, `conditions`, `loops`,
-//! `switches` and `jumps`. Beside them `returning`, which statements return.
+//! A function `check_*` takes a part of a script; a function `build_*` takes parts that are checked, and returns the
+//! typed phrase that they are the parts of, or its fault.
+//!
+//! In reading order: `checked`, what is returned; `checks`, the whole; `faults`, what is reported; `items`, the walk
+//! over a module, with `names`, `interfaces`, `implementations`, `routines`, `declarations` and `bodies`; `signatures`,
+//! what a module declares; `statements`, the walk over a body, with `scopes`, what a statement can refer to, `locals`,
+//! `conditions`, `loops`, `switches` and `jumps`. Beside them `returning`, which statements return.
 #![tactic(auto)]
 
 mod bodies;
@@ -22,7 +25,6 @@ mod checks;
 mod conditions;
 mod declarations;
 mod faults;
-mod heads;
 mod implementations;
 mod interfaces;
 mod items;
@@ -33,8 +35,10 @@ mod names;
 mod returning;
 mod routines;
 mod scopes;
+mod signatures;
 mod statements;
 mod switches;
+mod type_names;
 
 pub use ash_classes::search_is_exact;
 pub use checked::Checked;

@@ -5,53 +5,56 @@ ghost use Rattle.ash_tree.specs.Views.{decl_of, vars_of};
 ghost use Rattle.ash_typing.specs.Heads.{declared};
 ghost use Rattle.ash_typing.specs.Scopes as scopes;
 ghost use Rattle.ash_typing.specs.Statements as definition;
-ghost use Rattle.ash_expressions.specs.Gives.{Gives};
+ghost use Rattle.ash_expressions.specs.Agreement.{Agrees};
 ghost use Rattle.ash_check.specs.StatementViews.{locals_of, scope_of, values_of};
 
-use crate::declarations::{decl_typed, known, place_of, ty_in};
+use crate::declarations::{WrittenType, check_decl, check_variable_type, place_of, ty_in};
 use crate::scopes::Scope;
-use ash_expressions::{Checking, Declared};
+use ash_expressions::{Binding, CheckResult};
 use ash_tree::{Decl, Vars};
 use ash_typed::Initialization;
-use ash_typing::Ty;
-use std::alloc::Global;
 
-/// Variables of the type at this offset, each seen from the end of its own on.
-fn decls_typed<'n>(
-    alloc: Global,
+/// Checks variables of this type. Each can be referred to from the end of its own on.
+fn check_local_decls<'n>(
     scope: &Scope<'_, 'n>,
-    locals: &mut Vec<Declared<'n>>,
-    at: usize,
-    of: Ty,
+    locals: &mut Vec<Binding<'n>>,
+    written: WrittenType,
     decls: &'n [Decl],
-) -> Checking<Vec<Initialization>>
-    ensures typed { Gives values_of result (definition.decls_typed (scope_of scope.now (locals_of locals.old)) at of (map decl_of decls.now)) }
-    ensures seen { IfOk result (λ _. locals_of locals.new ≡ locals_of locals.old ++ map (declared of) (map decl_of decls.now)) }
+) -> CheckResult<Vec<Initialization>>
+    ensures typed { Agrees values_of result
+        (definition.decls_typed (scope_of scope.now (locals_of locals.old)) written.at written.of
+        (map decl_of decls.now)) }
+    ensures locals { IfOk result
+        (λ _. locals_of locals.new ≡ locals_of locals.old
+        ++ map (declared written.of) (map decl_of decls.now)) }
 {
-    let mut values = Vec::with_capacity(alloc, decls.len())?;
+    let mut values = Vec::with_capacity(scope.alloc, decls.len())?;
     for decl in decls {
-        let local = (&*scope).fresh(locals, of, decl)?;
+        let local = (&*scope).new_local(locals, written.of, decl)?;
         let env = (&*scope).environment(locals);
-        let value = decl_typed(alloc, &env, at, of, decl)?;
+        let value = check_decl(&env, written, decl)?;
         locals.push(local)?;
         values.push(value)?;
     }
     Ok(values)
 }
 
-/// Variables of one type.
+/// Checks variables of one type.
 #[tactic(auto, unfolding(ash_typing::specs::Statements::vars_typed))]
-pub(crate) fn vars_typed<'n>(
-    alloc: Global,
+pub(crate) fn check_local_vars<'n>(
     scope: &Scope<'_, 'n>,
-    locals: &mut Vec<Declared<'n>>,
+    locals: &mut Vec<Binding<'n>>,
     vars: &'n Vars,
-) -> Checking<Vec<Initialization>>
-    ensures typed { Gives values_of result (definition.vars_typed (scope_of scope.now (locals_of locals.old)) (vars_of vars.now)) }
-    ensures seen { IfOk result (λ _. locals_of locals.new ≡ locals_of locals.old ++ scopes.declared_in (scope_of scope.now (locals_of locals.old)) (vars_of vars.now)) }
+) -> CheckResult<Vec<Initialization>>
+    ensures typed { Agrees values_of result
+        (definition.vars_typed (scope_of scope.now (locals_of locals.old)) (vars_of vars.now)) }
+    ensures locals { IfOk result
+        (λ _. locals_of locals.new ≡ locals_of locals.old
+        ++ scopes.declared_in (scope_of scope.now (locals_of locals.old)) (vars_of vars.now)) }
 {
     let place = place_of(&vars.of);
     let env = (&*scope).environment(locals);
-    let of = known(&vars.of, ty_in(&env, &vars.of))?;
-    decls_typed(alloc, scope, locals, place.at, of, &vars.decls)
+    let of = check_variable_type(&vars.of, ty_in(&env, &vars.of))?;
+    let written = WrittenType { at: place.at, of };
+    check_local_decls(scope, locals, written, &vars.decls)
 }

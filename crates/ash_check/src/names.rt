@@ -4,15 +4,21 @@ ghost use Rattle.std.specs.Prelude.{◌≡◌, false, [], ◌∷◌, ◌++◌, O
 ghost use Rattle.std.specs.List.{list_any};
 ghost use Rattle.std.specs.Str.{bytes_eq};
 ghost use Rattle.ash_typing.specs.Items as definition;
-ghost use Rattle.ash_expressions.specs.Gives.{Gives};
-ghost use Rattle.ash_expressions.specs.Places.{texts};
+ghost use Rattle.ash_expressions.specs.Agreement.{Agrees};
+ghost use Rattle.ash_expressions.specs.NameIndex.{texts};
 ghost use Rattle.ash_check.specs.WalkViews.{names_of};
 
-use ash_expressions::{Checking, broken};
+use ash_expressions::{CheckResult, fault_at};
 use ash_registrations::Registrations;
 use ash_typing::Rule;
 use indexmap::IndexSet;
 use std::alloc::AllocError;
+
+/// How many variables a module has at most.
+pub(crate) const MAX_GLOBALS: usize = 256;
+
+/// How many fields and methods a class has at most, and how many methods an interface.
+pub(crate) const MAX_MEMBERS: usize = 32;
 
 /// The names of a module that are taken: those that are registered, and those of the items before; or those of the
 /// members of a class.
@@ -24,14 +30,14 @@ pub(crate) struct Names<'a> {
     pub(crate) room: usize,
 }
 
-fn any_is(names: &IndexSet<&str>, name: &str) -> bool
+fn contains_name(names: &IndexSet<&str>, name: &str) -> bool
     ensures { result ≡ list_any (bytes_eq name.now) (texts names.now.keys) }
 {
     names.contains(name)
 }
 
-/// Adds a name that is not among them.
-fn add<'a>(names: &mut IndexSet<&'a str>, name: &'a str) -> Result<(), AllocError>
+/// Inserts a name that is not among them.
+fn insert_name<'a>(names: &mut IndexSet<&'a str>, name: &'a str) -> Result<(), AllocError>
     requires { list_any (bytes_eq name.now) (texts names.old.keys) ≡ false }
     ensures { OnOk result (texts names.new.keys ≡ texts names.old.keys ++ name.now ∷ []) }
 {
@@ -47,36 +53,39 @@ impl<'a> Names<'a> {
             Some(registry) => registry.named(name).is_some(),
             None => false,
         };
-        is_registered || any_is(&self.taken, name)
+        is_registered || contains_name(&self.taken, name)
     }
 
-    /// A name at this offset that was not taken, and is from now on.
+    /// Takes a name at this offset, which has to be free.
     #[tactic(auto, unfolding(ash_typing::specs::Items::untaken))]
-    pub(crate) fn take(&mut self, at: usize, name: &'a str) -> Checking<()>
-        ensures { Gives (λ _. names_of self.new) result (definition.untaken (names_of self.old) at name.now) }
+    pub(crate) fn take(&mut self, at: usize, name: &'a str) -> CheckResult<()>
+        ensures { Agrees (λ _. names_of self.new) result
+            (definition.untaken (names_of self.old) at name.now) }
     {
         if self.is_taken(name) {
-            return Err(broken(Rule::NameTaken, at));
+            return Err(fault_at(Rule::NameTaken, at));
         }
-        add(&mut self.taken, name)?;
+        insert_name(&mut self.taken, name)?;
         Ok(())
     }
 
-    /// One more, at this offset.
+    /// Counts one more, at this offset.
     #[tactic(auto, unfolding(ash_typing::specs::Items::one_more))]
-    pub(crate) fn count(&mut self, at: usize) -> Checking<()>
-        ensures { Gives (λ _. names_of self.new) result (definition.one_more (names_of self.old) at) }
+    pub(crate) fn count(&mut self, at: usize) -> CheckResult<()>
+        ensures { Agrees (λ _. names_of self.new) result
+            (definition.one_more (names_of self.old) at) }
     {
         if self.room == 0 {
-            return Err(broken(Rule::TooMany, at));
+            return Err(fault_at(Rule::TooMany, at));
         }
         self.room -= 1;
         Ok(())
     }
 
-    /// A name of which there may be so many.
-    pub(crate) fn place(&mut self, at: usize, name: &'a str) -> Checking<()>
-        ensures { Gives (λ _. names_of self.new) result (definition.placed (names_of self.old) at name.now) }
+    /// Takes a name at this offset, and counts it.
+    pub(crate) fn take_counted(&mut self, at: usize, name: &'a str) -> CheckResult<()>
+        ensures { Agrees (λ _. names_of self.new) result
+            (definition.placed (names_of self.old) at name.now) }
     {
         self.take(at, name)?;
         self.count(at)

@@ -6,20 +6,22 @@ ghost use Rattle.ash_tree.specs.Items as items;
 ghost use Rattle.ash_typing.specs.Environment.{type_declared};
 ghost use Rattle.ash_typing.specs.Items as definition;
 ghost use Rattle.ash_typed.specs.Modules.{function_of};
-ghost use Rattle.ash_expressions.specs.Gives.{Gives};
-ghost use Rattle.ash_expressions.specs.Views.{declared_of, environment_of};
+ghost use Rattle.ash_expressions.specs.Agreement.{Agrees};
+ghost use Rattle.ash_expressions.specs.Views.{binding_of, environment_of};
 ghost use Rattle.ash_check.specs.WalkViews.{routine_of};
 
-use crate::bodies::{body_returns, body_typed};
-use crate::declarations::{at_type_name, place_of, ty_in};
+use crate::bodies::{body_returns, check_body};
+use crate::declarations::{place_of, ty_in, type_name_offset};
 use crate::scopes::any_declares;
-use ash_expressions::{Checking, Declared, Environment, broken, is_void, result_type, var_type};
+use ash_expressions::{
+    Binding, CheckResult, Environment, fault_at, is_void, result_type, var_type,
+};
 use ash_tree::{Parameter, Place, Stmt, Type};
 use ash_typed::{Function, VarType};
 use ash_typing::{Rule, Ty};
 use std::alloc::{AllocError, Global};
 
-/// A function, a method or a constructor, as it is written behind its result.
+/// A function, a method or a constructor, as it is written after its result.
 #[derive(Clone, Copy)]
 pub(crate) struct Routine<'a> {
     pub(crate) place: Place,
@@ -30,48 +32,50 @@ pub(crate) struct Routine<'a> {
 
 /// The type of a parameter or of a result: objects are passed by handles.
 #[tactic(auto, unfolding(ash_typing::specs::Items::passed_ty))]
-fn passed(written: &Type, of: Ty) -> Checking<Ty>
-    ensures { Gives (λ t. t) result (definition.passed_ty (type_of written.now) of) }
+fn check_passed_type(written: &Type, of: Ty) -> CheckResult<Ty>
+    ensures { Agrees (λ t. t) result (definition.passed_ty (type_of written.now) of) }
 {
     match of {
-        Ty::Unknown => Err(broken(Rule::UnknownType, at_type_name(written))),
-        Ty::Object(_) => Err(broken(Rule::Misplaced, place_of(written).at)),
+        Ty::Unknown => Err(fault_at(Rule::UnknownType, type_name_offset(written))),
+        Ty::Object(_) => Err(fault_at(Rule::Misplaced, place_of(written).at)),
         _ => Ok(of),
     }
 }
 
-/// The type of a result.
-pub(crate) fn result_typed(env: &Environment, of: &Option<Type>) -> Checking<Ty>
-    ensures { Gives (λ t. t) result (definition.result_typed (environment_of env.now) (option_map type_of of.now)) }
+/// Checks the type of a result.
+pub(crate) fn check_result_type(env: &Environment, of: &Option<Type>) -> CheckResult<Ty>
+    ensures { Agrees (λ t. t) result
+        (definition.result_typed (environment_of env.now) (option_map type_of of.now)) }
 {
     match of {
         None => Ok(Ty::Void),
-        Some(of) => passed(of, ty_in(env, of)),
+        Some(of) => check_passed_type(of, ty_in(env, of)),
     }
 }
 
-/// Parameters, whose names differ.
-pub(crate) fn parameters_typed<'a>(
-    alloc: Global,
+/// Checks parameters, whose names have to differ.
+pub(crate) fn check_parameters<'a>(
     env: &Environment<'_, 'a>,
     parameters: &'a [Parameter],
-) -> Checking<Vec<Declared<'a>>>
-    ensures { Gives (λ all. map declared_of all.items) result (definition.parameters_typed (environment_of env.now) [] (map parameter_of parameters.now)) }
+) -> CheckResult<Vec<Binding<'a>>>
+    ensures { Agrees (λ all. map binding_of all.items) result
+        (definition.parameters_typed (environment_of env.now) []
+        (map parameter_of parameters.now)) }
 {
-    let mut all = Vec::new(alloc);
+    let mut all = Vec::new(env.alloc);
     for parameter in parameters {
-        let of = passed(&parameter.of, ty_in(env, &parameter.of))?;
+        let of = check_passed_type(&parameter.of, ty_in(env, &parameter.of))?;
         let name = parameter.name.as_str();
         if any_declares(&all, name) {
-            return Err(broken(Rule::NameTaken, parameter.place.at));
+            return Err(fault_at(Rule::NameTaken, parameter.place.at));
         }
-        all.push(Declared { name, of })?;
+        all.push(Binding { name, of })?;
     }
     Ok(all)
 }
 
-pub(crate) fn types_of(alloc: Global, all: &[Declared]) -> Result<Vec<VarType>, AllocError>
-    ensures { IfOk result (λ types. types.items ≡ map type_declared (map declared_of all.now)) }
+pub(crate) fn types_of(alloc: Global, all: &[Binding]) -> Result<Vec<VarType>, AllocError>
+    ensures { IfOk result (λ types. types.items ≡ map type_declared (map binding_of all.now)) }
 {
     let mut types = Vec::new(alloc);
     for declared in all {
@@ -80,24 +84,24 @@ pub(crate) fn types_of(alloc: Global, all: &[Declared]) -> Result<Vec<VarType>, 
     Ok(types)
 }
 
-/// A function that gives this type, a method or a constructor.
+/// Checks a function that returns this type, a method or a constructor.
 #[tactic(auto, unfolding(ash_typing::specs::Items::routine_typed, ash_typing::specs::Items::returning))]
-pub(crate) fn routine_typed<'a>(
-    alloc: Global,
+pub(crate) fn check_routine<'a>(
     env: &Environment<'_, 'a>,
     of: Ty,
     routine: Routine<'a>,
-) -> Checking<Function>
-    ensures { Gives function_of result (definition.routine_typed (environment_of env.now) of (routine_of routine.entry)) }
+) -> CheckResult<Function>
+    ensures { Agrees function_of result
+        (definition.routine_typed (environment_of env.now) of (routine_of routine.entry)) }
 {
-    let locals = parameters_typed(alloc, env, routine.parameters)?;
-    let parameters = types_of(alloc, &locals)?;
-    let body = body_typed(alloc, env, locals, of, routine.body)?;
+    let locals = check_parameters(env, routine.parameters)?;
+    let parameters = types_of(env.alloc, &locals)?;
+    let body = check_body(env, locals, of, routine.body)?;
     if !is_void(of) && !body_returns(routine.body) {
-        return Err(broken(Rule::NoReturn, routine.place.at));
+        return Err(fault_at(Rule::NoReturn, routine.place.at));
     }
     Ok(Function {
-        name: String::from_str(alloc, routine.name)?,
+        name: String::from_str(env.alloc, routine.name)?,
         line: routine.place.line,
         result: result_type(of),
         parameters,

@@ -6,31 +6,52 @@ ghost use Rattle.ash_tree.specs.Views as written;
 ghost use Rattle.ash_typed.specs.BodyViews.{stmt_of};
 ghost use Rattle.ash_typing.specs.Scopes as scopes;
 ghost use Rattle.ash_typing.specs.Statements as definition;
-ghost use Rattle.ash_expressions.specs.Gives.{Gives};
+ghost use Rattle.ash_expressions.specs.Agreement.{Agrees};
 ghost use Rattle.ash_check.specs.StatementViews.{locals_of, scope_of, stmts_in, cases_in};
-ghost use Rattle.ash_expressions.specs.Views.{declared_of};
+ghost use Rattle.ash_expressions.specs.Views.{binding_of};
 
-use crate::conditions::{boxed, if_else_made, if_made};
-use crate::jumps::{break_typed, continue_typed, return_typed};
-use crate::locals::vars_typed;
-use crate::loops::{do_while_made, for_made, head_typed, maybe_typed, while_made};
+use crate::conditions::{boxed_stmt, build_if, build_if_else};
+use crate::jumps::{check_break, check_continue, check_return};
+use crate::locals::check_local_vars;
+use crate::loops::{
+    CheckedFor, build_do_while, build_for, build_while, check_for_head, check_optional_expr,
+};
 use crate::scopes::Scope;
-use crate::switches::{is_last, kind_in, label};
-use ash_expressions::{Checking, Declared, all_typed, expression, integer};
+use crate::switches::{LabelContext, check_label, integer_type_in, is_last};
+use ash_expressions::{Binding, CheckResult, Position, check_expr, check_exprs, integer_type};
 use ash_tree::{Case, Expr, Place, Stmt, StmtKind, Vars};
 use ash_typed::{Case as TypedCase, Kind, Stmt as TypedStmt, StmtKind as TypedKind, nodes};
-use std::alloc::Global;
 
-/// A statement. Its variables are added to the locals.
+/// The branches of `if` with `else`.
+#[derive(Clone, Copy)]
+struct Branches<'n> {
+    then: &'n Stmt,
+    otherwise: &'n Stmt,
+}
+
+/// The parts of `for`.
+#[derive(Clone, Copy)]
+struct ForParts<'n> {
+    place: Place,
+    first: &'n Stmt,
+    condition: &'n Option<Expr>,
+    steps: &'n [Expr],
+    body: &'n Stmt,
+}
+
+/// Checks a statement. Its variables are added to the locals.
 #[cycle(statements)]
-fn statement<'n>(
-    alloc: Global,
+fn check_stmt<'n>(
     scope: &Scope<'_, 'n>,
-    locals: &mut Vec<Declared<'n>>,
+    locals: &mut Vec<Binding<'n>>,
     source: &'n Stmt,
-) -> Checking<TypedStmt>
-    ensures typed { Gives stmt_of result (definition.stmt_typed (scope_of scope.now (locals_of locals.old)) (written.stmt_of source.now)) }
-    ensures seen { IfOk result (λ _. scope_of scope.now (locals_of locals.new) ≡ scopes.behind (scope_of scope.now (locals_of locals.old)) (written.stmt_of source.now)) }
+) -> CheckResult<TypedStmt>
+    ensures typed { Agrees stmt_of result
+        (definition.stmt_typed (scope_of scope.now (locals_of locals.old))
+        (written.stmt_of source.now)) }
+    ensures locals { IfOk result
+        (λ _. scope_of scope.now (locals_of locals.new)
+        ≡ scopes.behind (scope_of scope.now (locals_of locals.old)) (written.stmt_of source.now)) }
 {
     let place = source.place;
     match &source.kind {
@@ -38,127 +59,141 @@ fn statement<'n>(
             line: place.line,
             kind: TypedKind::Empty,
         }),
-        StmtKind::Vars(vars) => declaration(alloc, scope, locals, place, vars),
-        StmtKind::Expr(value) => evaluation(alloc, scope, locals, place, value),
-        StmtKind::Block(body) => inner_block(alloc, scope, locals, place, body),
-        StmtKind::If { condition, then } => {
-            if_typed(alloc, scope, locals, place, then, condition)
-        }
+        StmtKind::Vars(vars) => check_declaration(scope, locals, place, vars),
+        StmtKind::Expr(value) => check_evaluation(scope, locals, place, value),
+        StmtKind::Block(body) => check_inner_block(scope, locals, place, body),
+        StmtKind::If { condition, then } => check_if(scope, locals, place, condition, then),
         StmtKind::IfElse {
             condition,
             then,
             otherwise,
-        } => if_else_typed(alloc, scope, locals, place, then, otherwise, condition),
-        StmtKind::While { condition, body } => {
-            while_typed(alloc, scope, locals, place, body, condition)
+        } => {
+            let branches = Branches { then, otherwise };
+            check_if_else(scope, locals, place, condition, branches)
         }
+        StmtKind::While { condition, body } => check_while(scope, locals, place, condition, body),
         StmtKind::DoWhile { body, condition } => {
-            do_while_typed(alloc, scope, locals, place, body, condition)
+            check_do_while(scope, locals, place, body, condition)
         }
         StmtKind::For {
             first,
             condition,
             steps,
             body,
-        } => for_typed(alloc, scope, locals, place, first, body, condition, steps),
-        StmtKind::Switch { value, cases } => {
-            switch_typed(alloc, scope, locals, place, cases, value)
+        } => {
+            let parts = ForParts {
+                place,
+                first,
+                condition,
+                steps,
+                body,
+            };
+            check_for(scope, locals, parts)
         }
-        StmtKind::Break => break_typed(scope.in_loop || scope.in_switch, place),
-        StmtKind::Continue => continue_typed(scope.in_loop, place),
-        StmtKind::Return(value) => return_typed(alloc, scope, locals, place, value),
+        StmtKind::Switch { value, cases } => check_switch(scope, locals, place, value, cases),
+        StmtKind::Break => check_break(scope, place),
+        StmtKind::Continue => check_continue(scope, place),
+        StmtKind::Return(value) => check_return(scope, locals, place, value),
     }
 }
 
 /// Variables, which are added to the locals.
-fn declaration<'n>(
-    alloc: Global,
+fn check_declaration<'n>(
     scope: &Scope<'_, 'n>,
-    locals: &mut Vec<Declared<'n>>,
+    locals: &mut Vec<Binding<'n>>,
     place: Place,
     vars: &'n Vars,
-) -> Checking<TypedStmt>
-    ensures typed { Gives stmt_of result (definition.stmt_typed (scope_of scope.now (locals_of locals.old)) (Declare place (written.vars_of vars.now))) }
-    ensures seen { IfOk result (λ _. scope_of scope.now (locals_of locals.new) ≡ scopes.behind (scope_of scope.now (locals_of locals.old)) (Declare place (written.vars_of vars.now))) }
+) -> CheckResult<TypedStmt>
+    ensures typed { Agrees stmt_of result
+        (definition.stmt_typed (scope_of scope.now (locals_of locals.old))
+        (Declare place (written.vars_of vars.now))) }
+    ensures locals { IfOk result
+        (λ _. scope_of scope.now (locals_of locals.new)
+        ≡ scopes.behind (scope_of scope.now (locals_of locals.old))
+        (Declare place (written.vars_of vars.now))) }
 {
-    let values = vars_typed(alloc, scope, locals, vars)?;
+    let values = check_local_vars(scope, locals, vars)?;
     Ok(TypedStmt {
         line: place.line,
         kind: TypedKind::Declare(values),
     })
 }
 
-/// An expression, whose value is let go.
-fn evaluation(
-    alloc: Global,
+/// An expression, whose value is dropped.
+fn check_evaluation(
     scope: &Scope,
-    locals: &[Declared],
+    locals: &[Binding],
     place: Place,
     value: &Expr,
-) -> Checking<TypedStmt>
-    ensures { Gives stmt_of result (definition.stmt_typed (scope_of scope.now (map declared_of locals.now)) (Evaluate place (written.expr_of value.now))) }
+) -> CheckResult<TypedStmt>
+    ensures { Agrees stmt_of result
+        (definition.stmt_typed (scope_of scope.now (map binding_of locals.now))
+        (Evaluate place (written.expr_of value.now))) }
 {
-    let value = expression(&(&*scope).environment(locals), alloc, false, value)?;
+    let value = check_expr(&(&*scope).environment(locals), Position::Value, value)?;
     Ok(TypedStmt {
         line: place.line,
         kind: TypedKind::Evaluate(value.tree),
     })
 }
 
-/// A statement that is no statement of a block: none of its variables is left behind it.
+/// Checks a statement that is no statement of a block: after it, none of its variables is left.
 #[cycle(statements)]
-fn branch<'n>(
-    alloc: Global,
+fn check_branch<'n>(
     scope: &Scope<'_, 'n>,
-    locals: &mut Vec<Declared<'n>>,
+    locals: &mut Vec<Binding<'n>>,
     source: &'n Stmt,
-) -> Checking<Box<TypedStmt>>
-    ensures typed { Gives (λ s. stmt_of s.value) result (definition.stmt_typed (scope_of scope.now (locals_of locals.old)) (written.stmt_of source.now)) }
-    ensures kept { IfOk result (λ _. locals_of locals.new ≡ locals_of locals.old) }
+) -> CheckResult<Box<TypedStmt>>
+    ensures typed { Agrees (λ s. stmt_of s.value) result
+        (definition.stmt_typed (scope_of scope.now (locals_of locals.old))
+        (written.stmt_of source.now)) }
+    ensures unchanged { IfOk result (λ _. locals_of locals.new ≡ locals_of locals.old) }
 {
-    let kept = locals.len();
-    let typed = statement(alloc, scope, locals, source)?;
-    locals.truncate(kept);
-    Ok(boxed(alloc, typed)?)
+    let outer = locals.len();
+    let typed = check_stmt(scope, locals, source)?;
+    locals.truncate(outer);
+    Ok(boxed_stmt(scope.alloc, typed)?)
 }
 
-/// The statements of a block. None of its variables is left behind it.
+/// Checks the statements of a block. After it, none of its variables is left.
 #[cycle(statements)]
-pub(crate) fn block<'n>(
-    alloc: Global,
+pub(crate) fn check_block<'n>(
     scope: &Scope<'_, 'n>,
-    locals: &mut Vec<Declared<'n>>,
+    locals: &mut Vec<Binding<'n>>,
     body: &'n [Stmt],
-) -> Checking<Vec<TypedStmt>>
-    ensures typed { Gives stmts_in result (definition.stmts_typed (scope_of scope.now (locals_of locals.old)) (stmts (map written.stmt_of body.now))) }
-    ensures kept { IfOk result (λ _. locals_of locals.new ≡ locals_of locals.old) }
+) -> CheckResult<Vec<TypedStmt>>
+    ensures typed { Agrees stmts_in result
+        (definition.stmts_typed (scope_of scope.now (locals_of locals.old))
+        (stmts (map written.stmt_of body.now))) }
+    ensures unchanged { IfOk result (λ _. locals_of locals.new ≡ locals_of locals.old) }
 {
-    let kept = locals.len();
-    let mut typed = Vec::with_capacity(alloc, body.len())?;
+    let outer = locals.len();
+    let mut typed = Vec::with_capacity(scope.alloc, body.len())?;
     for source in body {
-        typed.push(statement(alloc, scope, locals, source)?)?;
+        typed.push(check_stmt(scope, locals, source)?)?;
     }
-    locals.truncate(kept);
+    locals.truncate(outer);
     Ok(typed)
 }
 
 /// `{ body }`: none of its names is taken yet.
 #[cycle(statements)]
-fn inner_block<'n>(
-    alloc: Global,
+fn check_inner_block<'n>(
     scope: &Scope<'_, 'n>,
-    locals: &mut Vec<Declared<'n>>,
+    locals: &mut Vec<Binding<'n>>,
     place: Place,
     body: &'n [Stmt],
-) -> Checking<TypedStmt>
-    ensures typed { Gives stmt_of result (definition.stmt_typed (scope_of scope.now (locals_of locals.old)) (Block place (stmts (map written.stmt_of body.now)))) }
-    ensures kept { IfOk result (λ _. locals_of locals.new ≡ locals_of locals.old) }
+) -> CheckResult<TypedStmt>
+    ensures typed { Agrees stmt_of result
+        (definition.stmt_typed (scope_of scope.now (locals_of locals.old))
+        (Block place (stmts (map written.stmt_of body.now)))) }
+    ensures unchanged { IfOk result (λ _. locals_of locals.new ≡ locals_of locals.old) }
 {
     let inner = Scope {
-        first: locals.len(),
+        block_start: locals.len(),
         ..*scope
     };
-    let body = block(alloc, &inner, locals, body)?;
+    let body = check_block(&inner, locals, body)?;
     let typed = nodes::block(place.line, body);
     Ok(typed)
 }
@@ -166,164 +201,180 @@ fn inner_block<'n>(
 /// `if (condition) inner`
 #[cycle(statements)]
 #[tactic(auto, unfolding(ash_typing::specs::Statements::if_typed))]
-fn if_typed<'n>(
-    alloc: Global,
+fn check_if<'n>(
     scope: &Scope<'_, 'n>,
-    locals: &mut Vec<Declared<'n>>,
+    locals: &mut Vec<Binding<'n>>,
     place: Place,
-    inner: &'n Stmt,
     condition: &Expr,
-) -> Checking<TypedStmt>
-    ensures typed { Gives stmt_of result (definition.stmt_typed (scope_of scope.now (locals_of locals.old)) (If place (written.expr_of condition.now) (written.stmt_of inner.now))) }
-    ensures kept { IfOk result (λ _. locals_of locals.new ≡ locals_of locals.old) }
+    inner: &'n Stmt,
+) -> CheckResult<TypedStmt>
+    ensures typed { Agrees stmt_of result
+        (definition.stmt_typed (scope_of scope.now (locals_of locals.old))
+        (If place (written.expr_of condition.now) (written.stmt_of inner.now))) }
+    ensures unchanged { IfOk result (λ _. locals_of locals.new ≡ locals_of locals.old) }
 {
-    let condition = expression(&(&*scope).environment(locals), alloc, false, condition)?;
-    let inner = branch(alloc, scope, locals, inner)?;
-    if_made(place.line, condition, inner)
+    let condition = check_expr(&(&*scope).environment(locals), Position::Value, condition)?;
+    let inner = check_branch(scope, locals, inner)?;
+    build_if(place.line, condition, inner)
 }
 
 /// `if (condition) inner else other`
 #[cycle(statements)]
 #[tactic(auto, unfolding(ash_typing::specs::Statements::if_else_typed))]
-fn if_else_typed<'n>(
-    alloc: Global,
+fn check_if_else<'n>(
     scope: &Scope<'_, 'n>,
-    locals: &mut Vec<Declared<'n>>,
+    locals: &mut Vec<Binding<'n>>,
     place: Place,
-    then: &'n Stmt,
-    otherwise: &'n Stmt,
     condition: &Expr,
-) -> Checking<TypedStmt>
-    ensures typed { Gives stmt_of result (definition.stmt_typed (scope_of scope.now (locals_of locals.old)) (IfElse place (written.expr_of condition.now) (written.stmt_of then.now) (written.stmt_of otherwise.now))) }
-    ensures kept { IfOk result (λ _. locals_of locals.new ≡ locals_of locals.old) }
+    branches: Branches<'n>,
+) -> CheckResult<TypedStmt>
+    ensures typed { Agrees stmt_of result
+        (definition.stmt_typed (scope_of scope.now (locals_of locals.old))
+        (IfElse place (written.expr_of condition.now) (written.stmt_of branches.entry.then.now)
+        (written.stmt_of branches.entry.otherwise.now))) }
+    ensures unchanged { IfOk result (λ _. locals_of locals.new ≡ locals_of locals.old) }
 {
-    let condition = expression(&(&*scope).environment(locals), alloc, false, condition)?;
-    let then = branch(alloc, scope, locals, then)?;
-    let otherwise = branch(alloc, scope, locals, otherwise)?;
-    if_else_made(place.line, condition, then, otherwise)
+    let condition = check_expr(&(&*scope).environment(locals), Position::Value, condition)?;
+    let then = check_branch(scope, locals, branches.then)?;
+    let otherwise = check_branch(scope, locals, branches.otherwise)?;
+    build_if_else(place.line, condition, then, otherwise)
 }
 
 /// `while (condition) inner`
 #[cycle(statements)]
 #[tactic(auto, unfolding(ash_typing::specs::Statements::while_typed))]
-fn while_typed<'n>(
-    alloc: Global,
+fn check_while<'n>(
     scope: &Scope<'_, 'n>,
-    locals: &mut Vec<Declared<'n>>,
+    locals: &mut Vec<Binding<'n>>,
     place: Place,
-    inner: &'n Stmt,
     condition: &Expr,
-) -> Checking<TypedStmt>
-    ensures typed { Gives stmt_of result (definition.stmt_typed (scope_of scope.now (locals_of locals.old)) (While place (written.expr_of condition.now) (written.stmt_of inner.now))) }
-    ensures kept { IfOk result (λ _. locals_of locals.new ≡ locals_of locals.old) }
+    inner: &'n Stmt,
+) -> CheckResult<TypedStmt>
+    ensures typed { Agrees stmt_of result
+        (definition.stmt_typed (scope_of scope.now (locals_of locals.old))
+        (While place (written.expr_of condition.now) (written.stmt_of inner.now))) }
+    ensures unchanged { IfOk result (λ _. locals_of locals.new ≡ locals_of locals.old) }
 {
-    let condition = expression(&(&*scope).environment(locals), alloc, false, condition)?;
+    let condition = check_expr(&(&*scope).environment(locals), Position::Value, condition)?;
     let repeated = Scope {
         in_loop: true,
         ..*scope
     };
-    let inner = branch(alloc, &repeated, locals, inner)?;
-    while_made(alloc, place.line, condition, inner)
+    let inner = check_branch(&repeated, locals, inner)?;
+    build_while(scope.alloc, place.line, condition, inner)
 }
 
 /// `do inner while (condition);`
 #[cycle(statements)]
 #[tactic(auto, unfolding(ash_typing::specs::Statements::do_while_typed))]
-fn do_while_typed<'n>(
-    alloc: Global,
+fn check_do_while<'n>(
     scope: &Scope<'_, 'n>,
-    locals: &mut Vec<Declared<'n>>,
+    locals: &mut Vec<Binding<'n>>,
     place: Place,
     inner: &'n Stmt,
     condition: &Expr,
-) -> Checking<TypedStmt>
-    ensures typed { Gives stmt_of result (definition.stmt_typed (scope_of scope.now (locals_of locals.old)) (DoWhile place (written.stmt_of inner.now) (written.expr_of condition.now))) }
-    ensures kept { IfOk result (λ _. locals_of locals.new ≡ locals_of locals.old) }
+) -> CheckResult<TypedStmt>
+    ensures typed { Agrees stmt_of result
+        (definition.stmt_typed (scope_of scope.now (locals_of locals.old))
+        (DoWhile place (written.stmt_of inner.now) (written.expr_of condition.now))) }
+    ensures unchanged { IfOk result (λ _. locals_of locals.new ≡ locals_of locals.old) }
 {
     let repeated = Scope {
         in_loop: true,
         ..*scope
     };
-    let inner = branch(alloc, &repeated, locals, inner)?;
-    let condition = expression(&(&*scope).environment(locals), alloc, false, condition)?;
-    do_while_made(alloc, place.line, inner, condition)
+    let inner = check_branch(&repeated, locals, inner)?;
+    let condition = check_expr(&(&*scope).environment(locals), Position::Value, condition)?;
+    build_do_while(scope.alloc, place.line, inner, condition)
 }
 
 /// `for (first; condition; steps) body`
 #[cycle(statements)]
 #[tactic(auto, unfolding(ash_typing::specs::Statements::for_typed))]
-fn for_typed<'n>(
-    alloc: Global,
+fn check_for<'n>(
     scope: &Scope<'_, 'n>,
-    locals: &mut Vec<Declared<'n>>,
-    place: Place,
-    first: &'n Stmt,
-    body: &'n Stmt,
-    condition: &Option<Expr>,
-    steps: &[Expr],
-) -> Checking<TypedStmt>
-    ensures typed { Gives stmt_of result (definition.stmt_typed (scope_of scope.now (locals_of locals.old)) (For place (written.stmt_of first.now) (option_map written.expr_of condition.now) (map written.expr_of steps.now) (written.stmt_of body.now))) }
-    ensures kept { IfOk result (λ _. locals_of locals.new ≡ locals_of locals.old) }
+    locals: &mut Vec<Binding<'n>>,
+    parts: ForParts<'n>,
+) -> CheckResult<TypedStmt>
+    ensures typed { Agrees stmt_of result
+        (definition.stmt_typed (scope_of scope.now (locals_of locals.old))
+        (For parts.entry.place (written.stmt_of parts.entry.first.now)
+        (option_map written.expr_of parts.entry.condition.now)
+        (map written.expr_of parts.entry.steps.now) (written.stmt_of parts.entry.body.now))) }
+    ensures unchanged { IfOk result (λ _. locals_of locals.new ≡ locals_of locals.old) }
 {
-    let kept = locals.len();
+    let outer = locals.len();
     let head = Scope {
-        first: kept,
+        block_start: outer,
         ..*scope
     };
-    let first = head_typed(alloc, &head, locals, first)?;
+    let first = check_for_head(&head, locals, parts.first)?;
     let env = head.environment(locals);
-    let condition = maybe_typed(alloc, &env, condition)?;
-    let steps = all_typed(&env, alloc, steps)?;
+    let condition = check_optional_expr(&env, parts.condition)?;
+    let steps = check_exprs(&env, parts.steps)?;
     let repeated = Scope {
         in_loop: true,
         ..head
     };
-    let body = branch(alloc, &repeated, locals, body)?;
-    locals.truncate(kept);
-    for_made(alloc, place.line, first, condition, steps, body)
+    let body = check_branch(&repeated, locals, parts.body)?;
+    locals.truncate(outer);
+    let checked = CheckedFor {
+        head: first,
+        condition,
+        steps,
+        body,
+    };
+    build_for(scope.alloc, parts.place.line, checked)
 }
 
 /// `switch (value) { labels }`
 #[cycle(statements)]
-fn switch_typed<'n>(
-    alloc: Global,
+fn check_switch<'n>(
     scope: &Scope<'_, 'n>,
-    locals: &mut Vec<Declared<'n>>,
+    locals: &mut Vec<Binding<'n>>,
     place: Place,
-    labels: &'n [Case],
     value: &Expr,
-) -> Checking<TypedStmt>
-    ensures typed { Gives stmt_of result (definition.stmt_typed (scope_of scope.now (locals_of locals.old)) (Switch place (written.expr_of value.now) (cases (map written.case_of labels.now)))) }
-    ensures kept { IfOk result (λ _. locals_of locals.new ≡ locals_of locals.old) }
+    labels: &'n [Case],
+) -> CheckResult<TypedStmt>
+    ensures typed { Agrees stmt_of result
+        (definition.stmt_typed (scope_of scope.now (locals_of locals.old))
+        (Switch place (written.expr_of value.now) (cases (map written.case_of labels.now)))) }
+    ensures unchanged { IfOk result (λ _. locals_of locals.new ≡ locals_of locals.old) }
 {
-    let value = expression(&(&*scope).environment(locals), alloc, false, value)?;
+    let value = check_expr(&(&*scope).environment(locals), Position::Value, value)?;
     let chosen = Scope {
         in_switch: true,
         ..*scope
     };
-    let labels = cases_typed(alloc, &chosen, locals, kind_in(value.ty), labels)?;
-    let of = integer(value.at, value.ty)?;
+    let labels = check_cases(&chosen, locals, integer_type_in(value.ty), labels)?;
+    let of = integer_type(value.at, value.ty)?;
     Ok(nodes::switch(place.line, of, value.tree, labels))
 }
 
-/// Labels, each behind those before it, with the statements behind them.
+/// Checks labels in their order, with the statements after each.
 #[cycle(statements)]
-fn cases_typed<'n>(
-    alloc: Global,
+fn check_cases<'n>(
     scope: &Scope<'_, 'n>,
-    locals: &mut Vec<Declared<'n>>,
+    locals: &mut Vec<Binding<'n>>,
     kind: Option<Kind>,
     labels: &'n [Case],
-) -> Checking<Vec<TypedCase>>
-    ensures typed { Gives cases_in result (definition.cases_typed (scope_of scope.now (locals_of locals.old)) kind [] (cases (map written.case_of labels.now))) }
-    ensures kept { IfOk result (λ _. locals_of locals.new ≡ locals_of locals.old) }
+) -> CheckResult<Vec<TypedCase>>
+    ensures typed { Agrees cases_in result
+        (definition.cases_typed (scope_of scope.now (locals_of locals.old)) kind []
+        (cases (map written.case_of labels.now))) }
+    ensures unchanged { IfOk result (λ _. locals_of locals.new ≡ locals_of locals.old) }
 {
-    let mut typed = Vec::with_capacity(alloc, labels.len())?;
-    let mut before = Vec::with_capacity(alloc, labels.len())?;
+    let mut typed = Vec::with_capacity(scope.alloc, labels.len())?;
+    let mut before = Vec::with_capacity(scope.alloc, labels.len())?;
     for (i, case) in labels.iter().enumerate() {
         let last = is_last(labels, i);
-        let known = label(kind, &before, last, case.place.at, case.label)?;
-        let body = block(alloc, scope, locals, &case.body)?;
+        let context = LabelContext {
+            kind,
+            before: &before,
+            is_last: last,
+        };
+        let known = check_label(context, case.place.at, case.label)?;
+        let body = check_block(scope, locals, &case.body)?;
         before.push(case.label)?;
         typed.push(nodes::case(known, body))?;
     }

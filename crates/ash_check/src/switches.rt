@@ -6,15 +6,15 @@ ghost use Rattle.ash_tree.specs.Tree.{cases};
 ghost use Rattle.ash_tree.specs.Views.{case_of};
 ghost use Rattle.ash_typing.specs.Labels as constants;
 ghost use Rattle.ash_typing.specs.Switches as definition;
-ghost use Rattle.ash_expressions.specs.Gives.{Gives};
+ghost use Rattle.ash_expressions.specs.Agreement.{Agrees};
 
-use ash_expressions::{Checking, broken, holds};
+use ash_expressions::{CheckResult, fault_at, holds};
 use ash_tree::{Case, Label};
 use ash_typed::Kind;
 use ash_typing::{Rule, Ty};
 
 /// The integer type of the value, where it has one.
-pub(crate) fn kind_in(of: Ty) -> Option<Kind>
+pub(crate) fn integer_type_in(of: Ty) -> Option<Kind>
     ensures { result ≡ definition.kind_in of }
 {
     match of {
@@ -70,7 +70,7 @@ fn any_is_same(before: &[Label], label: Label) -> bool
     false
 }
 
-/// Whether no label stands behind this one.
+/// Whether no label is after this one.
 pub(crate) fn is_last(labels: &[Case], i: usize) -> bool
     requires { i < length labels.now }
     ensures { result ≡ constants.is_last (cases (map case_of (drop (i + 1) labels.now))) }
@@ -78,38 +78,47 @@ pub(crate) fn is_last(labels: &[Case], i: usize) -> bool
     i + 1 == labels.len()
 }
 
-/// The constant of a label at this offset, behind the labels before it.
+/// What a label is checked against: the integer type of the value, where it has one, and the other labels.
+#[derive(Clone, Copy)]
+pub(crate) struct LabelContext<'a> {
+    pub(crate) kind: Option<Kind>,
+    pub(crate) before: &'a [Label],
+    pub(crate) is_last: bool,
+}
+
+/// The constant of a label at this offset, after the labels before it.
 #[tactic(auto, unfolding(ash_typing::specs::Switches::constant_typed))]
-fn constant(kind: Option<Kind>, before: &[Label], at: usize, label: Label) -> Checking<Label>
-    ensures { Gives (λ l. l) result (definition.constant_typed kind before.now at label) }
+fn check_constant(
+    kind: Option<Kind>,
+    before: &[Label],
+    at: usize,
+    label: Label,
+) -> CheckResult<Label>
+    ensures { Agrees (λ l. l) result (definition.constant_typed kind before.now at label) }
 {
     if !is_within(kind, label) {
-        return Err(broken(Rule::ConstantOutOfRange, at));
+        return Err(fault_at(Rule::ConstantOutOfRange, at));
     }
     if any_is_same(before, label) {
-        return Err(broken(Rule::DuplicateCase, at));
+        return Err(fault_at(Rule::DuplicateCase, at));
     }
     Ok(label)
 }
 
 /// A label at this offset: `default` has to be the last one.
 #[tactic(auto, unfolding(ash_typing::specs::Switches::label_typed))]
-pub(crate) fn label(
-    kind: Option<Kind>,
-    before: &[Label],
-    is_last: bool,
-    at: usize,
-    label: Label,
-) -> Checking<Label>
-    ensures { Gives (λ l. l) result (definition.label_typed kind before.now is_last at label) }
+pub(crate) fn check_label(context: LabelContext, at: usize, label: Label) -> CheckResult<Label>
+    ensures { Agrees (λ l. l) result
+        (definition.label_typed context.entry.kind context.entry.before.now context.entry.is_last at
+        label) }
 {
     match label {
         Label::Default => {
-            if !is_last {
-                return Err(broken(Rule::Misplaced, at));
+            if !context.is_last {
+                return Err(fault_at(Rule::Misplaced, at));
             }
             Ok(label)
         }
-        _ => constant(kind, before, at, label),
+        _ => check_constant(context.kind, context.before, at, label),
     }
 }

@@ -37,9 +37,9 @@ pub(crate) fn cycle_of(alloc: Global, source: &str) -> String {
     }
 }
 
-// In the order of the rows: a class with a handle of itself; objects and handles both count; a class that only leads to a
-// cycle; names of no class are no reference; a shorter way comes before one that begins earlier; of two shortest ways the
-// first in source order; the first class that reaches itself and not the shortest cycle.
+// In the order of the rows: a class with a handle of itself; objects and handles both count; a class that only leads to
+// a cycle; names of no class are no reference; a shorter way comes before one that begins earlier; of two shortest ways
+// the first in source order; the first class that reaches itself and not the shortest cycle.
 const CYCLES: &str = "
     0 | class Node { Node@ x; }
     0 1 | class A { B x; } class B { A@ x; }

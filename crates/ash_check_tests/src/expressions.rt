@@ -1,119 +1,16 @@
 //! Expressions by themselves, each as the value of `int z`: their types, their faults, and what operators take their
 //! operands for.
 
+use crate::declared::module_signatures;
 use crate::sources::{Question, check_rows, printed, tree_of};
 use ash_check::CheckFault;
-use ash_expressions::{
-    Class, Declared, Environment, Function, Heads, Interface, Typed, expression,
-};
+use ash_expressions::{Environment, Position, TypedExpr, check_expr};
 use ash_registrations::Registrations;
 use ash_tree as written;
 use ash_tree::{Initializer, Item, Module};
-use ash_typed::{Element, Expr, Kind, ObjectType, Operands, Operation};
-use ash_typing::Ty;
+use ash_typed::{Expr, Operands, Operation};
 use std::alloc::{AllocError, Global};
 use std::fmt::Debug;
-
-const INT: Ty = Ty::Integer(Kind::Int);
-
-const NODE: Ty = Ty::Handle(ObjectType::Class(0));
-
-const SHAPE: Ty = Ty::Handle(ObjectType::Interface(0));
-
-/// A name, and its type.
-type Named = (&'static str, Ty);
-
-/// A function or a method: its name, its result and its parameters.
-type Head = (&'static str, Ty, &'static [Ty]);
-
-// `interface Shape { int get(int k); }`, and `class Node : Shape { int v; Node@ next; Node(int k) {} int get(int k) {..} }`
-const FIELDS: &[Named] = &[("v", INT), ("next", NODE)];
-
-const METHODS: &[Head] = &[("get", INT, &[INT])];
-
-// `int a; uint u; int64 l; bool b; Node@ h; Node o(1); Shape@ s; array<int> r; array<Node@>@ t; void g(int k, bool c) {}`
-// beside these two.
-const GLOBALS: &[Named] = &[
-    ("a", INT),
-    ("u", Ty::Integer(Kind::Uint)),
-    ("l", Ty::Integer(Kind::Int64)),
-    ("b", Ty::Bool),
-    ("h", NODE),
-    ("o", Ty::Object(ObjectType::Class(0))),
-    ("s", SHAPE),
-    (
-        "r",
-        Ty::Object(ObjectType::Array(Element::Integer(Kind::Int))),
-    ),
-    ("t", Ty::Handle(ObjectType::Array(Element::Class(0)))),
-];
-
-const FUNCTIONS: &[Head] = &[("g", Ty::Void, &[INT, Ty::Bool])];
-
-/// Variables of these names and types.
-fn declared(alloc: Global, variables: &[Named]) -> Result<Vec<Declared<'static>>, AllocError> {
-    let mut found = Vec::new(alloc);
-    for (name, of) in variables {
-        found.push(Declared { name, of: *of })?;
-    }
-    Ok(found)
-}
-
-/// A function of this head.
-fn function(alloc: Global, head: &Head) -> Result<Function<'static>, AllocError> {
-    let (name, result, parameters) = *head;
-    Ok(Function {
-        name,
-        result,
-        parameters: Vec::from_slice(alloc, parameters)?,
-    })
-}
-
-/// Functions of these heads.
-fn functions(alloc: Global, heads: &[Head]) -> Result<Vec<Function<'static>>, AllocError> {
-    let mut found = Vec::new(alloc);
-    for head in heads {
-        found.push(function(alloc, head)?)?;
-    }
-    Ok(found)
-}
-
-/// The interface alone.
-fn interfaces(alloc: Global) -> Result<Vec<Interface<'static>>, AllocError> {
-    let methods = functions(alloc, METHODS)?;
-    let mut found = Vec::new(alloc);
-    found.push(Interface {
-        name: "Shape",
-        methods,
-    })?;
-    Ok(found)
-}
-
-/// The class alone.
-fn classes(alloc: Global) -> Result<Vec<Class<'static>>, AllocError> {
-    let interfaces = Vec::from_slice(alloc, &[0])?;
-    let fields = declared(alloc, FIELDS)?;
-    let methods = functions(alloc, METHODS)?;
-    let parameters = Vec::from_slice(alloc, &[INT])?;
-    let mut found = Vec::new(alloc);
-    found.push(Class {
-        name: "Node",
-        interfaces,
-        fields,
-        methods,
-        parameters,
-    })?;
-    Ok(found)
-}
-
-/// The interface, the class, the function and the globals.
-fn heads(alloc: Global) -> Result<Heads<'static>, AllocError> {
-    let interfaces = interfaces(alloc)?;
-    let classes = classes(alloc)?;
-    let functions = functions(alloc, FUNCTIONS)?;
-    let globals = declared(alloc, GLOBALS)?;
-    Heads::new(alloc, interfaces, classes, functions, globals)
-}
 
 /// A value as it is printed for programmers, or nothing where memory is refused.
 fn debugged<T: Debug>(alloc: Global, value: &T) -> String {
@@ -134,30 +31,31 @@ fn value_in(tree: &Module) -> Option<&written::Expr> {
     }
 }
 
-/// A value, typed where the globals are seen, or its fault.
-fn typed(alloc: Global, value: &written::Expr) -> Result<Typed, String> {
-    let heads = match heads(alloc) {
-        Ok(heads) => heads,
+/// The typed value, where the globals are declared, or its fault.
+fn check_value(alloc: Global, value: &written::Expr) -> Result<TypedExpr, String> {
+    let signatures = match module_signatures(alloc) {
+        Ok(signatures) => signatures,
         Err(AllocError) => return Err(String::new(alloc)),
     };
     let registry = Registrations::new(alloc);
     let env = Environment {
-        heads: &heads,
+        alloc,
+        signatures: &signatures,
         registry: &registry,
         this: None,
         locals: &[],
     };
-    match expression(&env, alloc, false, value) {
+    match check_expr(&env, Position::Value, value) {
         Ok(typed) => Ok(typed),
-        Err(stop) => Err(printed(alloc, &CheckFault::from(stop))),
+        Err(error) => Err(printed(alloc, &CheckFault::from(error))),
     }
 }
 
 /// The value of a source's variable, typed, or why there is none.
-fn value_of(alloc: Global, source: &str) -> Result<Typed, String> {
+fn value_of(alloc: Global, source: &str) -> Result<TypedExpr, String> {
     let tree = tree_of(alloc, source)?;
     match value_in(&tree) {
-        Some(value) => typed(alloc, value),
+        Some(value) => check_value(alloc, value),
         None => Err(printed(alloc, &"no value")),
     }
 }

@@ -1,6 +1,6 @@
 //! Limits: how many variables, classes and interfaces a module has, and how many members a class or an interface.
 
-use crate::sources::{Question, check_answer, check_number, checked};
+use crate::sources::{Expectation, Question, check_answer, check_number, checked};
 use std::alloc::{AllocError, Global};
 use std::fmt::Write;
 use std::process::Abort;
@@ -31,14 +31,12 @@ fn source_of(alloc: Global, row: &Row) -> Result<String, AllocError> {
 fn check_limits(rt: &impl Abort, alloc: Global, rows: &[Row]) -> Result<(), Fail> {
     for row in rows {
         let source = source_of(alloc, row)?;
-        check_answer(
-            rt,
-            alloc,
-            Question::Outcome,
-            source.as_str(),
-            row.wanted,
-            row.name,
-        );
+        let expectation = Expectation {
+            source: source.as_str(),
+            wanted: row.wanted,
+            name: row.name,
+        };
+        check_answer(rt, alloc, Question::Outcome, expectation);
     }
     Ok(())
 }

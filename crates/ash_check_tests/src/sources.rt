@@ -1,5 +1,5 @@
-//! Rows: each has what is found of a source, counted by hand, a bar, and the source. What is found is how the check of the
-//! source ends (`ok`, or its fault with the offset), or what another question asks.
+//! Rows: each has what is found of a source, counted by hand, a bar, and the source. What is found is how the check of
+//! the source ends (`ok`, or its fault with the offset), or what another question asks.
 
 ghost use Rattle.std.specs.Prelude.{IfOk};
 ghost use Rattle.ash_tree.specs.Views.{module_of};
@@ -51,7 +51,7 @@ static REGISTERED: [Registration; 9] = [
 fn register(registry: &mut Registry, registration: &Registration) -> Result<(), RegistryFault> {
     match registration {
         Registration::Type(name, kind) => registry.object_type(name, *kind),
-        Registration::Factory(of, decl) => registry.factory(of, decl),
+        Registration::Factory(of, decl) => registry.factory_parameters(of, decl),
         Registration::Method(of, decl, id) => registry.method(of, decl, *id),
         Registration::Property(of, decl, id) => registry.property(of, decl, *id),
         Registration::Service(kind) => match registry.service(*kind) {
@@ -134,17 +134,24 @@ pub(crate) fn check_number(rt: &impl Abort, found: usize, wanted: usize, source:
     assert_eq!(rt; found, wanted, "{source}");
 }
 
-/// Compares the answer to a question about a source, which has this name.
+/// A source, the answer that is wanted of it, and the name by which a test that fails says which it was.
+#[derive(Clone, Copy)]
+pub(crate) struct Expectation<'a> {
+    pub(crate) source: &'a str,
+    pub(crate) wanted: &'a str,
+    pub(crate) name: &'a str,
+}
+
+/// Compares the answer to a question about a source with the one that is wanted.
 pub(crate) fn check_answer(
     rt: &impl Abort,
     alloc: Global,
     question: Question,
-    source: &str,
-    wanted: &str,
-    name: &str,
+    expectation: Expectation,
 ) {
-    let found = answer(alloc, question, source);
-    assert_eq!(rt; found.as_str(), wanted, "{name}");
+    let found = answer(alloc, question, expectation.source);
+    let name = expectation.name;
+    assert_eq!(rt; found.as_str(), expectation.wanted, "{name}");
 }
 
 /// Asks a question about each row's source.
@@ -154,6 +161,11 @@ pub(crate) fn check_rows(rt: &impl Abort, alloc: Global, question: Question, row
             .trim()
             .split_once(" | ")
             .unwrap_or((row, "no bar in this row"));
-        check_answer(rt, alloc, question, source, wanted, source);
+        let expectation = Expectation {
+            source,
+            wanted,
+            name: source,
+        };
+        check_answer(rt, alloc, question, expectation);
     }
 }

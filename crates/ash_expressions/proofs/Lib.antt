@@ -1,3 +1,3 @@
 pub mod Loops
 pub mod Nodes
-pub mod Placing
+pub mod IndexLaws

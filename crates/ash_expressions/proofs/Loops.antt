@@ -1,4 +1,4 @@
--- What was made before a turn of a loop, with what is made of the rest.
+-- The results before a turn of a loop, with those of the rest.
 use Rattle.std.proofs.Common.{◌≡◌, ◌≤◌, false, List, [], ◌∷◌, ◌++◌, length, map, Option, Some, None, Ok, Err, refl, sym, ap, ◌∙◌, append_assoc, append-nil, arith}
 use Rattle.ash_tree.specs.Tree as written
 use Rattle.ash_typing.specs.declared.fault.Fault.{Fault}
@@ -9,12 +9,12 @@ use Rattle.ash_typed.specs.Tree.{Expr, Exprs, no_expr, expr, exprs}
 use Rattle.ash_typed.specs.Views.{expr_of}
 use Rattle.ash_typing.specs.Environment.{Environment, Class}
 use Rattle.ash_typing.specs.Expressions.{Typed, fitted, all_fitted, typed, all_typed}
-use Rattle.ash_expressions.specs.declared.stop.Stop.{Stop}
-use Rattle.ash_expressions.specs.declared.stop.Stop.TheVariants as reasons
-use Rattle.ash_expressions.specs.Gives.{Fails}
+use Rattle.ash_expressions.specs.declared.error.CheckError.{CheckError}
+use Rattle.ash_expressions.specs.declared.error.CheckError.TheVariants as errors
+use Rattle.ash_expressions.specs.Agreement.{FailsWith}
 use Rattle.ash_expressions.specs.Views.{first_and_rest}
 
--- arguments that fit their parameters
+-- arguments that are converted to the types of their parameters
 
 abbrev pub before : List Expr → Exprs → Exprs
 before [] es = es
@@ -50,36 +50,36 @@ map_push : (es : List code.Expr) (e : code.Expr) → map expr_of (es ++ e ∷ []
 map_push [] e = refl
 map_push (x ∷ es) e = ap (λ r. expr_of x ∷ r) (map_push es e)
 
-abbrev pub fitted_after : List Class → List Expr → List Ty → List Typed → Checking Exprs
-fitted_after classes done ps ts = all_fitted classes ps ts >>= λ es. Ok (before done es)
+abbrev pub coerced_after : List Class → List Expr → List Ty → List Typed → Checking Exprs
+coerced_after classes done ps ts = all_fitted classes ps ts >>= λ es. Ok (before done es)
 
--- what comes out of one argument, and then of those behind it
+-- the outcome of one argument, and then of those after it
 abbrev first_then : List Class → List Expr → List Ty → List Typed → Checking Expr → Checking Exprs
 first_then classes done ps ts r = (r >>= λ e. all_fitted classes ps ts >>= λ es. Ok (expr e es)) >>= λ es. Ok (before done es)
 
 module _ (classes : List Class) where
-  pub none_before : (ps : List Ty) (ts : List Typed) → fitted_after classes [] ps ts ≡ all_fitted classes ps ts
+  pub none_before : (ps : List Ty) (ts : List Typed) → coerced_after classes [] ps ts ≡ all_fitted classes ps ts
   none_before ps ts = bind_same (all_fitted classes ps ts)
 
-  pub no_argument : (done : List Expr) (ps : List Ty) (ts : List Typed) → length ts ≤ 0 → fitted_after classes done ps ts ≡ Ok (exprs done)
+  pub no_argument : (done : List Expr) (ps : List Ty) (ts : List Typed) → length ts ≤ 0 → coerced_after classes done ps ts ≡ Ok (exprs done)
   no_argument done [] [] h = ap Ok (before-none done)
   no_argument done (p ∷ ps) [] h = ap Ok (before-none done)
   no_argument done ps (t ∷ ts) h = absurd (omega arith)
 
-  pub no_parameter : (done : List Expr) (ps : List Ty) (ts : List Typed) → first_and_rest ps ≡ None → fitted_after classes done ps ts ≡ Ok (exprs done)
+  pub no_parameter : (done : List Expr) (ps : List Ty) (ts : List Typed) → first_and_rest ps ≡ None → coerced_after classes done ps ts ≡ Ok (exprs done)
   no_parameter done [] ts h = ap Ok (before-none done)
   no_parameter done (p ∷ ps) ts h = absurd (no_first p ps h)
 
-  one_more : (done : List Expr) (ps : List Ty) (ts : List Typed) (p : Ty) (qs : List Ty) (t : Typed) (us : List Typed) → first_and_rest ps ≡ Some (p, qs) → ts ≡ t ∷ us → fitted_after classes done ps ts ≡ first_then classes done qs us (fitted classes p t)
-  one_more done ps ts p qs t us h k = ap (λ x. fitted_after classes done x ts) (split_is ps p qs h) ∙ ap (λ x. fitted_after classes done (p ∷ qs) x) k
+  one_more : (done : List Expr) (ps : List Ty) (ts : List Typed) (p : Ty) (qs : List Ty) (t : Typed) (us : List Typed) → first_and_rest ps ≡ Some (p, qs) → ts ≡ t ∷ us → coerced_after classes done ps ts ≡ first_then classes done qs us (fitted classes p t)
+  one_more done ps ts p qs t us h k = ap (λ x. coerced_after classes done x ts) (split_is ps p qs h) ∙ ap (λ x. coerced_after classes done (p ∷ qs) x) k
 
-  pub stops : (done : List Expr) (ps : List Ty) (ts : List Typed) (p : Ty) (qs : List Ty) (t : Typed) (us : List Typed) (e : Stop) (whole : Checking Exprs) → first_and_rest ps ≡ Some (p, qs) → ts ≡ t ∷ us → Fails e (fitted classes p t) → fitted_after classes done ps ts ≡ whole → Fails e whole
-  stops done ps ts p qs t us (reasons.Fault f) whole h k broken so = sym so ∙ one_more done ps ts p qs t us h k ∙ ap (first_then classes done qs us) broken
-  stops done ps ts p qs t us reasons.NoMemory whole h k broken so = tt
+  pub stops : (done : List Expr) (ps : List Ty) (ts : List Typed) (p : Ty) (qs : List Ty) (t : Typed) (us : List Typed) (e : CheckError) (whole : Checking Exprs) → first_and_rest ps ≡ Some (p, qs) → ts ≡ t ∷ us → FailsWith e (fitted classes p t) → coerced_after classes done ps ts ≡ whole → FailsWith e whole
+  stops done ps ts p qs t us (errors.Fault f) whole h k broken so = sym so ∙ one_more done ps ts p qs t us h k ∙ ap (first_then classes done qs us) broken
+  stops done ps ts p qs t us errors.NoMemory whole h k broken so = tt
 
-  pub goes_on : (done : List code.Expr) (e : code.Expr) (new : List code.Expr) (ps : List Ty) (ts : List Typed) (p : Ty) (qs : List Ty) (t : Typed) (us : List Typed) (whole : Checking Exprs) → new ≡ done ++ e ∷ [] → first_and_rest ps ≡ Some (p, qs) → ts ≡ t ∷ us → fitted classes p t ≡ Ok (expr_of e) → fitted_after classes (map expr_of done) ps ts ≡ whole → fitted_after classes (map expr_of new) qs us ≡ whole
+  pub goes_on : (done : List code.Expr) (e : code.Expr) (new : List code.Expr) (ps : List Ty) (ts : List Typed) (p : Ty) (qs : List Ty) (t : Typed) (us : List Typed) (whole : Checking Exprs) → new ≡ done ++ e ∷ [] → first_and_rest ps ≡ Some (p, qs) → ts ≡ t ∷ us → fitted classes p t ≡ Ok (expr_of e) → coerced_after classes (map expr_of done) ps ts ≡ whole → coerced_after classes (map expr_of new) qs us ≡ whole
   goes_on done e new ps ts p qs t us whole same h k fine so =
-      ap (λ x. fitted_after classes x qs us) (ap (map expr_of) same ∙ map_push done e)
+      ap (λ x. coerced_after classes x qs us) (ap (map expr_of) same ∙ map_push done e)
       ∙ sym (push_more (map expr_of done) (expr_of e) (all_fitted classes qs us))
       ∙ sym (ap (first_then classes (map expr_of done) qs us) fine)
       ∙ sym (one_more (map expr_of done) ps ts p qs t us h k)

@@ -1,3 +1,3 @@
-pub mod Gives
-pub mod Places
+pub mod Agreement
+pub mod NameIndex
 pub mod Views

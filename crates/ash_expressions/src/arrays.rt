@@ -6,12 +6,13 @@ ghost use Rattle.ash_typed.specs.declared.tree.operations.ArrayMethod.TheVariant
 ghost use Rattle.ash_typing.specs.Environment as environment;
 ghost use Rattle.ash_typing.specs.Terms as terms;
 ghost use Rattle.ash_typing.specs.Expressions as typing;
-ghost use Rattle.ash_expressions.specs.Gives.{Gives};
-ghost use Rattle.ash_expressions.specs.Views.{typed_of, callee_of, invoked_of, parameters_of};
+ghost use Rattle.ash_expressions.specs.Agreement.{Agrees};
+ghost use Rattle.ash_expressions.specs.Views.{typed_of, callee_of, method_callee_of, parameters_of};
 
-use crate::environment::{Callee, Invoked, Parameters};
-use crate::stop::{Checking, broken};
-use crate::typed::{Typed, brought, integer, read};
+use crate::callees::{Callee, MethodCallee};
+use crate::error::{CheckResult, fault_at};
+use crate::parameters::Parameters;
+use crate::typed_expr::{TypedExpr, coerce, integer_type};
 use crate::types::ty_of_element;
 use ash_typed::{ArrayMethod, Element, Expr, Kind, Method, ObjectType, Target, nodes};
 use ash_typing::{Callable, Rule, Ty};
@@ -30,7 +31,7 @@ fn array_parameters<'a>(count: usize) -> Parameters<'a>
 }
 
 /// The construction of an array by so many arguments.
-pub fn array_built<'a>(of: Element, count: usize) -> Callee<'a>
+pub fn array_callee<'a>(of: Element, count: usize) -> Callee<'a>
     ensures { callee_of result ≡ environment.array_built of count }
 {
     Callee {
@@ -41,55 +42,74 @@ pub fn array_built<'a>(of: Element, count: usize) -> Callee<'a>
 }
 
 /// The type of the elements, whose name is at this offset.
-pub(crate) fn known_element(at: usize, of: Option<Element>) -> Checking<Element>
-    ensures { Gives (λ e. e) result (typing.known_element at of) }
+pub(crate) fn check_element_type(at: usize, of: Option<Element>) -> CheckResult<Element>
+    ensures { Agrees (λ e. e) result (typing.known_element at of) }
 {
     match of {
-        None => Err(broken(Rule::UnknownType, at)),
+        None => Err(fault_at(Rule::UnknownType, at)),
         Some(of) => Ok(of),
     }
 }
 
 /// An index, which is converted to `uint`.
-fn index_in(alloc: Global, index: Typed) -> Checking<Expr>
-    ensures { Gives expr_of result (typing.index_in (typed_of index)) }
+fn coerce_index(alloc: Global, index: TypedExpr) -> CheckResult<Expr>
+    ensures { Agrees expr_of result (typing.index_in (typed_of index)) }
 {
-    integer(index.at, index.ty)?;
-    Ok(brought(alloc, Ty::Integer(Kind::Uint), index)?)
+    integer_type(index.at, index.ty)?;
+    Ok(coerce(alloc, Ty::Integer(Kind::Uint), index)?)
 }
 
-fn indexed_at(alloc: Global, array: Typed, index: Typed, ty: Ty, of: Element) -> Checking<Typed>
-    ensures { Gives typed_of result (typing.indexed_at (typed_of array) (typed_of index) ty of) }
+fn build_element(
+    alloc: Global,
+    array: TypedExpr,
+    index: TypedExpr,
+    ty: Ty,
+    of: Element,
+) -> CheckResult<TypedExpr>
+    ensures { Agrees typed_of result (typing.indexed_at (typed_of array) (typed_of index) ty of) }
 {
-    let index = index_in(alloc, index)?;
+    let index = coerce_index(alloc, index)?;
     let tree = nodes::element(alloc, array.tree, index, of)?;
-    Ok(read(array.at, ty, tree))
+    Ok(TypedExpr::place(array.at, ty, tree))
 }
 
-fn indexed_object(alloc: Global, array: Typed, index: Typed, object: ObjectType) -> Checking<Typed>
-    ensures { Gives typed_of result (typing.indexed_object (typed_of array) (typed_of index) object) }
+fn build_object_index(
+    alloc: Global,
+    array: TypedExpr,
+    index: TypedExpr,
+    object: ObjectType,
+) -> CheckResult<TypedExpr>
+    ensures { Agrees typed_of result
+        (typing.indexed_object (typed_of array) (typed_of index) object) }
 {
     match object {
-        ObjectType::Array(of) => indexed_at(alloc, array, index, ty_of_element(of), of),
-        _ => Err(broken(Rule::TypeMismatch, array.at)),
+        ObjectType::Array(of) => build_element(alloc, array, index, ty_of_element(of), of),
+        _ => Err(fault_at(Rule::TypeMismatch, array.at)),
     }
 }
 
 /// `array[index]`
 #[tactic(auto, unfolding(ash_typing::specs::Expressions::indexed))]
-pub(crate) fn indexed(alloc: Global, array: Typed, index: Typed) -> Checking<Typed>
-    ensures { Gives typed_of result (typing.indexed (typed_of array) array.ty (typed_of index)) }
+pub(crate) fn build_index(
+    alloc: Global,
+    array: TypedExpr,
+    index: TypedExpr,
+) -> CheckResult<TypedExpr>
+    ensures { Agrees typed_of result (typing.indexed (typed_of array) array.ty (typed_of index)) }
 {
     match array.ty {
-        Ty::Object(object) | Ty::Handle(object) => indexed_object(alloc, array, index, object),
-        Ty::Unknown => indexed_at(alloc, array, index, Ty::Unknown, Element::Bool),
-        _ => Err(broken(Rule::TypeMismatch, array.at)),
+        Ty::Object(object) | Ty::Handle(object) => build_object_index(alloc, array, index, object),
+        Ty::Unknown => build_element(alloc, array, index, Ty::Unknown, Element::Bool),
+        _ => Err(fault_at(Rule::TypeMismatch, array.at)),
     }
 }
 
 /// The method of arrays that has this name.
 fn array_method(name: &str) -> Option<ArrayMethod>
-    ensures { result ≡ find (environment.is_array_method name.now) (arrays.Length ∷ arrays.Resize ∷ arrays.InsertLast ∷ arrays.RemoveLast ∷ arrays.IsEmpty ∷ []) }
+    ensures { result
+        ≡ find (environment.is_array_method name.now)
+        (arrays.Length ∷ arrays.Resize ∷ arrays.InsertLast ∷ arrays.RemoveLast ∷ arrays.IsEmpty
+        ∷ []) }
 {
     if name == "length" {
         Some(ArrayMethod::Length)
@@ -107,8 +127,8 @@ fn array_method(name: &str) -> Option<ArrayMethod>
 }
 
 /// A method of arrays whose elements are of a type, as it is called.
-fn array_method_of<'a>(of: Element, method: ArrayMethod) -> Invoked<'a>
-    ensures { invoked_of result ≡ environment.array_method_of of method }
+fn array_method_callee<'a>(of: Element, method: ArrayMethod) -> MethodCallee<'a>
+    ensures { method_callee_of result ≡ environment.array_method_of of method }
 {
     let (result, parameters) = match method {
         ArrayMethod::Length => (Ty::Integer(Kind::Uint), Parameters::Nothing),
@@ -117,7 +137,7 @@ fn array_method_of<'a>(of: Element, method: ArrayMethod) -> Invoked<'a>
         ArrayMethod::RemoveLast => (Ty::Void, Parameters::Nothing),
         ArrayMethod::IsEmpty => (Ty::Bool, Parameters::Nothing),
     };
-    Invoked {
+    MethodCallee {
         method: Method::Array(method),
         result,
         parameters,
@@ -126,8 +146,8 @@ fn array_method_of<'a>(of: Element, method: ArrayMethod) -> Invoked<'a>
 
 /// A method of an array, as it is called.
 #[tactic(auto, unfolding(ash_typing::specs::Environment::method_of_array))]
-pub(crate) fn method_of_array<'a>(of: Element, name: &str) -> Option<Invoked<'a>>
-    ensures { option_map invoked_of result ≡ environment.method_of_array of name.now }
+pub(crate) fn array_method_named<'a>(of: Element, name: &str) -> Option<MethodCallee<'a>>
+    ensures { option_map method_callee_of result ≡ environment.method_of_array of name.now }
 {
-    Some(array_method_of(of, array_method(name)?))
+    Some(array_method_callee(of, array_method(name)?))
 }

@@ -6,140 +6,176 @@ ghost use Rattle.ash_tree.specs.Views as written;
 ghost use Rattle.ash_typing.specs.Checking.{◌>>=◌ as ◌and_then◌};
 ghost use Rattle.ash_typing.specs.Heads.{object_named};
 ghost use Rattle.ash_typing.specs.Expressions as typing;
-ghost use Rattle.ash_expressions.specs.Gives.{Gives};
-ghost use Rattle.ash_expressions.specs.Views.{typed_of, all_typed_of, environment_of, classes_of};
+ghost use Rattle.ash_expressions.specs.Agreement.{Agrees};
+ghost use Rattle.ash_expressions.specs.Views.{typed_of, all_typed_of, environment_of, classes_of, is_target};
 
-use crate::arrays::{array_built, indexed, known_element};
-use crate::calls::{bracketed, called, callee, field, invoked, known, method, this};
+use crate::arrays::{array_callee, build_index, check_element_type};
+use crate::assignments::build_assignment;
+use crate::calls::{
+    Arguments, Name, build_brackets, build_call, build_field, build_method_call, callee_named,
+    check_name, check_this, find_method,
+};
 use crate::environment::Environment;
-use crate::named::{element_named, object_named};
-use crate::operators::{assigned, cast_at, cast_type, choice, converted, counted, operate, unary};
-use crate::stop::Checking;
-use crate::typed::{Typed, made, numeral};
-use crate::types::is_assign;
-use ash_tree::{AssignOp, Element, Expr, ExprKind, Link, Primitive, Suffix, TypeName, UnaryOp};
-use ash_typed::{Expr as TypedExpr, Step};
+use crate::error::CheckResult;
+use crate::forms::{Position, target_position};
+use crate::operators::{
+    Prefix, build_binary, build_cast, build_conditional, build_conversion, build_step, build_unary,
+    cast_target,
+};
+use crate::type_names::{element_named, object_named};
+use crate::typed_expr::TypedExpr;
+use ash_tree::{AssignOp, Element, Expr, ExprKind, Link, Primitive, Suffix, TypeName};
+use ash_typed::{Expr as Tree, Step};
 use ash_typing::Ty;
-use std::alloc::Global;
 
-/// An expression; `left` is whether it stands left of `=`. What has parts stands in a function of its own, so that the
-/// frame of this one, which each level pays for, stays small.
+/// Checks an expression. One with parts is checked by a function of its own, so that the frame of this one, which each
+/// level pays for, stays small.
 #[cycle(expressions)]
-pub fn expression(env: &Environment, alloc: Global, left: bool, source: &Expr) -> Checking<Typed>
-    ensures { Gives typed_of result (typing.typed (environment_of env.now) left (written.expr_of source.now)) }
+pub fn check_expr(env: &Environment, position: Position, source: &Expr) -> CheckResult<TypedExpr>
+    ensures { Agrees typed_of result
+        (typing.typed (environment_of env.now) (is_target position) (written.expr_of source.now)) }
 {
     let at = source.place.at;
     match &source.kind {
-        ExprKind::Number(number) => Ok(numeral(at, *number)),
-        ExprKind::Bool(value) => Ok(made(at, Ty::Bool, TypedExpr::Bool(*value))),
-        ExprKind::Null => Ok(made(at, Ty::Null, TypedExpr::Null)),
-        ExprKind::This => this(at, env.this),
-        ExprKind::Name(name) => known(env, alloc, at, name.as_str()),
-        ExprKind::Call { name, arguments } => call(env, alloc, at, name.as_str(), arguments),
-        ExprKind::Brackets(inner) => brackets(env, alloc, at, inner),
-        ExprKind::Convert { to, value } => conversion(env, alloc, at, *to, value),
-        ExprKind::NewArray { of, arguments } => new_array(env, alloc, at, of, arguments),
-        ExprKind::Cast { to, value } => cast(env, alloc, at, to, value),
-        ExprKind::Postfix { operand, suffixes } => suffixed(env, alloc, operand, suffixes),
-        ExprKind::Unary { operator, operand } => prefixed(env, alloc, left, at, *operator, operand),
-        ExprKind::Binary { first, links } => joined(env, alloc, first, links),
+        ExprKind::Number(number) => Ok(TypedExpr::number(at, *number)),
+        ExprKind::Bool(value) => Ok(TypedExpr::value(at, Ty::Bool, Tree::Bool(*value))),
+        ExprKind::Null => Ok(TypedExpr::value(at, Ty::Null, Tree::Null)),
+        ExprKind::This => check_this(at, env.this),
+        ExprKind::Name(name) => check_name(
+            env,
+            Name {
+                at,
+                text: name.as_str(),
+            },
+        ),
+        ExprKind::Call { name, arguments } => {
+            check_call(
+                env,
+                Name {
+                    at,
+                    text: name.as_str(),
+                },
+                arguments,
+            )
+        }
+        ExprKind::Brackets(inner) => check_brackets(env, at, inner),
+        ExprKind::Convert { to, value } => check_conversion(env, at, *to, value),
+        ExprKind::NewArray { of, arguments } => check_new_array(env, at, of, arguments),
+        ExprKind::Cast { to, value } => check_cast(env, at, to, value),
+        ExprKind::Postfix { operand, suffixes } => check_postfix(env, operand, suffixes),
+        ExprKind::Unary { operator, operand } => {
+            let prefix = Prefix {
+                at,
+                operator: *operator,
+                position,
+            };
+            check_unary(env, prefix, operand)
+        }
+        ExprKind::Binary { first, links } => check_binary(env, first, links),
         ExprKind::Conditional {
             condition,
             then,
             otherwise,
-        } => conditional(env, alloc, condition, then, otherwise),
+        } => check_conditional(env, condition, then, otherwise),
         ExprKind::Assign {
             target,
             operator,
             value,
-        } => assignment(env, alloc, target, *operator, value),
+        } => check_assignment(env, target, *operator, value),
     }
 }
 
 /// `(inner)`
 #[cycle(expressions)]
 #[inline(never)]
-fn brackets(env: &Environment, alloc: Global, at: usize, inner: &Expr) -> Checking<Typed>
-    ensures { Gives typed_of result (typing.typed (environment_of env.now) false (written.expr_of inner.now) and_then λ t. Ok (typing.in_brackets at t)) }
+fn check_brackets(env: &Environment, at: usize, inner: &Expr) -> CheckResult<TypedExpr>
+    ensures { Agrees typed_of result
+        (typing.typed (environment_of env.now) false (written.expr_of inner.now)
+        and_then λ t. Ok (typing.in_brackets at t)) }
 {
-    let inner = expression(env, alloc, false, inner)?;
-    Ok(bracketed(at, inner))
+    let inner = check_expr(env, Position::Value, inner)?;
+    Ok(build_brackets(at, inner))
 }
 
 /// `to(value)`
 #[cycle(expressions)]
 #[inline(never)]
-fn conversion(
+fn check_conversion(
     env: &Environment,
-    alloc: Global,
     at: usize,
     to: Primitive,
     value: &Expr,
-) -> Checking<Typed>
-    ensures { Gives typed_of result (typing.typed (environment_of env.now) false (written.expr_of value.now) and_then λ t. typing.convert_at at to t) }
+) -> CheckResult<TypedExpr>
+    ensures { Agrees typed_of result
+        (typing.typed (environment_of env.now) false (written.expr_of value.now)
+        and_then λ t. typing.convert_at at to t) }
 {
-    let value = expression(env, alloc, false, value)?;
-    converted(alloc, at, to, value)
+    let value = check_expr(env, Position::Value, value)?;
+    build_conversion(env.alloc, at, to, value)
 }
 
 /// `cast<to>(value)`
 #[cycle(expressions)]
 #[inline(never)]
-fn cast(env: &Environment, alloc: Global, at: usize, to: &TypeName, value: &Expr) -> Checking<Typed>
-    ensures { Gives typed_of result (typing.cast_type to.now.place.at (object_named (environment_of env.now).registered (environment_of env.now).heads (written.type_name_of to.now).name) and_then λ o. typing.typed (environment_of env.now) false (written.expr_of value.now) and_then λ t. typing.cast_at at o t) }
+fn check_cast(env: &Environment, at: usize, to: &TypeName, value: &Expr) -> CheckResult<TypedExpr>
+    ensures { Agrees typed_of result
+        (typing.cast_type to.now.place.at
+        (object_named (environment_of env.now).registered (environment_of env.now).heads
+        (written.type_name_of to.now).name)
+        and_then λ o. typing.typed (environment_of env.now) false (written.expr_of value.now)
+        and_then λ t. typing.cast_at at o t) }
 {
-    let object = object_named(env.registry, env.heads, to.name.as_str());
-    let to = cast_type(to.place.at, object)?;
-    let value = expression(env, alloc, false, value)?;
-    cast_at(alloc, at, to, value)
+    let object = object_named(env.registry, env.signatures, to.name.as_str());
+    let to = cast_target(to.place.at, object)?;
+    let value = check_expr(env, Position::Value, value)?;
+    build_cast(env.alloc, at, to, value)
 }
 
 /// `array<of>(arguments)`
 #[cycle(expressions)]
 #[inline(never)]
-fn new_array(
+fn check_new_array(
     env: &Environment,
-    alloc: Global,
     at: usize,
     of: &Element,
     arguments: &[Expr],
-) -> Checking<Typed>
-    ensures { Gives typed_of result (typing.array_typed (environment_of env.now) at (written.element_of of.now) (typing.all_typed (environment_of env.now) (exprs (map written.expr_of arguments.now)))) }
+) -> CheckResult<TypedExpr>
+    ensures { Agrees typed_of result
+        (typing.array_typed (environment_of env.now) at (written.element_of of.now)
+        (typing.all_typed (environment_of env.now) (exprs (map written.expr_of arguments.now)))) }
 {
-    let element = element_named(env.registry, env.heads, of);
-    let element = known_element(of.place.at, element)?;
-    let typed = all_typed(env, alloc, arguments)?;
-    let callee = array_built(element, typed.len());
-    called(env, alloc, at, &callee, typed)
+    let element = element_named(env.registry, env.signatures, of);
+    let element = check_element_type(of.place.at, element)?;
+    let exprs = check_exprs(env, arguments)?;
+    let callee = array_callee(element, exprs.len());
+    build_call(env, &callee, Arguments { at, exprs })
 }
 
-/// An operator before its operand; `left` is whether it stands left of `=`.
+/// An operator before its operand.
 #[cycle(expressions)]
 #[inline(never)]
-fn prefixed(
-    env: &Environment,
-    alloc: Global,
-    left: bool,
-    at: usize,
-    operator: UnaryOp,
-    operand: &Expr,
-) -> Checking<Typed>
-    ensures { Gives typed_of result (typing.typed (environment_of env.now) false (written.expr_of operand.now) and_then λ t. typing.unary_at left at operator t) }
+fn check_unary(env: &Environment, prefix: Prefix, operand: &Expr) -> CheckResult<TypedExpr>
+    ensures { Agrees typed_of result
+        (typing.typed (environment_of env.now) false (written.expr_of operand.now)
+        and_then λ t. typing.unary_at (is_target prefix.position) prefix.at prefix.operator t) }
 {
-    let operand = expression(env, alloc, false, operand)?;
-    unary(alloc, left, at, operator, operand)
+    let operand = check_expr(env, Position::Value, operand)?;
+    build_unary(env.alloc, prefix, operand)
 }
 
-/// Operators of one level, each with what stands before it.
+/// Operators of one level, from left to right.
 #[cycle(expressions)]
 #[inline(never)]
-fn joined(env: &Environment, alloc: Global, first: &Expr, operators: &[Link]) -> Checking<Typed>
-    ensures { Gives typed_of result (typing.typed (environment_of env.now) false (written.expr_of first.now) and_then λ t. typing.links_typed (environment_of env.now) t (links (map written.operation_of operators.now))) }
+fn check_binary(env: &Environment, first: &Expr, operators: &[Link]) -> CheckResult<TypedExpr>
+    ensures { Agrees typed_of result
+        (typing.typed (environment_of env.now) false (written.expr_of first.now)
+        and_then λ t. typing.links_typed (environment_of env.now) t
+        (links (map written.operation_of operators.now))) }
 {
-    let mut typed = expression(env, alloc, false, first)?;
+    let mut typed = check_expr(env, Position::Value, first)?;
     for link in operators {
-        let operand = expression(env, alloc, false, &link.operand)?;
-        typed = operate(alloc, link.operator, typed, operand)?;
+        let operand = check_expr(env, Position::Value, &link.operand)?;
+        typed = build_binary(env.alloc, link.operator, typed, operand)?;
     }
     Ok(typed)
 }
@@ -147,120 +183,150 @@ fn joined(env: &Environment, alloc: Global, first: &Expr, operators: &[Link]) ->
 /// `condition ? then : otherwise`
 #[cycle(expressions)]
 #[inline(never)]
-fn conditional(
+fn check_conditional(
     env: &Environment,
-    alloc: Global,
     condition: &Expr,
     then: &Expr,
     otherwise: &Expr,
-) -> Checking<Typed>
-    ensures { Gives typed_of result (typing.typed (environment_of env.now) false (written.expr_of condition.now) and_then λ c. typing.typed (environment_of env.now) false (written.expr_of then.now) and_then λ a. typing.typed (environment_of env.now) false (written.expr_of otherwise.now) and_then λ b. typing.choice c a b) }
+) -> CheckResult<TypedExpr>
+    ensures { Agrees typed_of result
+        (typing.typed (environment_of env.now) false (written.expr_of condition.now)
+        and_then λ c. typing.typed (environment_of env.now) false (written.expr_of then.now)
+        and_then λ a. typing.typed (environment_of env.now) false (written.expr_of otherwise.now)
+        and_then λ b. typing.choice c a b) }
 {
-    let condition = expression(env, alloc, false, condition)?;
-    let then = expression(env, alloc, false, then)?;
-    let otherwise = expression(env, alloc, false, otherwise)?;
-    choice(alloc, condition, then, otherwise)
+    let condition = check_expr(env, Position::Value, condition)?;
+    let then = check_expr(env, Position::Value, then)?;
+    let otherwise = check_expr(env, Position::Value, otherwise)?;
+    build_conditional(env.alloc, condition, then, otherwise)
 }
 
 /// `target operator value`
 #[cycle(expressions)]
 #[inline(never)]
-fn assignment(
+fn check_assignment(
     env: &Environment,
-    alloc: Global,
     target: &Expr,
     operator: AssignOp,
     value: &Expr,
-) -> Checking<Typed>
-    ensures { Gives typed_of result (typing.typed (environment_of env.now) (typing.is_assign operator) (written.expr_of target.now) and_then λ t. typing.typed (environment_of env.now) false (written.expr_of value.now) and_then λ v. typing.assigned (classes_of env.now) t operator v) }
+) -> CheckResult<TypedExpr>
+    ensures { Agrees typed_of result
+        (typing.typed (environment_of env.now) (typing.is_assign operator)
+        (written.expr_of target.now)
+        and_then λ t. typing.typed (environment_of env.now) false (written.expr_of value.now)
+        and_then λ v. typing.assigned (classes_of env.now) t operator v) }
 {
-    let target = expression(env, alloc, is_assign(operator), target)?;
-    let value = expression(env, alloc, false, value)?;
-    assigned(env, alloc, target, operator, value)
+    let target = check_expr(env, target_position(operator), target)?;
+    let value = check_expr(env, Position::Value, value)?;
+    build_assignment(env, target, operator, value)
 }
 
 /// `name(arguments)`
 #[cycle(expressions)]
 #[inline(never)]
-fn call(
-    env: &Environment,
-    alloc: Global,
-    at: usize,
-    name: &str,
-    arguments: &[Expr],
-) -> Checking<Typed>
-    ensures { Gives typed_of result (typing.call_typed (environment_of env.now) at name.now (typing.all_typed (environment_of env.now) (exprs (map written.expr_of arguments.now)))) }
+fn check_call(env: &Environment, name: Name, arguments: &[Expr]) -> CheckResult<TypedExpr>
+    ensures { Agrees typed_of result
+        (typing.call_typed (environment_of env.now) name.entry.at name.entry.text.now
+        (typing.all_typed (environment_of env.now) (exprs (map written.expr_of arguments.now)))) }
 {
-    let callee = callee(env, at, name)?;
-    let typed = all_typed(env, alloc, arguments)?;
-    called(env, alloc, at, &callee, typed)
+    let callee = callee_named(env, name)?;
+    let exprs = check_exprs(env, arguments)?;
+    let arguments = Arguments { at: name.at, exprs };
+    build_call(env, &callee, arguments)
 }
 
-/// Arguments, each in its turn.
+/// Checks expressions in their order.
 #[cycle(expressions)]
-pub fn all_typed(env: &Environment, alloc: Global, arguments: &[Expr]) -> Checking<Vec<Typed>>
-    ensures { Gives all_typed_of result (typing.all_typed (environment_of env.now) (exprs (map written.expr_of arguments.now))) }
+pub fn check_exprs(env: &Environment, arguments: &[Expr]) -> CheckResult<Vec<TypedExpr>>
+    ensures { Agrees all_typed_of result
+        (typing.all_typed (environment_of env.now) (exprs (map written.expr_of arguments.now))) }
 {
-    let mut typed = Vec::with_capacity(alloc, arguments.len())?;
+    let mut typed = Vec::with_capacity(env.alloc, arguments.len())?;
     for argument in arguments {
-        typed.push(expression(env, alloc, false, argument)?)?;
+        typed.push(check_expr(env, Position::Value, argument)?)?;
     }
     Ok(typed)
 }
 
-/// An operand with its suffixes, each behind those before it.
+/// An operand with its suffixes, from left to right.
 #[cycle(expressions)]
 #[inline(never)]
-fn suffixed(env: &Environment, alloc: Global, operand: &Expr, behind: &[Suffix]) -> Checking<Typed>
-    ensures { Gives typed_of result (typing.typed (environment_of env.now) false (written.expr_of operand.now) and_then λ t. typing.suffixes_typed (environment_of env.now) t (suffixes (map written.suffix_of behind.now))) }
+fn check_postfix(env: &Environment, operand: &Expr, rest: &[Suffix]) -> CheckResult<TypedExpr>
+    ensures { Agrees typed_of result
+        (typing.typed (environment_of env.now) false (written.expr_of operand.now)
+        and_then λ t. typing.suffixes_typed (environment_of env.now) t
+        (suffixes (map written.suffix_of rest.now))) }
 {
-    let mut typed = expression(env, alloc, false, operand)?;
-    for suffix in behind {
-        typed = one_suffix(env, alloc, typed, suffix)?;
+    let mut typed = check_expr(env, Position::Value, operand)?;
+    for suffix in rest {
+        typed = check_suffix(env, typed, suffix)?;
     }
     Ok(typed)
 }
 
 #[cycle(expressions)]
-fn one_suffix(env: &Environment, alloc: Global, base: Typed, suffix: &Suffix) -> Checking<Typed>
-    ensures { Gives typed_of result (typing.suffix_typed (environment_of env.now) (typed_of base) (written.suffix_of suffix.now)) }
+fn check_suffix(env: &Environment, base: TypedExpr, suffix: &Suffix) -> CheckResult<TypedExpr>
+    ensures { Agrees typed_of result
+        (typing.suffix_typed (environment_of env.now) (typed_of base)
+        (written.suffix_of suffix.now)) }
 {
     match suffix {
-        Suffix::Field { place, name } => field(env, alloc, base, place.at, name.as_str()),
+        Suffix::Field { place, name } => {
+            build_field(
+                env,
+                base,
+                Name {
+                    at: place.at,
+                    text: name.as_str(),
+                },
+            )
+        }
         Suffix::Method {
             place,
             name,
             arguments,
-        } => invocation(env, alloc, base, place.at, name.as_str(), arguments),
-        Suffix::Index(value) => index(env, alloc, base, value),
-        Suffix::Increment => counted(alloc, base.at, Step::IncrementAfter, base),
-        Suffix::Decrement => counted(alloc, base.at, Step::DecrementAfter, base),
+        } => check_method_call(
+            env,
+            base,
+            Name {
+                at: place.at,
+                text: name.as_str(),
+            },
+            arguments,
+        ),
+        Suffix::Index(value) => check_index(env, base, value),
+        Suffix::Increment => build_step(env.alloc, base.at, Step::IncrementAfter, base),
+        Suffix::Decrement => build_step(env.alloc, base.at, Step::DecrementAfter, base),
     }
 }
 
 /// `base[value]`
 #[cycle(expressions)]
 #[inline(never)]
-fn index(env: &Environment, alloc: Global, base: Typed, value: &Expr) -> Checking<Typed>
-    ensures { Gives typed_of result (typing.typed (environment_of env.now) false (written.expr_of value.now) and_then λ i. typing.indexed (typed_of base) base.ty i) }
+fn check_index(env: &Environment, base: TypedExpr, value: &Expr) -> CheckResult<TypedExpr>
+    ensures { Agrees typed_of result
+        (typing.typed (environment_of env.now) false (written.expr_of value.now)
+        and_then λ i. typing.indexed (typed_of base) base.ty i) }
 {
-    let value = expression(env, alloc, false, value)?;
-    indexed(alloc, base, value)
+    let value = check_expr(env, Position::Value, value)?;
+    build_index(env.alloc, base, value)
 }
 
 /// `base.name(arguments)`
 #[cycle(expressions)]
-fn invocation(
+fn check_method_call(
     env: &Environment,
-    alloc: Global,
-    base: Typed,
-    at: usize,
-    name: &str,
+    base: TypedExpr,
+    name: Name,
     arguments: &[Expr],
-) -> Checking<Typed>
-    ensures { Gives typed_of result (typing.invocation_typed (environment_of env.now) (typed_of base) at name.now (typing.all_typed (environment_of env.now) (exprs (map written.expr_of arguments.now)))) }
+) -> CheckResult<TypedExpr>
+    ensures { Agrees typed_of result
+        (typing.invocation_typed (environment_of env.now) (typed_of base) name.entry.at
+        name.entry.text.now
+        (typing.all_typed (environment_of env.now) (exprs (map written.expr_of arguments.now)))) }
 {
-    let method = method(env, &base, at, name)?;
-    let typed = all_typed(env, alloc, arguments)?;
-    invoked(env, alloc, base, at, typed, method)
+    let method = find_method(env, &base, name)?;
+    let exprs = check_exprs(env, arguments)?;
+    let arguments = Arguments { at: name.at, exprs };
+    build_method_call(env, base, method, arguments)
 }

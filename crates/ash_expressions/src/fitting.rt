@@ -2,15 +2,15 @@
 
 ghost use Rattle.std.specs.Prelude.{◌≡◌, map};
 ghost use Rattle.ash_typing.specs.Fitting as fitting;
-ghost use Rattle.ash_expressions.specs.Views.{class_of};
+ghost use Rattle.ash_expressions.specs.Views.{class_signature_of};
 
-use crate::environment::Class;
+use crate::signatures::ClassSignature;
 use crate::types::is_same_object;
 use ash_typed::ObjectType;
 use ash_typing::Ty;
 
-fn has_interface(interface: usize, class: &Class) -> bool
-    ensures { result ≡ fitting.has_interface interface (class_of class.now) }
+fn has_interface(interface: usize, class: &ClassSignature) -> bool
+    ensures { result ≡ fitting.has_interface interface (class_signature_of class.now) }
 {
     for listed in &class.interfaces {
         if interface == *listed {
@@ -22,8 +22,8 @@ fn has_interface(interface: usize, class: &Class) -> bool
 
 /// Whether the class of this place lists an interface.
 #[tactic(auto, unfolding(ash_typing::specs::Fitting::lists))]
-fn lists(classes: &[Class], class: usize, interface: usize) -> bool
-    ensures { result ≡ fitting.lists (map class_of classes.now) class interface }
+fn lists(classes: &[ClassSignature], class: usize, interface: usize) -> bool
+    ensures { result ≡ fitting.lists (map class_signature_of classes.now) class interface }
 {
     match classes.get(class) {
         Some(class) => has_interface(interface, class),
@@ -32,8 +32,8 @@ fn lists(classes: &[Class], class: usize, interface: usize) -> bool
 }
 
 /// Whether an object of the second type is one of the first.
-fn is_of(classes: &[Class], to: ObjectType, of: ObjectType) -> bool
-    ensures { result ≡ fitting.is_of (map class_of classes.now) to of }
+fn is_of(classes: &[ClassSignature], to: ObjectType, of: ObjectType) -> bool
+    ensures { result ≡ fitting.is_of (map class_signature_of classes.now) to of }
 {
     match (to, of) {
         (ObjectType::Interface(interface), ObjectType::Class(class)) => {
@@ -43,8 +43,8 @@ fn is_of(classes: &[Class], to: ObjectType, of: ObjectType) -> bool
     }
 }
 
-fn fits_object(classes: &[Class], object: ObjectType, of: Ty) -> bool
-    ensures { result ≡ fitting.fits_object (map class_of classes.now) object of }
+fn fits_object(classes: &[ClassSignature], object: ObjectType, of: Ty) -> bool
+    ensures { result ≡ fitting.fits_object (map class_signature_of classes.now) object of }
 {
     match of {
         Ty::Object(other) | Ty::Handle(other) => is_of(classes, object, other),
@@ -54,8 +54,8 @@ fn fits_object(classes: &[Class], object: ObjectType, of: Ty) -> bool
 }
 
 /// Whether a value of the second type may be stored in a variable of the first.
-pub(crate) fn fits(classes: &[Class], to: Ty, of: Ty) -> bool
-    ensures { result ≡ fitting.fits (map class_of classes.now) to of }
+pub(crate) fn fits(classes: &[ClassSignature], to: Ty, of: Ty) -> bool
+    ensures { result ≡ fitting.fits (map class_signature_of classes.now) to of }
 {
     match to {
         Ty::Unknown => !matches!(of, Ty::Void),

@@ -5,11 +5,9 @@ ghost use Rattle.ash_typing.specs.Types as types;
 ghost use Rattle.ash_typing.specs.Terms as terms;
 ghost use Rattle.ash_typing.specs.Expressions as typing;
 
-use ash_tree::{AssignOp, BinaryOp, Primitive};
-use ash_typed::{
-    Calculator, Comparator, Conversion, Element, Kind, Lazy, ObjectType, Operands, VarType,
-};
-use ash_typing::{Form, Operator, Sort, Ty};
+use ash_tree::Primitive;
+use ash_typed::{Conversion, Element, Kind, ObjectType, VarType};
+use ash_typing::Ty;
 
 pub(crate) fn is_signed(kind: Kind) -> bool
     ensures { result ≡ types.is_signed kind }
@@ -23,10 +21,17 @@ pub(crate) fn is_wide(kind: Kind) -> bool
     matches!(kind, Kind::Int64 | Kind::Uint64)
 }
 
-fn kind_by(signed: bool, wide: bool) -> Kind
-    ensures { result ≡ types.kind_by signed wide }
+/// The sign and the width of an integer type.
+#[derive(Clone, Copy)]
+struct Shape {
+    is_signed: bool,
+    is_wide: bool,
+}
+
+fn integer_type_of(shape: Shape) -> Kind
+    ensures { result ≡ types.kind_by shape.is_signed shape.is_wide }
 {
-    match (signed, wide) {
+    match (shape.is_signed, shape.is_wide) {
         (true, false) => Kind::Int,
         (false, false) => Kind::Uint,
         (true, true) => Kind::Int64,
@@ -34,21 +39,24 @@ fn kind_by(signed: bool, wide: bool) -> Kind
     }
 }
 
-/// Where two integer types meet.
-pub(crate) fn meeting(one: Kind, other: Kind) -> Kind
+/// The integer type that operands of two integer types are converted to.
+pub(crate) fn common_integer_type(one: Kind, other: Kind) -> Kind
     ensures { result ≡ types.meeting one other }
 {
-    kind_by(
-        is_signed(one) || is_signed(other),
-        is_wide(one) || is_wide(other),
-    )
+    integer_type_of(Shape {
+        is_signed: is_signed(one) || is_signed(other),
+        is_wide: is_wide(one) || is_wide(other),
+    })
 }
 
 /// The signed type of the same width.
-pub(crate) fn signed(kind: Kind) -> Kind
+pub(crate) fn signed_type(kind: Kind) -> Kind
     ensures { result ≡ types.signed kind }
 {
-    kind_by(true, is_wide(kind))
+    integer_type_of(Shape {
+        is_signed: true,
+        is_wide: is_wide(kind),
+    })
 }
 
 pub(crate) fn is_same_kind(one: Kind, other: Kind) -> bool
@@ -75,7 +83,7 @@ pub fn holds(kind: Kind, number: u64) -> bool
 }
 
 /// The first type that holds a number.
-pub(crate) fn kind_of(number: u64) -> Kind
+pub(crate) fn number_type(number: u64) -> Kind
     ensures { result ≡ types.kind_of number }
 {
     if holds(Kind::Int, number) {
@@ -114,19 +122,6 @@ pub(crate) fn is_same_object(one: ObjectType, other: ObjectType) -> bool
     }
 }
 
-fn is_interface(object: ObjectType) -> bool
-    ensures { result ≡ types.is_interface object }
-{
-    matches!(object, ObjectType::Interface(_))
-}
-
-/// Whether objects of two types can be compared.
-fn is_comparable(one: ObjectType, other: ObjectType) -> bool
-    ensures { result ≡ types.is_comparable one other }
-{
-    is_same_object(one, other) || is_interface(one) || is_interface(other)
-}
-
 /// Whether a type is the same as another, as far as both are known.
 pub fn is_same(one: Ty, other: Ty) -> bool
     ensures { result ≡ types.is_same one other }
@@ -153,7 +148,7 @@ pub fn ty_of_element(of: Element) -> Ty
     }
 }
 
-/// The type that a primitive type is.
+/// The type of values of a primitive type.
 pub fn ty_of(primitive: Primitive) -> Ty
     ensures { result ≡ types.ty_of primitive }
 {
@@ -166,7 +161,7 @@ pub fn ty_of(primitive: Primitive) -> Ty
     }
 }
 
-/// The type of a variable, as a typed tree says it.
+/// The type of a variable, as a typed tree has it.
 pub fn var_type(of: Ty) -> VarType
     ensures { result ≡ types.var_type of }
 {
@@ -178,7 +173,7 @@ pub fn var_type(of: Ty) -> VarType
     }
 }
 
-/// What a function gives, as a typed tree says it: `void` gives no value.
+/// The type of a function's result, as a typed tree has it: `void` is no type of a value.
 pub fn result_type(of: Ty) -> Option<VarType>
     ensures { result ≡ types.result_type of }
 {
@@ -188,32 +183,8 @@ pub fn result_type(of: Ty) -> Option<VarType>
     }
 }
 
-/// Whether an expression gives an object that can be compared with one of a type.
-fn agrees_object(object: ObjectType, of: Ty) -> bool
-    ensures { result ≡ types.agrees_object object of }
-{
-    match of {
-        Ty::Object(other) | Ty::Handle(other) => is_comparable(object, other),
-        Ty::Null | Ty::Unknown => true,
-        _ => false,
-    }
-}
-
-fn agrees(one: Ty, other: Ty) -> bool
-    ensures { result ≡ types.agrees one other }
-{
-    match one {
-        Ty::Object(object) | Ty::Handle(object) => agrees_object(object, other),
-        Ty::Null | Ty::Unknown => matches!(
-            other,
-            Ty::Object(_) | Ty::Handle(_) | Ty::Null | Ty::Unknown
-        ),
-        _ => false,
-    }
-}
-
-/// Whether an expression of a type gives an object of this one, or null.
-fn gives_object(object: ObjectType, of: Ty) -> bool
+/// Whether the value of an expression of a type is an object of this one, or null.
+fn can_be_object(object: ObjectType, of: Ty) -> bool
     ensures { result ≡ types.gives_object object of }
 {
     match of {
@@ -223,10 +194,10 @@ fn gives_object(object: ObjectType, of: Ty) -> bool
     }
 }
 
-fn common_object(object: ObjectType, of: Ty) -> Option<Ty>
+fn common_object_type(object: ObjectType, of: Ty) -> Option<Ty>
     ensures { result ≡ types.common_object object of }
 {
-    if gives_object(object, of) {
+    if can_be_object(object, of) {
         Some(Ty::Handle(object))
     } else {
         None
@@ -234,183 +205,19 @@ fn common_object(object: ObjectType, of: Ty) -> Option<Ty>
 }
 
 /// The type of `c ? a : b`, from those of its branches.
-pub(crate) fn common(one: Ty, other: Ty) -> Option<Ty>
+pub(crate) fn common_type(one: Ty, other: Ty) -> Option<Ty>
     ensures { result ≡ types.common one other }
 {
     match (one, other) {
         (Ty::Bool, Ty::Bool | Ty::Unknown) => Some(Ty::Bool),
-        (Ty::Integer(j), Ty::Integer(k)) => Some(Ty::Integer(meeting(j, k))),
+        (Ty::Integer(j), Ty::Integer(k)) => Some(Ty::Integer(common_integer_type(j, k))),
         (Ty::Integer(j), Ty::Unknown) => Some(Ty::Integer(j)),
-        (Ty::Object(object) | Ty::Handle(object), _) => common_object(object, other),
+        (Ty::Object(object) | Ty::Handle(object), _) => common_object_type(object, other),
         (Ty::Null, Ty::Object(object) | Ty::Handle(object)) => Some(Ty::Handle(object)),
         (Ty::Null, Ty::Unknown) => Some(Ty::Unknown),
         (Ty::Unknown, Ty::Void) => None,
         (Ty::Unknown, _) => Some(other),
         _ => None,
-    }
-}
-
-/// What an operator is of.
-pub(crate) fn sort_of(operator: BinaryOp) -> Sort
-    ensures { result ≡ types.sort_of operator }
-{
-    match operator {
-        BinaryOp::Multiply | BinaryOp::Divide | BinaryOp::Remainder => Sort::Arithmetic,
-        BinaryOp::Add | BinaryOp::Subtract => Sort::Arithmetic,
-        BinaryOp::BitAnd | BinaryOp::BitXor | BinaryOp::BitOr => Sort::Arithmetic,
-        BinaryOp::ShiftLeft | BinaryOp::ShiftRight | BinaryOp::ShiftRightArithmetic => Sort::Shift,
-        BinaryOp::Less | BinaryOp::LessOrEqual => Sort::Order,
-        BinaryOp::Greater | BinaryOp::GreaterOrEqual => Sort::Order,
-        BinaryOp::Equal | BinaryOp::NotEqual => Sort::Equality,
-        BinaryOp::Is | BinaryOp::NotIs => Sort::Identity,
-        BinaryOp::Xor | BinaryOp::And | BinaryOp::Or => Sort::Logic,
-    }
-}
-
-/// What an operator is in a typed tree.
-pub(crate) fn typed_operator(operator: BinaryOp) -> Operator
-    ensures { result ≡ types.typed_operator operator }
-{
-    match operator {
-        BinaryOp::Multiply => Operator::Calculate(Calculator::Multiply),
-        BinaryOp::Divide => Operator::Calculate(Calculator::Divide),
-        BinaryOp::Remainder => Operator::Calculate(Calculator::Remainder),
-        BinaryOp::Add => Operator::Calculate(Calculator::Add),
-        BinaryOp::Subtract => Operator::Calculate(Calculator::Subtract),
-        BinaryOp::ShiftLeft => Operator::Calculate(Calculator::ShiftLeft),
-        BinaryOp::ShiftRight => Operator::Calculate(Calculator::ShiftRight),
-        BinaryOp::ShiftRightArithmetic => Operator::Calculate(Calculator::ShiftRightArithmetic),
-        BinaryOp::BitAnd => Operator::Calculate(Calculator::BitAnd),
-        BinaryOp::BitXor => Operator::Calculate(Calculator::BitXor),
-        BinaryOp::BitOr => Operator::Calculate(Calculator::BitOr),
-        BinaryOp::Less => Operator::Compare(Comparator::Less),
-        BinaryOp::LessOrEqual => Operator::Compare(Comparator::LessOrEqual),
-        BinaryOp::Greater => Operator::Compare(Comparator::Greater),
-        BinaryOp::GreaterOrEqual => Operator::Compare(Comparator::GreaterOrEqual),
-        BinaryOp::Equal => Operator::Compare(Comparator::Equal),
-        BinaryOp::NotEqual => Operator::Compare(Comparator::NotEqual),
-        BinaryOp::Is => Operator::Compare(Comparator::Is),
-        BinaryOp::NotIs => Operator::Compare(Comparator::NotIs),
-        BinaryOp::Xor => Operator::Compare(Comparator::Xor),
-        BinaryOp::And => Operator::Lazy(Lazy::And),
-        BinaryOp::Or => Operator::Lazy(Lazy::Or),
-    }
-}
-
-/// The operator that calculates so.
-pub(crate) fn binary_of(operator: Calculator) -> BinaryOp
-    ensures { result ≡ types.binary_of operator }
-{
-    match operator {
-        Calculator::Multiply => BinaryOp::Multiply,
-        Calculator::Divide => BinaryOp::Divide,
-        Calculator::Remainder => BinaryOp::Remainder,
-        Calculator::Add => BinaryOp::Add,
-        Calculator::Subtract => BinaryOp::Subtract,
-        Calculator::ShiftLeft => BinaryOp::ShiftLeft,
-        Calculator::ShiftRight => BinaryOp::ShiftRight,
-        Calculator::ShiftRightArithmetic => BinaryOp::ShiftRightArithmetic,
-        Calculator::BitAnd => BinaryOp::BitAnd,
-        Calculator::BitXor => BinaryOp::BitXor,
-        Calculator::BitOr => BinaryOp::BitOr,
-    }
-}
-
-/// The integer type of operands, where they are integers.
-pub(crate) fn integers_in(operands: Operands) -> Kind
-    ensures { result ≡ types.integers_in operands }
-{
-    match operands {
-        Operands::Integers(kind) => kind,
-        _ => Kind::Int,
-    }
-}
-
-/// The operator of `a op= b`.
-pub(crate) fn operator_of(operator: AssignOp) -> Option<Calculator>
-    ensures { result ≡ terms.operator_of operator }
-{
-    match operator {
-        AssignOp::Assign => None,
-        AssignOp::Add => Some(Calculator::Add),
-        AssignOp::Subtract => Some(Calculator::Subtract),
-        AssignOp::Multiply => Some(Calculator::Multiply),
-        AssignOp::Divide => Some(Calculator::Divide),
-        AssignOp::Remainder => Some(Calculator::Remainder),
-        AssignOp::BitAnd => Some(Calculator::BitAnd),
-        AssignOp::BitOr => Some(Calculator::BitOr),
-        AssignOp::BitXor => Some(Calculator::BitXor),
-        AssignOp::ShiftLeft => Some(Calculator::ShiftLeft),
-        AssignOp::ShiftRight => Some(Calculator::ShiftRight),
-        AssignOp::ShiftRightArithmetic => Some(Calculator::ShiftRightArithmetic),
-    }
-}
-
-/// Whether an operator takes a type anywhere.
-pub(crate) fn takes(sort: Sort, of: Ty) -> bool
-    ensures { result ≡ types.takes sort of }
-{
-    match (sort, of) {
-        (_, Ty::Unknown) => true,
-        (Sort::Arithmetic | Sort::Shift | Sort::Order, Ty::Integer(_)) => true,
-        (Sort::Equality, Ty::Integer(_) | Ty::Bool) => true,
-        (Sort::Identity, Ty::Object(_) | Ty::Handle(_) | Ty::Null) => true,
-        (Sort::Logic, Ty::Bool) => true,
-        _ => false,
-    }
-}
-
-/// What an operand of an unknown type is taken for.
-pub(crate) fn assumed(sort: Sort, other: Ty, of: Ty) -> Ty
-    ensures { result ≡ types.assumed sort other of }
-{
-    match (sort, other, of) {
-        (Sort::Equality, Ty::Bool, Ty::Unknown) => Ty::Bool,
-        (Sort::Identity, _, Ty::Unknown) => Ty::Null,
-        (Sort::Logic, _, Ty::Unknown) => Ty::Bool,
-        (_, _, Ty::Unknown) => Ty::Integer(Kind::Int),
-        _ => of,
-    }
-}
-
-/// What an operator does with operands of these types, where it takes them.
-pub(crate) fn meets(sort: Sort, one: Ty, other: Ty) -> Option<Operands>
-    ensures { result ≡ types.meets sort one other }
-{
-    match (sort, one, other) {
-        (Sort::Arithmetic | Sort::Order | Sort::Equality, Ty::Integer(j), Ty::Integer(k)) => {
-            Some(Operands::Integers(meeting(j, k)))
-        }
-        (Sort::Shift, Ty::Integer(j), Ty::Integer(_)) => Some(Operands::Integers(j)),
-        (Sort::Equality | Sort::Logic, Ty::Bool, Ty::Bool) => Some(Operands::Bools),
-        (Sort::Identity, _, _) => {
-            if agrees(one, other) {
-                Some(Operands::Handles)
-            } else {
-                None
-            }
-        }
-        _ => None,
-    }
-}
-
-/// The type of what an operator gives.
-pub(crate) fn outcome(sort: Sort, operands: Operands) -> Ty
-    ensures { result ≡ types.outcome sort operands }
-{
-    match (sort, operands) {
-        (Sort::Arithmetic | Sort::Shift, Operands::Integers(kind)) => Ty::Integer(kind),
-        _ => Ty::Bool,
-    }
-}
-
-pub(crate) fn operand_type(operands: Operands) -> Ty
-    ensures { result ≡ terms.operand_type operands }
-{
-    match operands {
-        Operands::Integers(kind) => Ty::Integer(kind),
-        Operands::Bools => Ty::Bool,
-        Operands::Handles => Ty::Null,
     }
 }
 
@@ -430,46 +237,9 @@ pub(crate) fn conversion(to: Ty, of: Ty) -> Option<Conversion>
     }
 }
 
-/// Whether a place takes what is assigned to it.
-pub(crate) fn is_stored(form: Form, of: Ty) -> bool
-    ensures { result ≡ terms.is_stored form of }
-{
-    match (form, of) {
-        (Form::HandlePlace, Ty::Handle(_) | Ty::Unknown) => true,
-        (Form::Place, Ty::Bool | Ty::Integer(_) | Ty::Unknown) => true,
-        _ => false,
-    }
-}
-
-/// What is written to left of `=`: a place with its sign `@`.
-pub(crate) fn handle_form(form: Form) -> Form
-    ensures { result ≡ terms.handle_form form }
-{
-    match form {
-        Form::Place => Form::HandlePlace,
-        _ => Form::Value,
-    }
-}
-
-/// What an expression in brackets is: a place still is one, and a number is a value.
-pub(crate) fn bracketed_form(form: Form) -> Form
-    ensures { result ≡ terms.bracketed form }
-{
-    match form {
-        Form::Place => Form::Place,
-        _ => Form::Value,
-    }
-}
-
-/// Whether a type is that of what gives nothing.
+/// Whether a type is `void`.
 pub fn is_void(of: Ty) -> bool
     ensures { result ≡ typing.is_void of }
 {
     matches!(of, Ty::Void)
-}
-
-pub(crate) fn is_assign(operator: AssignOp) -> bool
-    ensures { result ≡ typing.is_assign operator }
-{
-    matches!(operator, AssignOp::Assign)
 }

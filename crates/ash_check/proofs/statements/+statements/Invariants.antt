@@ -10,49 +10,49 @@ use Rattle.ash_check.specs.StatementViews.{locals_of, scope_of}
 use Rattle.ash_check.proofs.StatementLaws.{stmts_after, cases_after, Extends}
 use Rattle.ash_check.proofs.statements.+statements.Given as goal
 
--- the depth of what a function goes down, and how near it is to the next statement
+-- the depth that a function descends, and how near it is to the next statement
 
-abbrev pub decreases-statement : goal.decreases-statement
-decreases-statement l = 3 * size-Stmt l.source.now
+abbrev pub decreases-check_stmt : goal.decreases-check_stmt
+decreases-check_stmt l = 3 * size-Stmt l.source.now
 
-abbrev pub decreases-branch : goal.decreases-branch
-decreases-branch l = 3 * size-Stmt l.source.now + 1
+abbrev pub decreases-check_branch : goal.decreases-check_branch
+decreases-check_branch l = 3 * size-Stmt l.source.now + 1
 
-abbrev pub decreases-block : goal.decreases-block
-decreases-block l = 3 * most size-Stmt l.body.now + 1
+abbrev pub decreases-check_block : goal.decreases-check_block
+decreases-check_block l = 3 * most size-Stmt l.body.now + 1
 
-abbrev pub decreases-inner_block : goal.decreases-inner_block
-decreases-inner_block l = 3 * most size-Stmt l.body.now + 2
+abbrev pub decreases-check_inner_block : goal.decreases-check_inner_block
+decreases-check_inner_block l = 3 * most size-Stmt l.body.now + 2
 
-abbrev pub decreases-if_typed : goal.decreases-if_typed
-decreases-if_typed l = 3 * size-Stmt l.inner.now + 2
+abbrev pub decreases-check_if : goal.decreases-check_if
+decreases-check_if l = 3 * size-Stmt l.inner.now + 2
 
-abbrev pub decreases-if_else_typed : goal.decreases-if_else_typed
-decreases-if_else_typed l = 3 * max (size-Stmt l.then.now) (size-Stmt l.otherwise.now) + 2
+abbrev pub decreases-check_if_else : goal.decreases-check_if_else
+decreases-check_if_else l = 3 * max (size-Stmt l.branches.then.now) (size-Stmt l.branches.otherwise.now) + 2
 
-abbrev pub decreases-while_typed : goal.decreases-while_typed
-decreases-while_typed l = 3 * size-Stmt l.inner.now + 2
+abbrev pub decreases-check_while : goal.decreases-check_while
+decreases-check_while l = 3 * size-Stmt l.inner.now + 2
 
-abbrev pub decreases-do_while_typed : goal.decreases-do_while_typed
-decreases-do_while_typed l = 3 * size-Stmt l.inner.now + 2
+abbrev pub decreases-check_do_while : goal.decreases-check_do_while
+decreases-check_do_while l = 3 * size-Stmt l.inner.now + 2
 
-abbrev pub decreases-for_typed : goal.decreases-for_typed
-decreases-for_typed l = 3 * size-Stmt l.body.now + 2
+abbrev pub decreases-check_for : goal.decreases-check_for
+decreases-check_for l = 3 * size-Stmt l.parts.body.now + 2
 
-abbrev pub decreases-switch_typed : goal.decreases-switch_typed
-decreases-switch_typed l = 3 * most size-Case l.labels.now + 2
+abbrev pub decreases-check_switch : goal.decreases-check_switch
+decreases-check_switch l = 3 * most size-Case l.labels.now + 2
 
-abbrev pub decreases-cases_typed : goal.decreases-cases_typed
-decreases-cases_typed l = 3 * most size-Case l.labels.now + 1
+abbrev pub decreases-check_cases : goal.decreases-check_cases
+decreases-check_cases l = 3 * most size-Case l.labels.now + 1
 
--- what was made, with what the rest gives, is what the whole gives
+-- the results so far, with those of the rest, are those of the whole
 
-abbrev pub invariant-block-loop-source : goal.invariant-block-loop-source
-invariant-block-loop-source l =
+abbrev pub invariant-check_block-loop-source : goal.invariant-check_block-loop-source
+invariant-check_block-loop-source l =
     (stmts_after (map stmt_of l.typed.items) (definition.stmts_typed (scope_of l.scope (locals_of l.locals)) (stmts (map written.stmt_of (drop l.source-index l.body)))) ≡ definition.stmts_typed (scope_of l.scope (locals_of l.initial.locals)) (stmts (map written.stmt_of l.body)))
     × Extends (locals_of l.initial.locals) (locals_of l.locals)
 
-abbrev pub invariant-cases_typed-loop-i : goal.invariant-cases_typed-loop-i
-invariant-cases_typed-loop-i l =
+abbrev pub invariant-check_cases-loop-i : goal.invariant-check_cases-loop-i
+invariant-check_cases-loop-i l =
     (cases_after (map case_of l.typed.items) (definition.cases_typed (scope_of l.scope (locals_of l.locals)) l.kind l.before.items (cases (map written.case_of (drop l.i l.labels)))) ≡ definition.cases_typed (scope_of l.scope (locals_of l.initial.locals)) l.kind [] (cases (map written.case_of l.labels)))
     × (locals_of l.locals ≡ locals_of l.initial.locals)

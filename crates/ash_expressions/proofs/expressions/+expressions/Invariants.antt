@@ -11,64 +11,64 @@ use Rattle.ash_expressions.specs.Views.{typed_of, environment_of}
 use Rattle.ash_expressions.proofs.Loops.{typed_after}
 use Rattle.ash_expressions.proofs.expressions.+expressions.Given as goal
 
--- the depth of what a function goes down, and how near it is to the next expression
+-- the depth that a function descends, and how near it is to the next expression
 
-abbrev pub decreases-expression : goal.decreases-expression
-decreases-expression l = 3 * size-Expr l.source.now
+abbrev pub decreases-check_expr : goal.decreases-check_expr
+decreases-check_expr l = 3 * size-Expr l.source.now
 
-abbrev pub decreases-brackets : goal.decreases-brackets
-decreases-brackets l = 3 * size-Expr l.inner.now + 1
+abbrev pub decreases-check_brackets : goal.decreases-check_brackets
+decreases-check_brackets l = 3 * size-Expr l.inner.now + 1
 
-abbrev pub decreases-conversion : goal.decreases-conversion
-decreases-conversion l = 3 * size-Expr l.value.now + 1
+abbrev pub decreases-check_conversion : goal.decreases-check_conversion
+decreases-check_conversion l = 3 * size-Expr l.value.now + 1
 
-abbrev pub decreases-cast : goal.decreases-cast
-decreases-cast l = 3 * size-Expr l.value.now + 1
+abbrev pub decreases-check_cast : goal.decreases-check_cast
+decreases-check_cast l = 3 * size-Expr l.value.now + 1
 
-abbrev pub decreases-new_array : goal.decreases-new_array
-decreases-new_array l = 3 * most size-Expr l.arguments.now + 2
+abbrev pub decreases-check_new_array : goal.decreases-check_new_array
+decreases-check_new_array l = 3 * most size-Expr l.arguments.now + 2
 
-abbrev pub decreases-prefixed : goal.decreases-prefixed
-decreases-prefixed l = 3 * size-Expr l.operand.now + 1
+abbrev pub decreases-check_unary : goal.decreases-check_unary
+decreases-check_unary l = 3 * size-Expr l.operand.now + 1
 
-abbrev pub decreases-joined : goal.decreases-joined
-decreases-joined l = 3 * max (size-Expr l.first.now) (most size-Link l.operators.now) + 1
+abbrev pub decreases-check_binary : goal.decreases-check_binary
+decreases-check_binary l = 3 * max (size-Expr l.first.now) (most size-Link l.operators.now) + 1
 
-abbrev pub decreases-conditional : goal.decreases-conditional
-decreases-conditional l =
+abbrev pub decreases-check_conditional : goal.decreases-check_conditional
+decreases-check_conditional l =
     3 * max (size-Expr l.condition.now) (max (size-Expr l.then.now) (size-Expr l.otherwise.now)) + 1
 
-abbrev pub decreases-assignment : goal.decreases-assignment
-decreases-assignment l = 3 * max (size-Expr l.target.now) (size-Expr l.value.now) + 1
+abbrev pub decreases-check_assignment : goal.decreases-check_assignment
+decreases-check_assignment l = 3 * max (size-Expr l.target.now) (size-Expr l.value.now) + 1
 
-abbrev pub decreases-suffixed : goal.decreases-suffixed
-decreases-suffixed l = 3 * max (size-Expr l.operand.now) (most size-Suffix l.behind.now) + 1
+abbrev pub decreases-check_postfix : goal.decreases-check_postfix
+decreases-check_postfix l = 3 * max (size-Expr l.operand.now) (most size-Suffix l.rest.now) + 1
 
-abbrev pub decreases-one_suffix : goal.decreases-one_suffix
-decreases-one_suffix l = 3 * size-Suffix l.suffix.now
+abbrev pub decreases-check_suffix : goal.decreases-check_suffix
+decreases-check_suffix l = 3 * size-Suffix l.suffix.now
 
-abbrev pub decreases-index : goal.decreases-index
-decreases-index l = 3 * size-Expr l.value.now + 1
+abbrev pub decreases-check_index : goal.decreases-check_index
+decreases-check_index l = 3 * size-Expr l.value.now + 1
 
-abbrev pub decreases-invocation : goal.decreases-invocation
-decreases-invocation l = 3 * most size-Expr l.arguments.now + 2
+abbrev pub decreases-check_method_call : goal.decreases-check_method_call
+decreases-check_method_call l = 3 * most size-Expr l.arguments.now + 2
 
-abbrev pub decreases-call : goal.decreases-call
-decreases-call l = 3 * most size-Expr l.arguments.now + 2
+abbrev pub decreases-check_call : goal.decreases-check_call
+decreases-check_call l = 3 * most size-Expr l.arguments.now + 2
 
-abbrev pub decreases-all_typed : goal.decreases-all_typed
-decreases-all_typed l = 3 * most size-Expr l.arguments.now + 1
+abbrev pub decreases-check_exprs : goal.decreases-check_exprs
+decreases-check_exprs l = 3 * most size-Expr l.arguments.now + 1
 
--- what was made, with what the rest gives, is what the whole gives
+-- the results so far, with those of the rest, are those of the whole
 
-abbrev pub invariant-all_typed-loop-argument : goal.invariant-all_typed-loop-argument
-invariant-all_typed-loop-argument l =
+abbrev pub invariant-check_exprs-loop-argument : goal.invariant-check_exprs-loop-argument
+invariant-check_exprs-loop-argument l =
     typed_after (map typed_of l.typed.items) (all_typed (environment_of l.env) (written.exprs (map views.expr_of (drop l.argument-index l.arguments)))) ≡ all_typed (environment_of l.env) (written.exprs (map views.expr_of l.arguments))
 
-abbrev pub invariant-joined-loop-link : goal.invariant-joined-loop-link
-invariant-joined-loop-link l =
+abbrev pub invariant-check_binary-loop-link : goal.invariant-check_binary-loop-link
+invariant-check_binary-loop-link l =
     links_typed (environment_of l.env) (typed_of l.typed) (written.links (map views.operation_of (drop l.link-index l.operators))) ≡ (typed (environment_of l.env) false (views.expr_of l.fn.first) >>= λ t. links_typed (environment_of l.env) t (written.links (map views.operation_of l.operators)))
 
-abbrev pub invariant-suffixed-loop-suffix : goal.invariant-suffixed-loop-suffix
-invariant-suffixed-loop-suffix l =
-    suffixes_typed (environment_of l.env) (typed_of l.typed) (written.suffixes (map views.suffix_of (drop l.suffix-index l.behind))) ≡ (typed (environment_of l.env) false (views.expr_of l.fn.operand) >>= λ t. suffixes_typed (environment_of l.env) t (written.suffixes (map views.suffix_of l.behind)))
+abbrev pub invariant-check_postfix-loop-suffix : goal.invariant-check_postfix-loop-suffix
+invariant-check_postfix-loop-suffix l =
+    suffixes_typed (environment_of l.env) (typed_of l.typed) (written.suffixes (map views.suffix_of (drop l.suffix-index l.rest))) ≡ (typed (environment_of l.env) false (views.expr_of l.fn.operand) >>= λ t. suffixes_typed (environment_of l.env) t (written.suffixes (map views.suffix_of l.rest)))

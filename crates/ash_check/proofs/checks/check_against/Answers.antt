@@ -1,0 +1,72 @@
+use Rattle.std.proofs.Common.{◌≡◌, ◌∙◌, ℕ, length, IfOk, IfErr, OnOk, Some, None, Ok, Err, ap, sym, subst}
+use Rattle.std.specs.declared.vec.Vec.{Vec}
+use Rattle.std.specs.declared.alloc.Global.{Global}
+use Rattle.ash_registrations.specs.declared.registrations.Registrations.{Registrations}
+use Rattle.ash_registrations.specs.Registered.{registered}
+use Rattle.ash_tree.specs.Views.{module_of as written_module}
+use Rattle.ash_typed.specs.Modules.{module_of}
+use Rattle.ash_classes.specs.declared.cycles.Cycle.{Cycle}
+use Rattle.ash_classes.specs.References.{Refers, classes_of}
+use Rattle.ash_classes.specs.ToldCycle.{told_cycle}
+use Rattle.ash_classes.specs.Ways.{IsTold, AreRanks}
+use Rattle.ash_check.specs.CheckedModules.{IsChecked}
+use Rattle.ash_check.specs.Checks.{checked, Cyclic, GoesRound}
+use Rattle.ash_check.specs.Faults.{fault_of_error}
+use Rattle.ash_check.proofs.CheckedLaws.{is_checked}
+use Rattle.ash_check.proofs.CheckLaws.{error_is_reported, reported_if_err, typed_is_checked, cycle_is_reported, way_begins_within, way_is_within, goes_round}
+use Rattle.ash_typing.proofs.ModuleLaws.{module_typed-exact}
+use Rattle.ash_check.proofs.checks.check_against.Goals as goal
+
+pub returns-in_err-module-clause-answer : goal.returns-in_err-module-clause-answer
+returns-in_err-module-clause-answer c =
+    let answer = checked (registered c.args.registry.now) (written_module c.args.script.now) in
+    reported_if_err c.from_residual.result (fault_of_error c.in_err-module.field-0.0) answer (λ done. answer ≡ Ok (module_of done.typed)) c.from_residual.ensures.1 (error_is_reported (registered c.args.registry.now) (written_module c.args.script.now) c.in_err-module.field-0.0 c.in_err-module.ensures)
+
+pub cycle_names-requires-clause-first : goal.cycle_names-requires-clause-first
+cycle_names-requires-clause-first c =
+    let classes = classes_of (written_module c.args.script.now) in
+    let reported : IsTold (Refers classes) c.in-Err.cycle.first c.in-Err.cycle.others.items = subst (λ r. IfErr r (λ (cycle : Cycle). IsTold (Refers classes) cycle.first cycle.others.items)) c.in-Err.is c.in_ok-ranks.ensures.cycle in
+    way_begins_within classes c.in-Err.cycle.first c.in-Err.cycle.others.items c.in-Err.cycle.first reported.round.way
+
+pub cycle_names-requires-clause-others : goal.cycle_names-requires-clause-others
+cycle_names-requires-clause-others c =
+    let classes = classes_of (written_module c.args.script.now) in
+    let reported : IsTold (Refers classes) c.in-Err.cycle.first c.in-Err.cycle.others.items = subst (λ r. IfErr r (λ (cycle : Cycle). IsTold (Refers classes) cycle.first cycle.others.items)) c.in-Err.is c.in_ok-ranks.ensures.cycle in
+    way_is_within classes c.in-Err.cycle.first c.in-Err.cycle.others.items c.in-Err.cycle.first reported.round.way
+
+pub returns-in-Ok-clause-answer : goal.returns-in-Ok-clause-answer
+returns-in-Ok-clause-answer c =
+    let items = written_module c.args.script.now in
+    let none : told_cycle (classes_of items) ≡ None = subst (λ r. OnOk r (told_cycle (classes_of items) ≡ None)) c.in-Ok.is c.in_ok-ranks.ensures.none in
+    typed_is_checked (registered c.args.registry.now) items (module_of c.in_ok-module.module) c.in_ok-module.ensures none
+
+pub returns-in_ok-cycle_names-in-Err-clause-answer :
+    goal.returns-in_ok-cycle_names-in-Err-clause-answer
+returns-in_ok-cycle_names-in-Err-clause-answer c =
+    let items = written_module c.args.script.now in
+    let first : ℕ = c.in-Err.cycle.first in
+    let others = c.in-Err.cycle.others.items in
+    let some : told_cycle (classes_of items) ≡ Some (first, others) = subst (λ r. IfErr r (λ (cycle : Cycle). told_cycle (classes_of items) ≡ Some (cycle.first, cycle.others.items))) c.in-Err.is c.in_ok-ranks.ensures.told in
+    cycle_is_reported (registered c.args.registry.now) items (module_of c.in_ok-module.module) first others c.in_ok-module.ensures some ∙ ap (λ names. Err (Cyclic names)) (sym c.in_ok-cycle_names-in-Err.ensures)
+
+pub returns-in_ok-cycle_names-in-Err-clause-round :
+    goal.returns-in_ok-cycle_names-in-Err-clause-round
+returns-in_ok-cycle_names-in-Err-clause-round c =
+    let classes = classes_of (written_module c.args.script.now) in
+    let reported : IsTold (Refers classes) c.in-Err.cycle.first c.in-Err.cycle.others.items = subst (λ r. IfErr r (λ (cycle : Cycle). IsTold (Refers classes) cycle.first cycle.others.items)) c.in-Err.is c.in_ok-ranks.ensures.cycle in
+    subst (GoesRound classes) (sym c.in_ok-cycle_names-in-Err.ensures) (goes_round classes c.in-Err.cycle.first c.in-Err.cycle.others.items reported.round.way)
+
+pub returns-in-Ok-clause-typed : goal.returns-in-Ok-clause-typed
+returns-in-Ok-clause-typed c = (module_typed-exact (registered c.args.registry.now) (written_module c.args.script.now) (module_of c.in_ok-module.module)).0 c.in_ok-module.ensures
+
+pub returns-in-Ok-clause-sound : goal.returns-in-Ok-clause-sound
+returns-in-Ok-clause-sound c =
+    let items = written_module c.args.script.now in
+    let are = subst (λ r. IfOk r (λ (ranks : Vec ℕ Global). AreRanks (Refers (classes_of items)) (length (classes_of items)) ranks.items)) c.in-Ok.is c.in_ok-ranks.ensures.ranks in
+    is_checked (registered c.args.registry.now) items (module_of c.in_ok-module.module) c.in-Ok.ranks.items c.requires.nested c.in_ok-module.ensures are
+
+pub invariant_of-result : goal.invariant_of-result
+invariant_of-result c =
+    let items = written_module c.args.script.now in
+    let are = subst (λ r. IfOk r (λ (ranks : Vec ℕ Global). AreRanks (Refers (classes_of items)) (length (classes_of items)) ranks.items)) c.in-Ok.is c.in_ok-ranks.ensures.ranks in
+    subst (λ (r : Registrations). IsChecked (registered r) (module_of c.in_ok-module.module) c.in-Ok.ranks.items) (sym c.of.ensures) (is_checked (registered c.args.registry.now) items (module_of c.in_ok-module.module) c.in-Ok.ranks.items c.requires.nested c.in_ok-module.ensures are)

@@ -1,8 +1,0 @@
-use Rattle.std.proofs.Common.{◌≡◌, ◌++◌, map, drop}
-use Rattle.ash_tree.specs.Views.{decl_of}
-use Rattle.ash_typing.specs.Heads.{declared}
-use Rattle.ash_expressions.specs.Views.{declared_of}
-use Rattle.ash_check.proofs.heads.declare.Given as goal
-
-abbrev pub invariant-loop-decl : goal.invariant-loop-decl
-invariant-loop-decl l = map declared_of l.variables.items ++ map (declared l.of) (map decl_of (drop l.decl-index l.vars.decls.items)) ≡ map declared_of l.initial.variables.items ++ map (declared l.of) (map decl_of l.vars.decls.items)

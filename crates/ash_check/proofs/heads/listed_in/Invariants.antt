@@ -1,9 +1,0 @@
-use Rattle.std.proofs.Common.{◌≡◌, ◌++◌, map, drop}
-use Rattle.ash_registrations.specs.Registered.{registered}
-use Rattle.ash_tree.specs.Views.{type_name_of}
-use Rattle.ash_typing.specs.Heads as definition
-use Rattle.ash_expressions.specs.Views.{heads_of}
-use Rattle.ash_check.proofs.heads.listed_in.Given as goal
-
-abbrev pub invariant-loop-name : goal.invariant-loop-name
-invariant-loop-name l = l.places.items ++ definition.listed_in (registered l.registry) (heads_of l.named) (map type_name_of (drop l.name-index l.names)) ≡ definition.listed_in (registered l.registry) (heads_of l.named) (map type_name_of l.names)

@@ -1,9 +1,0 @@
-use Rattle.std.proofs.Common.{◌≡◌, ◌++◌, map, drop}
-use Rattle.ash_registrations.specs.Registered.{registered}
-use Rattle.ash_tree.specs.Views.{parameter_of}
-use Rattle.ash_typing.specs.Heads.{parameter_ty}
-use Rattle.ash_expressions.specs.Views.{heads_of}
-use Rattle.ash_check.proofs.heads.parameter_types.Given as goal
-
-abbrev pub invariant-loop-parameter : goal.invariant-loop-parameter
-invariant-loop-parameter l = l.types.items ++ map (parameter_ty (registered l.registry) (heads_of l.named)) (map parameter_of (drop l.parameter-index l.parameters)) ≡ map (parameter_ty (registered l.registry) (heads_of l.named)) (map parameter_of l.parameters)

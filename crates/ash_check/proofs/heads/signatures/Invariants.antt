@@ -1,9 +1,0 @@
-use Rattle.std.proofs.Common.{◌≡◌, ◌++◌, map, drop}
-use Rattle.ash_registrations.specs.Registered.{registered}
-use Rattle.ash_tree.specs.Views.{interface_method_of}
-use Rattle.ash_typing.specs.Heads.{signature_head}
-use Rattle.ash_expressions.specs.Views.{function_of, heads_of}
-use Rattle.ash_check.proofs.heads.signatures.Given as goal
-
-abbrev pub invariant-loop-method : goal.invariant-loop-method
-invariant-loop-method l = map function_of l.all.items ++ map (signature_head (registered l.registry) (heads_of l.named)) (map interface_method_of (drop l.method-index l.declared)) ≡ map (signature_head (registered l.registry) (heads_of l.named)) (map interface_method_of l.declared)

@@ -1,0 +1,10 @@
+use Rattle.std.proofs.Common.{◌≡◌, map, drop}
+use Rattle.ash_tree.specs.Views.{item_of}
+use Rattle.ash_typing.specs.Items as definition
+use Rattle.ash_expressions.specs.Views.{environment_of}
+use Rattle.ash_check.specs.WalkViews.{names_of, walked_of}
+use Rattle.ash_check.proofs.items.check_items.Given as goal
+
+-- the outcome of what is left is that of the whole
+abbrev pub invariant-loop-item : goal.invariant-loop-item
+invariant-loop-item l = definition.items_typed (environment_of l.env) (walked_of (names_of l.names) l.typed) (map item_of (drop l.item-index l.items)) ≡ definition.items_typed (environment_of l.env) (walked_of (names_of l.initial.names) l.initial.typed) (map item_of l.items)

@@ -1,0 +1,9 @@
+use Rattle.std.proofs.Common.{◌≡◌, [], map, drop}
+use Rattle.ash_tree.specs.Views.{parameter_of}
+use Rattle.ash_typing.specs.Items as definition
+use Rattle.ash_expressions.specs.Views.{binding_of, environment_of}
+use Rattle.ash_check.proofs.routines.check_parameters.Given as goal
+
+-- the outcome of what is left is that of the whole
+abbrev pub invariant-loop-parameter : goal.invariant-loop-parameter
+invariant-loop-parameter l = definition.parameters_typed (environment_of l.env) (map binding_of l.all.items) (map parameter_of (drop l.parameter-index l.parameters)) ≡ definition.parameters_typed (environment_of l.env) [] (map parameter_of l.parameters)

@@ -1,0 +1,10 @@
+use Rattle.std.proofs.Common.{◌≡◌, map, drop}
+use Rattle.ash_registrations.specs.Registered.{registered}
+use Rattle.ash_tree.specs.Views.{member_of}
+use Rattle.ash_typing.specs.Heads.{constructed_by}
+use Rattle.ash_tree.specs.Items.{constructors_of}
+use Rattle.ash_expressions.specs.Views.{signatures_of}
+use Rattle.ash_check.proofs.signatures.constructor_parameters.Given as goal
+
+abbrev pub invariant-loop-member : goal.invariant-loop-member
+invariant-loop-member l = constructed_by (registered l.registry) (signatures_of l.type_names) (constructors_of (map member_of (drop l.member-index l.members))) ≡ constructed_by (registered l.registry) (signatures_of l.type_names) (constructors_of (map member_of l.members))

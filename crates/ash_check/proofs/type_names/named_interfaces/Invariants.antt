@@ -1,0 +1,9 @@
+use Rattle.std.proofs.Common.{◌≡◌, ◌++◌, map, drop}
+use Rattle.ash_tree.specs.Views.{item_of}
+use Rattle.ash_typing.specs.Heads.{named_interface}
+use Rattle.ash_tree.specs.Items.{interfaces_of}
+use Rattle.ash_expressions.specs.Views.{interface_signature_of}
+use Rattle.ash_check.proofs.type_names.named_interfaces.Given as goal
+
+abbrev pub invariant-loop-item : goal.invariant-loop-item
+invariant-loop-item l = map interface_signature_of l.all.items ++ map named_interface (interfaces_of (map item_of (drop l.item-index l.items))) ≡ map named_interface (interfaces_of (map item_of l.items))

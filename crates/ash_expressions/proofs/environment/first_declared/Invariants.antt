@@ -1,7 +1,0 @@
-use Rattle.std.proofs.Common.{◌≡◌, map, drop}
-use Rattle.ash_typing.specs.Environment.{first_from, declares}
-use Rattle.ash_expressions.specs.Views.{declared_of}
-use Rattle.ash_expressions.proofs.environment.first_declared.Given as goal
-
-abbrev pub invariant-loop-i : goal.invariant-loop-i
-invariant-loop-i l = first_from (declares l.name) l.i (map declared_of (drop l.i l.all)) ≡ first_from (declares l.name) 0 (map declared_of l.all)

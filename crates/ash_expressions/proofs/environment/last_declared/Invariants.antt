@@ -1,7 +1,0 @@
-use Rattle.std.proofs.Common.{◌≡◌, None, map, drop}
-use Rattle.ash_typing.specs.Environment.{last_named}
-use Rattle.ash_expressions.specs.Views.{declared_of}
-use Rattle.ash_expressions.proofs.environment.last_declared.Given as goal
-
-abbrev pub invariant-loop-i : goal.invariant-loop-i
-invariant-loop-i l = last_named l.name l.i l.found (map declared_of (drop l.i l.all)) ≡ last_named l.name 0 None (map declared_of l.all)

@@ -1,0 +1,172 @@
+//! What a call can call: functions, methods, classes and registered types.
+
+ghost use Rattle.std.specs.Prelude.{◌≡◌, map, option_map};
+ghost use Rattle.ash_registrations.specs.Calls.{call_of};
+ghost use Rattle.ash_typing.specs.Environment as environment;
+ghost use Rattle.ash_expressions.specs.Views.{function_signature_of, interface_signature_of};
+ghost use Rattle.ash_expressions.specs.Views.{class_signature_of, callee_of, parameters_of, method_callee_of};
+
+use crate::lookup::first_function;
+use crate::parameters::Parameters;
+use crate::signatures::{ClassSignature, InterfaceSignature, Signatures};
+use crate::types::{result_type, ty_of};
+use ash_registrations::Call;
+use ash_tree::Primitive;
+use ash_typed::{Method, ObjectType, Target};
+use ash_typing::{Callable, Ty};
+
+/// What is called, the type of its result, and its parameters: none are known of a type without factory.
+#[derive(Clone, Copy)]
+pub struct Callee<'a> {
+    pub target: Callable,
+    pub result: Ty,
+    pub parameters: Option<Parameters<'a>>,
+}
+
+/// A method, the type of its result, and its parameters.
+#[derive(Clone, Copy)]
+pub(crate) struct MethodCallee<'a> {
+    pub(crate) method: Method,
+    pub(crate) result: Ty,
+    pub(crate) parameters: Parameters<'a>,
+}
+
+/// The type of the result of a registered operation.
+fn operation_result(primitive: Option<Primitive>) -> Ty
+    ensures { result ≡ environment.result_of primitive }
+{
+    match primitive {
+        None => Ty::Void,
+        Some(primitive) => ty_of(primitive),
+    }
+}
+
+/// A function of the module, as it is called.
+pub(crate) fn function_callee<'a>(signatures: &'a Signatures<'_>, name: &str) -> Option<Callee<'a>>
+    ensures { option_map callee_of result
+        ≡ environment.function_in (map function_signature_of signatures.now.functions.items)
+        name.now }
+{
+    let (place, function) = signatures.function(name)?;
+    let result = function.result;
+    Some(Callee {
+        target: Callable::Target(Target::Function {
+            function: place,
+            result: result_type(result),
+        }),
+        result,
+        parameters: Some(Parameters::Script(&function.parameters)),
+    })
+}
+
+/// A class, as it is constructed.
+pub(crate) fn class_callee<'a>(signatures: &'a Signatures<'_>, name: &str) -> Option<Callee<'a>>
+    ensures { option_map callee_of result
+        ≡ environment.class_in (map class_signature_of signatures.now.classes.items) name.now }
+{
+    let (place, class) = signatures.class(name)?;
+    Some(Callee {
+        target: Callable::Target(Target::Class(place)),
+        result: Ty::Handle(ObjectType::Class(place)),
+        parameters: Some(Parameters::Script(&class.parameters)),
+    })
+}
+
+/// A method of a class, as it is called.
+pub(crate) fn class_method_callee<'a>(
+    class: usize,
+    of: &'a ClassSignature<'_>,
+    name: &str,
+) -> Option<MethodCallee<'a>>
+    ensures { option_map method_callee_of result
+        ≡ environment.class_method class name.now (class_signature_of of.now) }
+{
+    let (method, function) = first_function(&of.methods, name)?;
+    let result = function.result;
+    Some(MethodCallee {
+        method: Method::Script {
+            class,
+            method,
+            result: result_type(result),
+        },
+        result,
+        parameters: Parameters::Script(&function.parameters),
+    })
+}
+
+/// A method of an interface, as it is called.
+pub(crate) fn interface_method_callee<'a>(
+    interface: usize,
+    of: &'a InterfaceSignature<'_>,
+    name: &str,
+) -> Option<MethodCallee<'a>>
+    ensures { option_map method_callee_of result
+        ≡ environment.interface_method interface name.now (interface_signature_of of.now) }
+{
+    let (method, function) = first_function(&of.methods, name)?;
+    let result = function.result;
+    Some(MethodCallee {
+        method: Method::Interface {
+            interface,
+            method,
+            result: result_type(result),
+        },
+        result,
+        parameters: Parameters::Script(&function.parameters),
+    })
+}
+
+/// A method of a registered type, as it is called.
+pub(crate) fn host_method_callee(call: &Call) -> Option<MethodCallee<'_>>
+    ensures { option_map method_callee_of result ≡ environment.host_method (call_of call.now) }
+{
+    match call {
+        Call::Method { id, operation, .. } => {
+            let result = operation_result(operation.result);
+            Some(MethodCallee {
+                method: Method::Host {
+                    id: *id,
+                    result: result_type(result),
+                },
+                result,
+                parameters: Parameters::Host(&operation.parameters),
+            })
+        }
+        _ => None,
+    }
+}
+
+/// A function of a registered service, as it is called.
+pub(crate) fn service_callee(call: &Call) -> Option<Callee<'_>>
+    ensures { option_map callee_of result ≡ environment.service_function (call_of call.now) }
+{
+    match call {
+        Call::Function {
+            service,
+            id,
+            operation,
+        } => {
+            let result = operation_result(operation.result);
+            Some(Callee {
+                target: Callable::Target(Target::Service {
+                    service: *service,
+                    id: *id,
+                    result: result_type(result),
+                }),
+                result,
+                parameters: Some(Parameters::Host(&operation.parameters)),
+            })
+        }
+        _ => None,
+    }
+}
+
+/// The parameters of a factory.
+pub(crate) fn factory_parameters(call: &Call) -> Option<Parameters<'_>>
+    ensures { option_map parameters_of result ≡ environment.factory_parameters (call_of call.now) }
+{
+    match call {
+        Call::Factory { parameters, .. } => Some(Parameters::Host(parameters)),
+        _ => None,
+    }
+}

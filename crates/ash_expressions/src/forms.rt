@@ -1,0 +1,77 @@
+//! The form of an expression and its position: what can be assigned, and where.
+
+ghost use Rattle.std.specs.Prelude.{◌≡◌, option_map, IfOk};
+ghost use Rattle.ash_typed.specs.Views.{expr_of, place_of};
+ghost use Rattle.ash_typing.specs.Terms as terms;
+ghost use Rattle.ash_typing.specs.Expressions as typing;
+ghost use Rattle.ash_expressions.specs.Views.{is_target};
+
+use ash_tree::AssignOp;
+use ash_typed::{Expr, Place, nodes};
+use ash_typing::{Form, Ty};
+use std::alloc::{AllocError, Global};
+
+/// Where an expression is.
+#[derive(Clone, Copy)]
+pub enum Position {
+    /// Left of `=`, where the sign `@` makes a place one that takes a handle.
+    Target,
+    /// Anywhere else.
+    Value,
+}
+
+/// The position of what an operator assigns to.
+pub(crate) fn target_position(operator: AssignOp) -> Position
+    ensures { is_target result ≡ typing.is_assign operator }
+{
+    match operator {
+        AssignOp::Assign => Position::Target,
+        _ => Position::Value,
+    }
+}
+
+/// Whether a place takes what is assigned to it.
+pub(crate) fn is_assignable_form(form: Form, of: Ty) -> bool
+    ensures { result ≡ terms.is_stored form of }
+{
+    match (form, of) {
+        (Form::HandlePlace, Ty::Handle(_) | Ty::Unknown) => true,
+        (Form::Place, Ty::Bool | Ty::Integer(_) | Ty::Unknown) => true,
+        _ => false,
+    }
+}
+
+/// What is written to left of `=`: a place with its sign `@`.
+pub(crate) fn handle_form(form: Form) -> Form
+    ensures { result ≡ terms.handle_form form }
+{
+    match form {
+        Form::Place => Form::HandlePlace,
+        _ => Form::Value,
+    }
+}
+
+/// What an expression in brackets is: a place still is one, and a number is a value.
+pub(crate) fn bracketed_form(form: Form) -> Form
+    ensures { result ≡ terms.bracketed form }
+{
+    match form {
+        Form::Place => Form::Place,
+        _ => Form::Value,
+    }
+}
+
+/// The place that can be assigned, where an expression of this form is one.
+pub(crate) fn assignable_place(
+    alloc: Global,
+    form: Form,
+    tree: Expr,
+) -> Result<Option<Place>, AllocError>
+    ensures { IfOk result
+        (λ found. option_map place_of found ≡ terms.assignable form (expr_of tree)) }
+{
+    match form {
+        Form::Place | Form::HandlePlace => nodes::place(alloc, tree),
+        Form::Number(_) | Form::Value => Ok(None),
+    }
+}

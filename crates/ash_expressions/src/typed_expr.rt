@@ -1,0 +1,148 @@
+//! Typed expressions, and conversions of their values.
+
+ghost use Rattle.std.specs.Prelude.{◌≡◌, IfOk};
+ghost use Rattle.ash_typed.specs.Tree.{converted};
+ghost use Rattle.ash_typed.specs.Views.{expr_of};
+ghost use Rattle.ash_typing.specs.Terms as terms;
+ghost use Rattle.ash_typing.specs.Expressions as typing;
+ghost use Rattle.ash_expressions.specs.Agreement.{Agrees};
+ghost use Rattle.ash_expressions.specs.Views.{typed_of, classes_of};
+
+use crate::environment::Environment;
+use crate::error::{CheckResult, fault_at};
+use crate::fitting::fits;
+use crate::types::{conversion, holds, number_type};
+use ash_typed::{Expr, Kind, nodes};
+use ash_typing::{Form, Rule, Sort, Ty};
+use std::alloc::{AllocError, Global};
+
+/// A typed expression, with the offset of its first token and what it is by itself.
+#[derive(Drop)]
+pub struct TypedExpr {
+    pub at: usize,
+    pub ty: Ty,
+    pub form: Form,
+    pub tree: Expr,
+}
+
+impl TypedExpr {
+    /// An expression that is neither a number nor a place.
+    pub(crate) fn value(at: usize, ty: Ty, tree: Expr) -> TypedExpr
+        ensures { typed_of result ≡ typing.made at ty (expr_of tree) }
+    {
+        TypedExpr {
+            at,
+            ty,
+            form: Form::Value,
+            tree,
+        }
+    }
+
+    /// What can be assigned: the tree reads the place.
+    pub(crate) fn place(at: usize, ty: Ty, tree: Expr) -> TypedExpr
+        ensures { typed_of result ≡ typing.read_at at ty (expr_of tree) }
+    {
+        TypedExpr {
+            at,
+            ty,
+            form: Form::Place,
+            tree,
+        }
+    }
+
+    /// A number by itself.
+    pub(crate) fn number(at: usize, number: u64) -> TypedExpr
+        ensures { typed_of result ≡ typing.placed at (terms.number_term number) }
+    {
+        let kind = number_type(number);
+        TypedExpr {
+            at,
+            ty: Ty::Integer(kind),
+            form: Form::Number(number),
+            tree: Expr::Number {
+                kind,
+                value: number,
+            },
+        }
+    }
+}
+
+/// The value, converted to the type `to`.
+pub(crate) fn coerce(alloc: Global, to: Ty, typed: TypedExpr) -> Result<Expr, AllocError>
+    ensures { IfOk result (λ e. expr_of e ≡ typing.brought to (typed_of typed)) }
+{
+    nodes::convert(alloc, conversion(to, typed.ty), typed.tree)
+}
+
+/// The value, converted to the type `to` of the variable that it is assigned to.
+#[tactic(auto, unfolding(ash_typing::specs::Expressions::fitted))]
+pub fn coerce_for_assignment(env: &Environment, to: Ty, typed: TypedExpr) -> CheckResult<Expr>
+    ensures { Agrees expr_of result (typing.fitted (classes_of env.now) to (typed_of typed)) }
+{
+    if !fits(&env.signatures.classes, to, typed.ty) {
+        return Err(fault_at(Rule::TypeMismatch, typed.at));
+    }
+    Ok(coerce(env.alloc, to, typed)?)
+}
+
+/// The integer type of an operand.
+pub fn integer_type(at: usize, of: Ty) -> CheckResult<Kind>
+    ensures { Agrees (λ k. k) result (typing.integer_of at of) }
+{
+    match of {
+        Ty::Integer(kind) => Ok(kind),
+        Ty::Unknown => Ok(Kind::Int),
+        _ => Err(fault_at(Rule::TypeMismatch, at)),
+    }
+}
+
+/// Requires that an operand is a truth value.
+pub fn check_bool(at: usize, of: Ty) -> CheckResult<bool>
+    ensures { Agrees (λ k. k) result (typing.bool_of at of) }
+{
+    match of {
+        Ty::Bool | Ty::Unknown => Ok(true),
+        _ => Err(fault_at(Rule::TypeMismatch, at)),
+    }
+}
+
+/// The type of a handle of an operand's object.
+pub(crate) fn handle_type(at: usize, of: Ty) -> CheckResult<Ty>
+    ensures { Agrees (λ k. k) result (typing.handle_of at of) }
+{
+    match of {
+        Ty::Object(object) | Ty::Handle(object) => Ok(Ty::Handle(object)),
+        Ty::Unknown => Ok(Ty::Unknown),
+        _ => Err(fault_at(Rule::TypeMismatch, at)),
+    }
+}
+
+/// A number takes the type of the other operand where that is an integer type that holds it.
+fn adapt_number(other: Form, of: Ty, typed: &mut TypedExpr)
+    ensures { typed_of typed.new
+        ≡ typing.placed typed.old.at
+        (terms.taking other of typed.old.form (typing.term_of (typed_of typed.old))) }
+{
+    match (other, of, typed.form) {
+        (Form::Number(_), _, Form::Number(_)) => {}
+        (_, Ty::Integer(kind), Form::Number(number)) if holds(kind, number) => {
+            typed.ty = Ty::Integer(kind);
+            typed.tree = Expr::Number {
+                kind,
+                value: number,
+            };
+        }
+        _ => {}
+    }
+}
+
+/// An operand beside another, whose type and form are given.
+#[tactic(auto, unfolding(ash_typing::specs::Expressions::adapted))]
+pub(crate) fn adapt_operand(sort: Sort, other: Form, of: Ty, typed: &mut TypedExpr)
+    ensures { typed_of typed.new ≡ typing.adapted sort other of (typed_of typed.old) }
+{
+    match sort {
+        Sort::Shift => {}
+        _ => adapt_number(other, of, typed),
+    }
+}
