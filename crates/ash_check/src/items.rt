@@ -42,7 +42,7 @@ fn check_vars<'a>(
     let written = WrittenType { at: place.at, of };
     let mut variables = Variables {
         line: place.line,
-        initializations: Vec::new(env.alloc),
+        initializations: Vec::with_capacity(env.alloc, vars.decls.len())?,
     };
     for decl in &vars.decls {
         names.take_counted(decl.place.at, decl.name.as_str())?;
@@ -127,7 +127,7 @@ fn check_members<'a>(
     };
     let mut names = Names {
         registry: None,
-        taken: IndexSet::new(env.alloc),
+        taken: IndexSet::with_capacity(env.alloc, class.members.len())?,
         room: MAX_MEMBERS,
     };
     let mut typed = Class {
@@ -228,13 +228,13 @@ fn check_items<'a>(
     };
     let mut names = Names {
         registry: Some(registry),
-        taken: IndexSet::new(alloc),
+        taken: IndexSet::with_capacity(alloc, items.len())?,
         room: MAX_GLOBALS,
     };
     let mut typed = Module {
-        interfaces: Vec::new(alloc),
-        classes: Vec::new(alloc),
-        functions: Vec::new(alloc),
+        interfaces: Vec::with_capacity(alloc, signatures.interfaces.len())?,
+        classes: Vec::with_capacity(alloc, signatures.classes.len())?,
+        functions: Vec::with_capacity(alloc, signatures.functions.len())?,
         globals: Vec::new(alloc),
     };
     for item in items {

@@ -1,8 +1,9 @@
 //! Names that are taken, and how many more there may be.
 
-ghost use Rattle.std.specs.Prelude.{◌≡◌, false, [], ◌∷◌, ◌++◌, OnOk};
+ghost use Rattle.std.specs.Prelude.{◌≡◌, [], ◌∷◌, ◌++◌, not, is_some, if◌then◌else◌, IfOk};
 ghost use Rattle.std.specs.List.{list_any};
 ghost use Rattle.std.specs.Str.{bytes_eq};
+ghost use Rattle.ash_typing.specs.Environment.{named_in};
 ghost use Rattle.ash_typing.specs.Items as definition;
 ghost use Rattle.ash_expressions.specs.Agreement.{Agrees};
 ghost use Rattle.ash_expressions.specs.NameIndex.{texts};
@@ -30,30 +31,23 @@ pub(crate) struct Names<'a> {
     pub(crate) room: usize,
 }
 
-fn contains_name(names: &IndexSet<&str>, name: &str) -> bool
-    ensures { result ≡ list_any (bytes_eq name.now) (texts names.now.keys) }
+/// Inserts a name, unless it is among them: whether it was not.
+fn insert_name<'a>(names: &mut IndexSet<&'a str>, name: &'a str) -> Result<bool, AllocError>
+    ensures new { IfOk result (λ new. new ≡ not (list_any (bytes_eq name.now) (texts names.old.keys))) }
+    ensures names { IfOk result (λ new. texts names.new.keys ≡ (if new
+        then texts names.old.keys ++ name.now ∷ [] else texts names.old.keys)) }
 {
-    names.contains(name)
-}
-
-/// Inserts a name that is not among them.
-fn insert_name<'a>(names: &mut IndexSet<&'a str>, name: &'a str) -> Result<(), AllocError>
-    requires { list_any (bytes_eq name.now) (texts names.old.keys) ≡ false }
-    ensures { OnOk result (texts names.new.keys ≡ texts names.old.keys ++ name.now ∷ []) }
-{
-    names.insert(name)?;
-    Ok(())
+    Ok(names.insert(name)?)
 }
 
 impl<'a> Names<'a> {
-    fn is_taken(&self, name: &str) -> bool
-        ensures { result ≡ definition.is_taken (names_of self.now) name.now }
+    fn is_registered(&self, name: &str) -> bool
+        ensures { result ≡ is_some (named_in (names_of self.now).registered name.now) }
     {
-        let is_registered = match self.registry {
+        match self.registry {
             Some(registry) => registry.named(name).is_some(),
             None => false,
-        };
-        is_registered || contains_name(&self.taken, name)
+        }
     }
 
     /// Takes a name at this offset, which has to be free.
@@ -62,10 +56,9 @@ impl<'a> Names<'a> {
         ensures { Agrees (λ _. names_of self.new) result
             (definition.untaken (names_of self.old) at name.now) }
     {
-        if self.is_taken(name) {
+        if self.is_registered(name) || !insert_name(&mut self.taken, name)? {
             return Err(fault_at(Rule::NameTaken, at));
         }
-        insert_name(&mut self.taken, name)?;
         Ok(())
     }
 

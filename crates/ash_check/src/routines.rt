@@ -62,7 +62,7 @@ pub(crate) fn check_parameters<'a>(
         (definition.parameters_typed (environment_of env.now) []
         (map parameter_of parameters.now)) }
 {
-    let mut all = Vec::new(env.alloc);
+    let mut all = Vec::with_capacity(env.alloc, parameters.len())?;
     for parameter in parameters {
         let of = check_passed_type(&parameter.of, ty_in(env, &parameter.of))?;
         let name = parameter.name.as_str();
@@ -77,7 +77,7 @@ pub(crate) fn check_parameters<'a>(
 pub(crate) fn types_of(alloc: Global, all: &[Binding]) -> Result<Vec<VarType>, AllocError>
     ensures { IfOk result (λ types. types.items ≡ map type_declared (map binding_of all.now)) }
 {
-    let mut types = Vec::new(alloc);
+    let mut types = Vec::with_capacity(alloc, all.len())?;
     for declared in all {
         types.push(var_type(declared.of))?;
     }

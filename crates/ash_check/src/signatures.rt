@@ -32,7 +32,7 @@ fn parameter_types(
         ≡ map (definition.parameter_ty (registered registry.now) (signatures_of type_names.now))
         (map parameter_of parameters.now)) }
 {
-    let mut types = Vec::new(alloc);
+    let mut types = Vec::with_capacity(alloc, parameters.len())?;
     for parameter in parameters {
         types.push(ty_named(registry, type_names, &parameter.of))?;
     }

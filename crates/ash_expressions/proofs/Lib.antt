@@ -1,3 +1,4 @@
+pub mod Locals
 pub mod Loops
 pub mod Nodes
 pub mod IndexLaws

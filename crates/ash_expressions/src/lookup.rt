@@ -25,13 +25,13 @@ pub(crate) fn first_binding(all: &[Binding], name: &str) -> Option<(usize, Ty)>
 pub(crate) fn last_binding(all: &[Binding], name: &str) -> Option<(usize, Ty)>
     ensures { result ≡ environment.last_named name.now 0 None (map binding_of all.now) }
 {
-    let mut found = None;
-    for (i, declared) in all.iter().enumerate() {
-        if name == declared.name {
-            found = Some((i, declared.of));
+    for i in (0..all.len()).rev() {
+        let binding = &all[i];
+        if name == binding.name {
+            return Some((i, binding.of));
         }
     }
-    found
+    None
 }
 
 /// The first function of this name, with its place.
