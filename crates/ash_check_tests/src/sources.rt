@@ -51,7 +51,7 @@ static REGISTERED: [Registration; 9] = [
 fn register(registry: &mut Registry, registration: &Registration) -> Result<(), RegistryFault> {
     match registration {
         Registration::Type(name, kind) => registry.object_type(name, *kind),
-        Registration::Factory(of, decl) => registry.factory_parameters(of, decl),
+        Registration::Factory(of, decl) => registry.factory(of, decl),
         Registration::Method(of, decl, id) => registry.method(of, decl, *id),
         Registration::Property(of, decl, id) => registry.property(of, decl, *id),
         Registration::Service(kind) => match registry.service(*kind) {
