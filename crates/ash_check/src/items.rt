@@ -127,7 +127,7 @@ fn check_members<'a>(
     };
     let mut names = Names {
         registry: None,
-        taken: IndexSet::with_capacity(env.alloc, class.members.len())?,
+        taken: IndexSet::new(env.alloc),
         room: MAX_MEMBERS,
     };
     let mut typed = Class {
