@@ -9,7 +9,7 @@ use Rattle.ash_meaning.specs.State as state
 
 -- what one request asks: something of the host, or to end the run; or it is no request, or too long a line
 pub data Line : Type 0 where
-  Asked : (request : Request) → Line
+  HostRequest : (request : Request) → Line
   Quit : Line
   BadRequest : Line
   LineTooLong : Line
@@ -95,61 +95,61 @@ arguments_of (word ∷ words) = both (argument_of word) (arguments_of words)
 -- Lines.
 
 -- what a line says: all that is asked, or a source of so many bytes follows it
-pub data Spelling : Type 0 where
-  Says : (line : Line) → Spelling
-  Loads : (name : List ℕ) → (length : ℕ) → Spelling
+pub data ParsedLine : Type 0 where
+  Complete : (line : Line) → ParsedLine
+  LoadHeader : (name : List ℕ) → (length : ℕ) → ParsedLine
 
-abbrev pub loads : List ℕ → Option ℕ → Spelling
-loads name None = Says BadRequest
-loads name (Some length) = Loads name length
+abbrev pub load_header : List ℕ → Option ℕ → ParsedLine
+load_header name None = Complete BadRequest
+load_header name (Some length) = LoadHeader name length
 
 -- load NAME LENGTH
-abbrev pub load_spelling : List (List ℕ) → Spelling
-load_spelling (name ∷ length ∷ []) = loads name (length_of length)
-load_spelling _ = Says BadRequest
+abbrev pub parse_load : List (List ℕ) → ParsedLine
+parse_load (name ∷ length ∷ []) = load_header name (length_of length)
+parse_load _ = Complete BadRequest
 
-abbrev pub calls : List ℕ → List ℕ → Option (List Argument) → Spelling
-calls script function None = Says BadRequest
-calls script function (Some arguments) = Says (Asked (Call script function arguments))
+abbrev pub call_request : List ℕ → List ℕ → Option (List Argument) → ParsedLine
+call_request script function None = Complete BadRequest
+call_request script function (Some arguments) = Complete (HostRequest (Call script function arguments))
 
 -- call NAME FUNCTION, then any number of arguments
-abbrev pub call_spelling : List (List ℕ) → Spelling
-call_spelling (script ∷ function ∷ words) = calls script function (arguments_of words)
-call_spelling _ = Says BadRequest
+abbrev pub parse_call : List (List ℕ) → ParsedLine
+parse_call (script ∷ function ∷ words) = call_request script function (arguments_of words)
+parse_call _ = Complete BadRequest
 
 -- get NAME GLOBAL
-abbrev pub get_spelling : List (List ℕ) → Spelling
-get_spelling (script ∷ name ∷ []) = Says (Asked (Global script name))
-get_spelling _ = Says BadRequest
+abbrev pub parse_get : List (List ℕ) → ParsedLine
+parse_get (script ∷ name ∷ []) = Complete (HostRequest (Global script name))
+parse_get _ = Complete BadRequest
 
 -- discard NAME
-abbrev pub discard_spelling : List (List ℕ) → Spelling
-discard_spelling (name ∷ []) = Says (Asked (Discard name))
-discard_spelling _ = Says BadRequest
+abbrev pub parse_discard : List (List ℕ) → ParsedLine
+parse_discard (name ∷ []) = Complete (HostRequest (Discard name))
+parse_discard _ = Complete BadRequest
 
 -- a request of one word
-abbrev pub lone_spelling : Line → List (List ℕ) → Spelling
-lone_spelling line [] = Says line
-lone_spelling line _ = Says BadRequest
+abbrev pub parse_lone : Line → List (List ℕ) → ParsedLine
+parse_lone line [] = Complete line
+parse_lone line _ = Complete BadRequest
 
-abbrev pub verb_spelling : List ℕ → List (List ℕ) → Spelling
-verb_spelling verb words =
-    if bytes_eq verb (codes "load") then load_spelling words
-    else if bytes_eq verb (codes "call") then call_spelling words
-    else if bytes_eq verb (codes "get") then get_spelling words
-    else if bytes_eq verb (codes "discard") then discard_spelling words
-    else if bytes_eq verb (codes "seq") then lone_spelling (Asked Seq) words
-    else if bytes_eq verb (codes "snapshot") then lone_spelling (Asked Snapshot) words
-    else if bytes_eq verb (codes "quit") then lone_spelling Quit words
-    else Says BadRequest
+abbrev pub parse_verb : List ℕ → List (List ℕ) → ParsedLine
+parse_verb verb words =
+    if bytes_eq verb (codes "load") then parse_load words
+    else if bytes_eq verb (codes "call") then parse_call words
+    else if bytes_eq verb (codes "get") then parse_get words
+    else if bytes_eq verb (codes "discard") then parse_discard words
+    else if bytes_eq verb (codes "seq") then parse_lone (HostRequest Seq) words
+    else if bytes_eq verb (codes "snapshot") then parse_lone (HostRequest Snapshot) words
+    else if bytes_eq verb (codes "quit") then parse_lone Quit words
+    else Complete BadRequest
 
-abbrev pub words_spelling : List (List ℕ) → Spelling
-words_spelling [] = Says BadRequest
-words_spelling (verb ∷ words) = verb_spelling verb words
+abbrev pub parse_words : List (List ℕ) → ParsedLine
+parse_words [] = Complete BadRequest
+parse_words (verb ∷ words) = parse_verb verb words
 
 -- what a line says: words, parted by one space each
-unfoldable pub spelling : List ℕ → Spelling
-spelling line = if list_all is_word (pieces line) then words_spelling (pieces line) else Says BadRequest
+unfoldable pub parse_line : List ℕ → ParsedLine
+parse_line line = if list_all is_word (pieces line) then parse_words (pieces line) else Complete BadRequest
 
 -- The input.
 
@@ -162,29 +162,29 @@ pub data Next : Type 0 where
 -- After a source its line ends; where it goes on, the rest of it is skipped and there was no request.
 abbrev pub after_source : List ℕ → List ℕ → Option (List ℕ × List ℕ) → Next
 after_source name source None = Cut
-after_source name source (Some ([], more)) = Whole (Asked (state.Load name source)) more
+after_source name source (Some ([], more)) = Whole (HostRequest (state.Load name source)) more
 after_source name source (Some (byte ∷ line, more)) = Whole BadRequest more
 
-abbrev pub after_line : Spelling → List ℕ → Next
-after_line (Says line) more = Whole line more
-after_line (Loads name length) more = after_source name (take length more) (cut_line (drop length more))
+abbrev pub after_line : ParsedLine → List ℕ → Next
+after_line (Complete line) more = Whole line more
+after_line (LoadHeader name length) more = after_source name (take length more) (cut_line (drop length more))
 
 -- the most bytes of a line
-abbrev pub most_line : ℕ
-most_line = 4096
+abbrev pub max_line_bytes : ℕ
+max_line_bytes = 4096
 
 abbrev pub on_line : Option (List ℕ × List ℕ) → Next
 on_line None = Cut
-on_line (Some (line, more)) = if nat_lt most_line (length line) then Whole LineTooLong more else after_line (spelling line) more
+on_line (Some (line, more)) = if nat_lt max_line_bytes (length line) then Whole LineTooLong more else after_line (parse_line line) more
 
 unfoldable pub next : List ℕ → Next
 next [] = End
 next (byte ∷ more) = on_line (cut_line (byte ∷ more))
 
 -- The input is these requests one after another, and then this rest.
-abbrev pub Asks : List ℕ → List Line → List ℕ → Type 0
-Asks input [] rest = input ≡ rest
-Asks input (line ∷ lines) rest = (more : List ℕ) × (next input ≡ Whole line more) × Asks more lines rest
+abbrev pub ConsistsOf : List ℕ → List Line → List ℕ → Type 0
+ConsistsOf input [] rest = input ≡ rest
+ConsistsOf input (line ∷ lines) rest = (more : List ℕ) × (next input ≡ Whole line more) × ConsistsOf more lines rest
 
 -- no request begins, or one that the end of these bytes cuts
 abbrev pub is_unfinished : Next → Bool

@@ -16,11 +16,11 @@ use Rattle.ash_subset.specs.Meaning.{End, Finished, Threw, Aborted}
 use Rattle.ash_meaning.specs.State.{Reply, Answered, Value, Number, Done, Refused}
 
 -- what is told of a line: the host's reply, that the run ends, or why it is no request
-pub data Told : Type 0 where
-  Replied : (reply : Reply) → Told
-  Left : Told
-  NoRequest : Told
-  LongLine : Told
+pub data LineReply : Type 0 where
+  HostReply : (reply : Reply) → LineReply
+  QuitReply : LineReply
+  BadRequestReply : LineReply
+  LineTooLongReply : LineReply
 
 abbrev pub word_text : Word → List ℕ
 word_text (Bool true) = codes "true"
@@ -153,16 +153,16 @@ reply_text (Number seq) = codes "ok " ++ decimal seq
 reply_text Done = codes "ok"
 reply_text (Refused refusal) = codes "refused " ++ refusal_text refusal
 
-abbrev pub told_text : Told → List ℕ
-told_text (Replied reply) = reply_text reply
-told_text Left = codes "ok"
-told_text NoRequest = codes "refused 601 BadRequest"
-told_text LongLine = codes "refused 602 LineTooLong"
+abbrev pub line_reply_text : LineReply → List ℕ
+line_reply_text (HostReply reply) = reply_text reply
+line_reply_text QuitReply = codes "ok"
+line_reply_text BadRequestReply = codes "refused 601 BadRequest"
+line_reply_text LineTooLongReply = codes "refused 602 LineTooLong"
 
 -- a reply is a line
-unfoldable pub reply_line : Told → List ℕ
-reply_line told = told_text told ++ 10 ∷ []
+unfoldable pub reply_line : LineReply → List ℕ
+reply_line line_reply = line_reply_text line_reply ++ 10 ∷ []
 
 -- replies, one after another
-abbrev pub text_of : List Told → List ℕ
+abbrev pub text_of : List LineReply → List ℕ
 text_of replies = flat_map reply_line replies

@@ -1,7 +1,7 @@
 //! Requests and replies as bytes: which lines spell which request, and which bytes tell which reply, over any source
 //! and any sink.
 //!
-//! `source` and `sink` are what both ends give; `line`, `words`, `number`, `spelled` and `bytes` read a request;
+//! `source` and `sink` are what both ends give; `line`, `words`, `number`, `request_line` and `bytes` read a request;
 //! `reply` puts a reply's text; `reader` and `writer` are a source and a sink over std's traits.
 #![tactic(auto)]
 
@@ -12,6 +12,6 @@ pub mod reader;
 pub mod reply;
 pub mod sink;
 pub mod source;
-pub mod spelled;
+pub mod request_line;
 mod words;
 pub mod writer;

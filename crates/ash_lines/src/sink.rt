@@ -1,6 +1,6 @@
 // Where replies go.
 
-ghost use Rattle.ash_lines.specs.Sink.{Outlet, IsOutlet, Puts, Flushes};
+ghost use Rattle.ash_lines.specs.Sink.{Outlet, IsOutlet, Writes, Flushes};
 
 /// A write failed, or took no byte.
 #[derive(Clone, Copy, Debug, PartialEq, Eq)]
@@ -12,8 +12,8 @@ pub trait Sink {
     ghost outlet: { Outlet Self };
 
     /// Puts bytes behind those that are held; some may go out.
-    fn put(&mut self, bytes: &[u8]) -> Result<(), WriteFault>
-        ensures { Puts outlet self.old bytes.now result self.new };
+    fn write(&mut self, bytes: &[u8]) -> Result<(), WriteFault>
+        ensures { Writes outlet self.old bytes.now result self.new };
 
     /// Sends all that is held.
     fn flush(&mut self) -> Result<(), WriteFault>

@@ -35,7 +35,7 @@ impl<'a> Words<'a> {
             (λ word. words_left self.old.rest ≡ word.now ∷ words_left self.new.rest) }
     {
         let line = self.rest?;
-        match space_in(line) {
+        match first_space(line) {
             None => {
                 self.rest = None;
                 Some(line)
@@ -49,7 +49,7 @@ impl<'a> Words<'a> {
 }
 
 /// Where the first space stands.
-fn space_in(line: &[u8]) -> Option<usize>
+fn first_space(line: &[u8]) -> Option<usize>
     ensures { result ≡ position (λ byte. byte == 32) line.now }
 {
     line.iter().position(|byte| *byte == b' ')

@@ -3,12 +3,12 @@
 //! the requests that the input spells, which are a run of the written steps up to the first answer that is lost, each
 //! sent before the next request is read.
 //!
-//! `request` takes a request and carries it out, over the host that `carrier` has; `turn` and `serve` make the loop;
+//! `request` takes a request and carries it out, over the host that `handler` has; `turn` and `serve` make the loop;
 //! `run` is that loop over std's traits. `program` has what `ashd` does with its words; there `check` reads a script,
 //! has it checked, and tells what is found of it.
 #![tactic(auto)]
 
-pub mod carrier;
+pub mod handler;
 pub mod fault;
 pub mod program;
 mod request;

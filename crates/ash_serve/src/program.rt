@@ -11,11 +11,11 @@ pub mod task;
 use crate::fault::RunFault;
 use ash_disk::MemoryDisk;
 use ash_durable::Host;
-use check::end_check;
+use check::run_check;
 use ending::{End, Ending};
 use fault::Fault;
 use registrations::registrations;
-use service::{Ended, serve_new, serve_stored};
+use service::{ServiceEnd, serve_new, serve_stored};
 use std::fs::File;
 use std::process::ExitCode;
 use std::rt::{Env, Files};
@@ -28,7 +28,7 @@ pub fn main<R: Env + Files<File = File> + Input + Print + Eprint + AllocGlobal>(
     rt: &R,
 ) -> ExitCode {
     let done = match words_of(rt) {
-        Ok(words) => carry_out(rt, &words),
+        Ok(words) => perform(rt, &words),
         Err(fault) => Err(fault),
     };
     let end = match done {
@@ -52,7 +52,7 @@ fn words_of<R: Env + AllocGlobal>(rt: &R) -> Result<Vec<String>, Fault> {
 
 /// Does what a command line asks for, and says how the program ends. Faults come in this order: of the words, of the
 /// files, of what is registered, of the host or of memory, of the run.
-fn carry_out<R: Files<File = File> + Input + Print + AllocGlobal>(
+fn perform<R: Files<File = File> + Input + Print + AllocGlobal>(
     rt: &R,
     words: &[String],
 ) -> Result<End, Fault> {
@@ -84,7 +84,7 @@ fn serve<R: Files<File = File> + Input + Print + AllocGlobal>(
     let registry = registrations(rt.alloc())?;
     let writer = &mut io::writer(rt);
     let reader = rt.reader();
-    let Ended { end, a, b } = serve_stored(
+    let ServiceEnd { end, a, b } = serve_stored(
         rt.alloc(),
         a,
         b,
@@ -115,14 +115,14 @@ fn check_path<R: Files<File = File> + Print + AllocGlobal>(
     rt: &R,
     path: &str,
 ) -> Result<End, Fault> {
-    let file = File::open(rt, path).map_err(unread)?;
+    let file = File::open(rt, path).map_err(open_fault)?;
     let registry = registrations(rt.alloc())?;
-    let end = end_check(rt.alloc(), &registry, file, &mut io::writer(rt));
+    let end = run_check(rt.alloc(), &registry, file, &mut io::writer(rt));
     Ok(end)
 }
 
 /// Why a script's file could not be opened.
-fn unread(error: io::Error) -> Fault {
+fn open_fault(error: io::Error) -> Fault {
     match error.kind() {
         io::ErrorKind::OutOfMemory => Fault::NoMemory,
         _ => Fault::Run(RunFault::Read),

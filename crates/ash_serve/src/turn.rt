@@ -2,13 +2,13 @@
 
 ghost use Rattle.std.specs.Prelude.{◌≡◌, ◌≤◌, length, vec_capacity};
 ghost use Rattle.ash_lines.specs.Replies.{reply_line};
-ghost use Rattle.ash_lines.specs.Sink.{Says};
-ghost use Rattle.ash_serve.specs.Serving.{Turns, Ends, told_of, turn_after};
+ghost use Rattle.ash_lines.specs.Sink.{WritesAndFlushes};
+ghost use Rattle.ash_serve.specs.Serving.{ServesNext, Ends, line_reply_of, turn_after};
 
-use crate::carrier::Carrier;
+use crate::handler::RequestHandler;
 use crate::fault::RunFault;
-use crate::request::{Told, take_request};
-use ash_lines::reply::{say, say_reply};
+use crate::request::{LineReply, handle_next};
+use ash_lines::reply::{write_line, write_reply_line};
 use ash_lines::sink::{Sink, WriteFault};
 use ash_lines::source::Source;
 use ash_meaning::request::Argument;
@@ -25,62 +25,62 @@ pub(crate) enum Turn {
 }
 
 /// Takes a request, carries it out, and sends its reply.
-pub(crate) fn take_turn<S: Source, K: Sink, H: Carrier>(
-    source: &mut S,
-    sink: &mut K,
+pub(crate) fn serve_next<S: Source, K: Sink, H: RequestHandler>(
+    input: &mut S,
+    output: &mut K,
     host: &mut H,
     budget: u64,
     line: &mut Vec<u8>,
     arguments: &mut Vec<Argument>,
-    kept: &mut Vec<u8>,
+    prefix: &mut Vec<u8>,
 ) -> Result<Turn, RunFault>
     requires line_room { 4096 ≤ vec_capacity line.old }
     requires arguments_room { 4097 ≤ vec_capacity arguments.old }
-    requires kept_room { 65537 ≤ vec_capacity kept.old }
-    ensures turns { Turns S.feed K.outlet H.carries budget source.old sink.old host.old result source.new sink.new host.new }
+    requires prefix_room { 65537 ≤ vec_capacity prefix.old }
+    ensures turns { ServesNext S.feed K.outlet H.handles budget input.old output.old host.old result input.new output.new host.new }
     ensures line_room { 4096 ≤ vec_capacity line.new }
     ensures arguments_room { 4097 ≤ vec_capacity arguments.new }
-    ensures kept_room { 65537 ≤ vec_capacity kept.new }
+    ensures prefix_room { 65537 ≤ vec_capacity prefix.new }
 {
-    match take_request(source, host, budget, line, arguments, kept) {
+    match handle_next(input, host, budget, line, arguments, prefix) {
         Err(fault) => Err(fault),
         Ok(None) => Ok(Turn::Over),
-        Ok(Some(told)) => {
-            let turn = answer(sink, &told);
-            drop(told);
+        Ok(Some(reply)) => {
+            let turn = answer(output, &reply);
+            drop(reply);
             turn
         }
     }
 }
 
 /// Sends what is told of a request, and says whether the run goes on.
-fn answer<K: Sink>(sink: &mut K, told: &Told) -> Result<Turn, RunFault>
-    ensures { Ends K.outlet sink.old (told_of told.now) result sink.new }
+fn answer<K: Sink>(output: &mut K, reply: &LineReply) -> Result<Turn, RunFault>
+    ensures { Ends K.outlet output.old (line_reply_of reply.now) result output.new }
 {
-    match tell(sink, told) {
+    match write_line_reply(output, reply) {
         Err(_) => Err(RunFault::Write),
-        Ok(()) => Ok(turn_of(told)),
+        Ok(()) => Ok(turn_of(reply)),
     }
 }
 
 /// Whether the run goes on.
-fn turn_of(told: &Told) -> Turn
-    ensures { result ≡ turn_after (told_of told.now) }
+fn turn_of(reply: &LineReply) -> Turn
+    ensures { result ≡ turn_after (line_reply_of reply.now) }
 {
-    match told {
-        Told::Left => Turn::Left,
+    match reply {
+        LineReply::Quit => Turn::Left,
         _ => Turn::On,
     }
 }
 
 /// Sends the line that tells of a request.
-fn tell<K: Sink>(sink: &mut K, told: &Told) -> Result<(), WriteFault>
-    ensures { Says K.outlet sink.old (reply_line (told_of told.now)) result sink.new }
+fn write_line_reply<K: Sink>(output: &mut K, reply: &LineReply) -> Result<(), WriteFault>
+    ensures { WritesAndFlushes K.outlet output.old (reply_line (line_reply_of reply.now)) result output.new }
 {
-    match told {
-        Told::Replied(reply) => say_reply(sink, reply),
-        Told::Left => say(sink, b"ok"),
-        Told::NoRequest => say(sink, b"refused 601 BadRequest"),
-        Told::LongLine => say(sink, b"refused 602 LineTooLong"),
+    match reply {
+        LineReply::Host(reply) => write_reply_line(output, reply),
+        LineReply::Quit => write_line(output, b"ok"),
+        LineReply::BadRequest => write_line(output, b"refused 601 BadRequest"),
+        LineReply::LineTooLong => write_line(output, b"refused 602 LineTooLong"),
     }
 }

@@ -4,9 +4,9 @@ use crate::hosts::{check, check_text, closed, ending, new_host, opened, replies}
 use ash_disk::{MemoryDisk, Survives};
 use ash_registry::Registry;
 use ash_serve::RunFault;
-use ash_serve::program::check::end_check;
+use ash_serve::program::check::run_check;
 use ash_serve::program::fault::Fault;
-use ash_serve::program::service::{Ended, serve_stored};
+use ash_serve::program::service::{ServiceEnd, serve_stored};
 use std::alloc::Global;
 use std::io;
 use std::io::{ErrorKind, Read, Write};
@@ -72,7 +72,7 @@ fn served_stored(
     b: MemoryDisk,
     requests: &[u8],
     written: &mut Vec<u8>,
-) -> Ended<MemoryDisk> {
+) -> ServiceEnd<MemoryDisk> {
     serve_stored(alloc, a, b, Registry::new(alloc), requests, written, 1000)
 }
 
@@ -88,7 +88,7 @@ fn serves_again_from_the_disks_that_it_hands_back(rt: HostRuntime) -> Result<(),
     let alloc = rt.alloc();
     let (a, b) = stored(alloc)?;
     let mut written = Vec::new(alloc);
-    let Ended { end, a, b } = served_stored(alloc, a, b, b"load k 10\nint n = 8;\n", &mut written);
+    let ServiceEnd { end, a, b } = served_stored(alloc, a, b, b"load k 10\nint n = 8;\n", &mut written);
     end?;
     served_stored(alloc, a, b, b"get m n\nget k n\nseq\n", &mut written).end?;
     let wanted = b"ok seq 2\nok 7\nok 8\nok 2\n".as_slice();
@@ -224,7 +224,7 @@ fn a_check_whose_file_or_line_fails(rt: HostRuntime) -> Result<(), Fail> {
         left: 4,
     };
     let mut written = Vec::new(rt.alloc());
-    let end = end_check(rt.alloc(), &registry, unread, &mut written);
+    let end = run_check(rt.alloc(), &registry, unread, &mut written);
     assert!(rt; matches!(end.fault, Some(Fault::Run(RunFault::Read))));
     assert_eq!(rt; end.status, 1);
     assert!(rt; written.is_empty());
@@ -232,7 +232,7 @@ fn a_check_whose_file_or_line_fails(rt: HostRuntime) -> Result<(), Fail> {
         bytes: Vec::new(rt.alloc()),
         left: 2,
     };
-    let end = end_check(
+    let end = run_check(
         rt.alloc(),
         &registry,
         b"int n = 2;".as_slice(),

@@ -1,16 +1,16 @@
 // Checking a script: its bytes are read and judged, and what is found of it is told.
 
 ghost use Rattle.ash_registry.specs.Registered.{registered};
-ghost use Rattle.ash_serve.specs.Checking.{ReadsScript, Judges, found_of, Tells, ChecksScript, ChecksFile, EndsCheck};
+ghost use Rattle.ash_serve.specs.Checking.{ReadsScript, Judges, verdict_of, WritesVerdict, ChecksScript, ChecksFile, EndsCheck};
 
 use super::ending::{End, Ending};
 use super::fault::Fault;
 use crate::fault::{RunFault, run_fault};
-use crate::run::ROOM;
+use crate::run::MAX_BUFFERED_BYTES;
 use ash_durable::check_source;
-use ash_lines::bytes::{MOST_KEPT, read_bytes};
+use ash_lines::bytes::{MAX_PREFIX_BYTES, read_bytes};
 use ash_lines::reader::Reader;
-use ash_lines::reply::{say, say_refusal};
+use ash_lines::reply::{write_line, write_refusal_line};
 use ash_lines::sink::Sink;
 use ash_lines::source::Source;
 use ash_lines::writer::Writer;
@@ -20,11 +20,11 @@ use std::alloc::Global;
 use std::io::{Read, Write};
 
 /// How many bytes are read of a script, at the most: by so many it is seen to be too long.
-const MOST_SCRIPT: u32 = 65_537;
+const MAX_SCRIPT_BYTES: u32 = 65_537;
 
 /// Checks the script that a reader gives, with this registry, and writes a line on a writer, as `check_file`; and says
 /// how the program ends by that: with the status 0 where the line is `ok`, else 1.
-pub fn end_check<R: Read + Drop, W: Write>(
+pub fn run_check<R: Read + Drop, W: Write>(
     alloc: Global,
     registry: &Registry,
     reader: R,
@@ -48,15 +48,15 @@ pub fn check_file<R: Read + Drop, W: Write>(
 ) -> Result<Ending, Fault>
     ensures { ChecksFile (registered registry.now) (R.remaining reader) (W.contents writer.old) result (W.contents writer.new) }
 {
-    let Ok(mut source) = Reader::new(alloc, reader) else {
+    let Ok(mut input) = Reader::new(alloc, reader) else {
         return Err(Fault::NoMemory);
     };
-    let Ok(buffer) = Vec::with_capacity(alloc, ROOM) else {
+    let Ok(buffer) = Vec::with_capacity(alloc, MAX_BUFFERED_BYTES) else {
         return Err(Fault::NoMemory);
     };
-    let mut sink = Writer::new(writer, buffer);
-    let result = check_script(alloc, registry, &mut source, &mut sink);
-    let lent = sink.into_writer();
+    let mut output = Writer::new(writer, buffer);
+    let result = check_script(alloc, registry, &mut input, &mut output);
+    let lent = output.into_writer();
     // No effect at run time: the proof reads from it what the writer holds.
     let _ = &*lent;
     result
@@ -67,19 +67,19 @@ pub fn check_file<R: Read + Drop, W: Write>(
 pub fn check_script<S: Source, K: Sink>(
     alloc: Global,
     registry: &Registry,
-    source: &mut S,
-    sink: &mut K,
+    input: &mut S,
+    output: &mut K,
 ) -> Result<Ending, Fault>
-    ensures { ChecksScript S.feed K.outlet (registered registry.now) source.old sink.old result source.new sink.new }
+    ensures { ChecksScript S.feed K.outlet (registered registry.now) input.old output.old result input.new output.new }
 {
-    let Ok(mut script) = Vec::with_capacity(alloc, MOST_KEPT) else {
+    let Ok(mut script) = Vec::with_capacity(alloc, MAX_PREFIX_BYTES) else {
         return Err(Fault::NoMemory);
     };
-    match read_bytes(source, MOST_SCRIPT, &mut script) {
+    match read_bytes(input, MAX_SCRIPT_BYTES, &mut script) {
         Err(fault) => Err(Fault::Run(run_fault(fault))),
         Ok(_) => match judge(alloc, registry, script.as_slice()) {
             Err(fault) => Err(fault),
-            Ok(found) => tell(sink, &found),
+            Ok(verdict) => write_verdict(output, &verdict),
         },
     }
 }
@@ -96,14 +96,14 @@ fn judge(alloc: Global, registry: &Registry, source: &[u8]) -> Result<Option<Ref
 }
 
 /// Sends what is found of a script as a line, and says how the program ends by it.
-fn tell<K: Sink>(sink: &mut K, found: &Option<Refusal>) -> Result<Ending, Fault>
-    ensures { Tells K.outlet sink.old (found_of found.now) result sink.new }
+fn write_verdict<K: Sink>(output: &mut K, verdict: &Option<Refusal>) -> Result<Ending, Fault>
+    ensures { WritesVerdict K.outlet output.old (verdict_of verdict.now) result output.new }
 {
-    let (told, ending) = match found {
-        None => (say(sink, b"ok"), Ending::Well),
-        Some(refusal) => (say_refusal(sink, refusal), Ending::Refused),
+    let (written, ending) = match verdict {
+        None => (write_line(output, b"ok"), Ending::Well),
+        Some(refusal) => (write_refusal_line(output, refusal), Ending::Refused),
     };
-    match told {
+    match written {
         Ok(()) => Ok(ending),
         Err(_) => Err(Fault::Run(RunFault::Write)),
     }

@@ -3,7 +3,7 @@
 ghost use Rattle.std.specs.Prelude.{◌≡◌, Err};
 ghost use Rattle.ash_durable.specs.Store.{Creates, Opens};
 ghost use Rattle.ash_registry.specs.Registered.{registered};
-ghost use Rattle.ash_serve.specs.Service.{ServesBy, ServesFrom};
+ghost use Rattle.ash_serve.specs.Service.{ServesHost, ServesFrom};
 ghost use Rattle.ash_serve.specs.declared.program.fault.Fault.TheVariants as faults;
 
 use super::fault::Fault;
@@ -16,7 +16,7 @@ use std::io::{Read, Write};
 
 /// How serving ended, and the disks as they are left.
 #[derive(Drop)]
-pub struct Ended<D> {
+pub struct ServiceEnd<D> {
     pub end: Result<(), Fault>,
     pub a: D,
     pub b: D,
@@ -31,11 +31,11 @@ pub fn serve_stored<D: Disk, R: Read + Drop, W: Write>(
     reader: R,
     writer: &mut W,
     budget: u64,
-) -> Ended<D>
+) -> ServiceEnd<D>
     ensures { ServesFrom D.Disk (Opens D.Disk (registered registry) a b) (R.remaining reader) budget (W.contents writer.old) result.end result.a result.b (W.contents writer.new) }
 {
     match Host::open(alloc, a, b, registry) {
-        Ok(host) => serve_by(alloc, host, reader, writer, budget),
+        Ok(host) => serve_host(alloc, host, reader, writer, budget),
         Err(refused) => refusal(refused),
     }
 }
@@ -49,40 +49,40 @@ pub fn serve_new<D: Disk, R: Read + Drop, W: Write>(
     reader: R,
     writer: &mut W,
     budget: u64,
-) -> Ended<D>
+) -> ServiceEnd<D>
     ensures { ServesFrom D.Disk (Creates D.Disk (registered registry) a b) (R.remaining reader) budget (W.contents writer.old) result.end result.a result.b (W.contents writer.new) }
 {
     match Host::create(alloc, a, b, registry) {
-        Ok(host) => serve_by(alloc, host, reader, writer, budget),
+        Ok(host) => serve_host(alloc, host, reader, writer, budget),
         Err(refused) => refusal(refused),
     }
 }
 
-fn serve_by<D: Disk, R: Read + Drop, W: Write>(
+fn serve_host<D: Disk, R: Read + Drop, W: Write>(
     alloc: Global,
     mut host: Host<D>,
     reader: R,
     writer: &mut W,
     budget: u64,
-) -> Ended<D>
-    ensures { ServesBy D.Disk host (R.remaining reader) budget (W.contents writer.old) result.end result.a result.b (W.contents writer.new) }
+) -> ServiceEnd<D>
+    ensures { ServesHost D.Disk host (R.remaining reader) budget (W.contents writer.old) result.end result.a result.b (W.contents writer.new) }
 {
     let end = match run(alloc, reader, writer, &mut host, budget) {
         Ok(()) => Ok(()),
         Err(fault) => Err(Fault::Run(fault)),
     };
     let (a, b) = host.close();
-    Ended { end, a, b }
+    ServiceEnd { end, a, b }
 }
 
 /// Why there is no host, and the disks that it was to have.
-fn refusal<D>(refused: OpenRefused<D>) -> Ended<D>
+fn refusal<D>(refused: OpenRefused<D>) -> ServiceEnd<D>
     ensures end { result.end ≡ Err (faults.Store refused.fault) }
     ensures a { result.a ≡ refused.a }
     ensures b { result.b ≡ refused.b }
 {
     let OpenRefused { fault, a, b } = refused;
-    Ended {
+    ServiceEnd {
         end: Err(Fault::Store(fault)),
         a,
         b,

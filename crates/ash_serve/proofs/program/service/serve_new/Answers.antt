@@ -4,7 +4,7 @@ use Rattle.ash_serve.proofs.ServiceLemmas.{serves_made, serves_refused}
 use Rattle.ash_serve.proofs.program.service.serve_new.Goals as goal
 
 pub returns-in-Ok : goal.returns-in-Ok
-returns-in-Ok g c = serves_made _ (registered c.args.registry) c.args.a c.args.b c.in-Ok.host _ _ _ _ c.serve_by.result.end c.serve_by.result.a c.serve_by.result.b c.in-Ok.ensures c.serve_by.ensures
+returns-in-Ok g c = serves_made _ (registered c.args.registry) c.args.a c.args.b c.in-Ok.host _ _ _ _ c.serve_host.result.end c.serve_host.result.a c.serve_host.result.b c.in-Ok.ensures c.serve_host.ensures
 
 pub returns-in-Err : goal.returns-in-Err
 returns-in-Err g c =
