@@ -1,4 +1,4 @@
--- What is kept of a source.
+-- What is stored of a source.
 use Rattle.std.proofs.Common.{◌≡◌, ◌<◌, ◌≤◌, ℕ, List, [], ◌∷◌, ◌++◌, length, take, refl, sym, ap, ◌∙◌, arith, zero, suc, nat_lt, Bool, true, false}
 use borrow.Author.Tests.{ltb-true, ltb-false}
 use Rattle.ash_lines.specs.Reading.{source_prefix}
@@ -35,7 +35,7 @@ pub prefix-nil : (bytes : List ℕ) → bytes ≡ [] → bytes ≡ source_prefix
 unfolding source_prefix
 prefix-nil bytes e = e ∙ sym (take-nil 65537)
 
--- one more byte, kept or not
+-- one more byte, stored or not
 pub prefix-more : (source old new : List ℕ) (byte : ℕ) → (length old < 65537 → new ≡ old ++ byte ∷ []) → (65537 ≤ length old → new ≡ old) → old ≡ source_prefix source → new ≡ source_prefix (source ++ byte ∷ [])
 prefix-more source old new byte f g e = more (nat_lt (length old) 65537) refl
   where

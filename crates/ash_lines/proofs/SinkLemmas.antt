@@ -1,4 +1,4 @@
--- Bytes that are put one after another.
+-- Bytes that are written one after another.
 use Rattle.std.proofs.Common.{◌≡◌, ℕ, ◌+◌, ◌<◌, ◌≤◌, List, [], ◌++◌, length, drop, get_or, map, codes, refl, sym, ap, ◌∙◌, subst, arith, Ok, Err, Result, append_assoc, add-one, drop-cons}
 use Rattle.std.proofs.lemmas.List.{append-nil}
 use Rattle.std.proofs.lemmas.Grind.{common_steps}
@@ -8,7 +8,7 @@ use Rattle.ash_lines.specs.Sink.{Outlet, IsOutlet, Accepts, FailsPartway, Writes
 use Rattle.ash_lines.specs.Replies.{names_text}
 use Rattle.ash_lines.specs.declared.sink.WriteFault.{WriteFault}
 
--- nothing was put
+-- nothing was written
 pub accepts-nil : {K : Type 0} (outlet : Outlet K) → IsOutlet outlet → (s : K) → Accepts outlet s [] s
 accepts-nil outlet is s = record { out = []; written = is.nothing s; whole = append-nil (outlet.buffered s) }
 
@@ -37,12 +37,12 @@ accepts-fails outlet is s t u bytes more h k = record {
   whole = sym (append_assoc (outlet.buffered s) bytes more) ∙ (ap (λ (x : List ℕ). x ++ more) h.whole ∙ (append_assoc h.out (outlet.buffered t) more ∙ (ap (λ (x : List ℕ). h.out ++ x) k.whole ∙ sym (append_assoc h.out k.out k.lost))));
 }
 
--- put, and then whatever the next put does
+-- written, and then whatever the next write does
 pub writes-then : {K : Type 0} (outlet : Outlet K) → IsOutlet outlet → (s t u : K) (bytes more : List ℕ) (r : Result (Unit {0}) WriteFault) → Accepts outlet s bytes t → Writes outlet t more r u → Writes outlet s (bytes ++ more) r u
 writes-then outlet is s t u bytes more (Ok x) h k = accepts-then outlet is s t u bytes more h k
 writes-then outlet is s t u bytes more (Err x) h k = accepts-fails outlet is s t u bytes more h k
 
--- put, and then sent
+-- written, and then flushed
 pub accepts-flushes : {K : Type 0} (outlet : Outlet K) → IsOutlet outlet → (s t u : K) (bytes : List ℕ) (r : Result (Unit {0}) WriteFault) → Accepts outlet s bytes t → Flushes outlet t r u → WritesAndFlushes outlet s bytes r u
 accepts-flushes outlet is s t u bytes (Ok x) h k = record {
   written = subst (λ (y : List ℕ). outlet.writes s y u) (ap (λ (y : List ℕ). h.out ++ y) (append-nil (outlet.buffered t)) ∙ sym h.whole) (is.onward s t u h.out (outlet.buffered t ++ []) h.written k.written);
@@ -50,7 +50,7 @@ accepts-flushes outlet is s t u bytes (Ok x) h k = record {
 }
 accepts-flushes outlet is s t u bytes (Err x) h k = subst (λ (y : List ℕ). FailsPartway outlet s y u) (append-nil bytes) (accepts-fails outlet is s t u bytes [] h k)
 
--- put, and then all is sent behind more
+-- written, and then all is flushed after more
 pub writes_line-then : {K : Type 0} (outlet : Outlet K) → IsOutlet outlet → (s t u : K) (bytes more : List ℕ) (r : Result (Unit {0}) WriteFault) → Accepts outlet s bytes t → WritesAndFlushes outlet t more r u → WritesAndFlushes outlet s (bytes ++ more) r u
 writes_line-then outlet is s t u bytes more (Ok x) h k = record {
   written = subst (λ (y : List ℕ). outlet.writes s y u) (sym (append_assoc h.out (outlet.buffered t) more) ∙ (ap (λ (y : List ℕ). y ++ more) (sym h.whole) ∙ append_assoc (outlet.buffered s) bytes more)) (is.onward s t u h.out (outlet.buffered t ++ more) h.written k.written);
@@ -68,7 +68,7 @@ left-piece pieces i d h =
 pub left-none : (pieces : List (Bor (List ℕ))) (i : ℕ) → length pieces ≤ i → flat_map (λ (p : Bor (List ℕ)). p.now) (drop i pieces) ≡ []
 left-none pieces i h = let e : drop i pieces ≡ [] = grind (arith, common_steps) in rw e refl
 
--- names, each behind a blank: the text of those that are left, from one name to the next
+-- names, with a blank before each: the text of those that are left, from one name to the next
 pub left-name : {A : Type 0} (text : A → List ℕ) (names : List A) (i : ℕ) (name : A) → i < length names → get_or names i name ≡ name → names_text (map text (drop i names)) ≡ (codes " " ++ text name) ++ names_text (map text (drop (i + 1) names))
 left-name text names i name h e =
     ap (λ xs. names_text (map text xs)) (drop-cons names i name h)

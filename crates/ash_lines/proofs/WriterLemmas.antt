@@ -52,18 +52,18 @@ slice_rest bytes written = grind (arith, common_steps)
 pub slice_length : (bytes : List ℕ) (written : ℕ) → length (take (length bytes - written) (drop written bytes)) ≤ length bytes - written
 slice_length bytes written = grind (arith, common_steps)
 
--- a front, and what is lost
-pub split_front : (n : ℕ) (xs : List ℕ) → xs ≡ take n xs ++ drop n xs
-split_front zero xs = refl
-split_front (suc n) [] = refl
-split_front (suc n) (x ∷ xs) = ap (λ (ys : List ℕ). x ∷ ys) (split_front n xs)
+-- a prefix, and what is lost
+pub split_prefix : (n : ℕ) (xs : List ℕ) → xs ≡ take n xs ++ drop n xs
+split_prefix zero xs = refl
+split_prefix (suc n) [] = refl
+split_prefix (suc n) (x ∷ xs) = ap (λ (ys : List ℕ). x ∷ ys) (split_prefix n xs)
 
 pub keeps_none : (old new : Option (List ℕ)) → Keeps old new → Appends old new []
 keeps_none None new k = tt
 keeps_none (Some xs) None k = absurd k
 keeps_none (Some xs) (Some ys) k = k ∙ sym (append-nil xs)
 
--- putting bytes behind those that are sent first
+-- bytes that are written after those that were buffered
 
 pub buffered_fault : {K : Type 0} (outlet : Outlet K) (s t : K) (bytes : List ℕ) → ((out : List ℕ) × (lost : List ℕ) × outlet.fails s out t × (outlet.buffered s ≡ out ++ lost)) → FailsPartway outlet s bytes t
 buffered_fault outlet s t bytes h = record { out = h.0; lost = h.1 ++ bytes; broke = h.2; whole = ap (λ (x : List ℕ). x ++ bytes) h.3 ∙ append_assoc h.0 h.1 bytes }

@@ -7,14 +7,14 @@ use Rattle.ash_meaning.specs.declared.request.Argument.TheVariants.{Truth, Numbe
 use Rattle.ash_meaning.specs.State.{Request, Call, Discard, Global, Seq, Snapshot}
 use Rattle.ash_meaning.specs.State as state
 
--- what one request asks: something of the host, or to end the run; or it is no request, or too long a line
+-- What one request asks: something of the host, or to end the run. Or it is no request, or its line is too long.
 pub data Line : Type 0 where
   HostRequest : (request : Request) → Line
   Quit : Line
   BadRequest : Line
   LineTooLong : Line
 
--- a line after which the run goes on: any but `quit`
+-- The run goes on after this line: after any but `quit`.
 abbrev pub GoesOn : Line → Type 0
 GoesOn Quit = ⊥
 GoesOn _ = Unit {0}
@@ -30,7 +30,7 @@ abbrev pub onto : ℕ → List (List ℕ) → List (List ℕ)
 onto byte [] = (byte ∷ []) ∷ []
 onto byte (piece ∷ pieces) = (byte ∷ piece) ∷ pieces
 
--- the pieces of a line between its spaces; two spaces in a row have an empty piece between them
+-- The pieces of a line between its spaces. Two spaces in a row have an empty piece between them.
 unfoldable pub pieces : List ℕ → List (List ℕ)
 pieces [] = [] ∷ []
 pieces (byte ∷ more) = if byte == 32 then [] ∷ pieces more else onto byte (pieces more)
@@ -48,7 +48,7 @@ is_word piece = nat_lt 0 (length piece) && list_all is_visible piece
 abbrev pub is_digit : ℕ → Bool
 is_digit byte = nat_le 48 byte && nat_le byte 57
 
--- the number that digits spell, after those that are read already
+-- the number that digits spell, where those before them spell the first argument
 abbrev pub value_after : ℕ → List ℕ → ℕ
 value_after number [] = number
 value_after number (digit ∷ digits) = value_after (10 * number + (digit - 48)) digits
@@ -94,11 +94,12 @@ arguments_of (word ∷ words) = both (argument_of word) (arguments_of words)
 
 -- Lines.
 
--- what a line says: all that is asked, or a source of so many bytes follows it
+-- What a line asks: all of it is in the line, or a source of so many bytes follows, to be loaded under a name.
 pub data ParsedLine : Type 0 where
   Complete : (line : Line) → ParsedLine
   LoadHeader : (name : List ℕ) → (length : ℕ) → ParsedLine
 
+-- the line of a load, if its length is one
 abbrev pub load_header : List ℕ → Option ℕ → ParsedLine
 load_header name None = Complete BadRequest
 load_header name (Some length) = LoadHeader name length
@@ -108,18 +109,19 @@ abbrev pub parse_load : List (List ℕ) → ParsedLine
 parse_load (name ∷ length ∷ []) = load_header name (length_of length)
 parse_load _ = Complete BadRequest
 
+-- a call, if its arguments are all such
 abbrev pub call_request : List ℕ → List ℕ → Option (List Argument) → ParsedLine
-call_request script function None = Complete BadRequest
-call_request script function (Some arguments) = Complete (HostRequest (Call script function arguments))
+call_request module function None = Complete BadRequest
+call_request module function (Some arguments) = Complete (HostRequest (Call module function arguments))
 
 -- call NAME FUNCTION, then any number of arguments
 abbrev pub parse_call : List (List ℕ) → ParsedLine
-parse_call (script ∷ function ∷ words) = call_request script function (arguments_of words)
+parse_call (module ∷ function ∷ words) = call_request module function (arguments_of words)
 parse_call _ = Complete BadRequest
 
 -- get NAME GLOBAL
 abbrev pub parse_get : List (List ℕ) → ParsedLine
-parse_get (script ∷ name ∷ []) = Complete (HostRequest (Global script name))
+parse_get (module ∷ name ∷ []) = Complete (HostRequest (Global module name))
 parse_get _ = Complete BadRequest
 
 -- discard NAME
@@ -147,13 +149,13 @@ abbrev pub parse_words : List (List ℕ) → ParsedLine
 parse_words [] = Complete BadRequest
 parse_words (verb ∷ words) = parse_verb verb words
 
--- what a line says: words, parted by one space each
+-- What a line asks by its words, between which there is one space each.
 unfoldable pub parse_line : List ℕ → ParsedLine
 parse_line line = if list_all is_word (pieces line) then parse_words (pieces line) else Complete BadRequest
 
 -- The input.
 
--- what stands at the front of the input: nothing, the beginning of a request that the end cuts, or a request and what follows it
+-- what the input begins with: nothing, a request that the end cuts, or a whole request, and what follows it
 pub data Next : Type 0 where
   End : Next
   Cut : Next
@@ -181,7 +183,7 @@ unfoldable pub next : List ℕ → Next
 next [] = End
 next (byte ∷ more) = on_line (cut_line (byte ∷ more))
 
--- The input is these requests one after another, and then this rest.
+-- The input consists of these requests, one after another, and then of this rest.
 abbrev pub ConsistsOf : List ℕ → List Line → List ℕ → Type 0
 ConsistsOf input [] rest = input ≡ rest
 ConsistsOf input (line ∷ lines) rest = (more : List ℕ) × (next input ≡ Whole line more) × ConsistsOf more lines rest

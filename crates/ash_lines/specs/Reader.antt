@@ -9,7 +9,7 @@ use Rattle.ash_lines.specs.declared.reader.Reader.{Reader}
 use Rattle.ash_lines.specs.declared.reader.ByteRead.{ByteRead}
 use Rattle.ash_lines.specs.declared.reader.ByteRead.TheVariants as byte_reads
 
--- what a read came to, where the reader's bytes are known
+-- What reading a byte did to the reader's bytes, where they are known.
 abbrev pub ReadsByte : Option (List ℕ) → ByteRead → Option (List ℕ) → Type 0
 ReadsByte old (byte_reads.Byte byte) new = Consumes old new (byte ∷ [])
 ReadsByte old byte_reads.End new = Keeps old new × IsAtEnd new

@@ -3,7 +3,7 @@ use Rattle.std.specs.Prelude.{◌≡◌, ℕ, ◌+◌, List, [], ◌∷◌, ◌+
 use Rattle.ash_lines.specs.declared.source.ReadFault.{ReadFault}
 use Rattle.ash_lines.specs.declared.source.ReadFault.TheVariants.{TooLong, Failed}
 
--- what a source does between two moments, and where it stands at one
+-- what a source does between two moments, and what is left of it at one
 pub record Feed (S : Type 0) : Type 1 where
   -- these bytes were read
   pub reads : S → List ℕ → S → Type 0
@@ -27,7 +27,7 @@ abbrev pub Faults : {S : Type 0} → Feed S → S → List ℕ → ReadFault →
 Faults feed old bytes TooLong new = feed.reads old bytes new × (feed.allowance new ≡ 0) × feed.unread new
 Faults {S} feed old bytes Failed new = (last : S) × feed.reads old bytes last × feed.fails last new
 
--- one byte, or the end
+-- One byte was read, or the end was.
 abbrev pub ReadsNext : {S : Type 0} → Feed S → S → Result (Option ℕ) ReadFault → S → Type 0
 ReadsNext feed old (Ok None) new = feed.reads old [] new × feed.ended new
 ReadsNext feed old (Ok (Some byte)) new = feed.reads old (byte ∷ []) new

@@ -31,12 +31,12 @@ writer_is_outlet contents = record {
   broken = λ s t u first more h k. (appends-onward (contents s.writer.now) (contents t.writer.now) (contents u.writer.now) first more h.0 k.0, k.1 ∙ h.1, k.2);
 }
 
--- what of the bytes went out, where the writer's are known: all, or so many before a write failed
+-- How many of the bytes went out, where the writer's are known: all, or so many before a write failed.
 abbrev pub WritesOut : Option (List ℕ) → List ℕ → Result (Unit {0}) ℕ → Option (List ℕ) → Type 0
 WritesOut old bytes (Ok _) new = Appends old new bytes
 WritesOut old bytes (Err count) new = Appends old new (take count bytes)
 
--- bytes went out, and this is held behind them; or a front of them did
+-- Bytes went out, and this is buffered after them; or a prefix of them went out.
 abbrev pub WritesThrough : {K : Type 0} → Outlet K → K → List ℕ → Result (Unit {0}) WriteFault → K → List ℕ → Type 0
 WritesThrough outlet old bytes (Ok _) new buffered = outlet.writes old bytes new × (outlet.buffered new ≡ buffered)
 WritesThrough outlet old bytes (Err _) new buffered = (out : List ℕ) × (lost : List ℕ) × outlet.fails old out new × (bytes ≡ out ++ lost)

@@ -12,7 +12,7 @@ const MAX_DIGITS: usize = 20;
 
 /// Whether two words are the same.
 pub(crate) fn is_same(word: &[u8], text: &[u8]) -> bool
-    ensures { result ≡ bytes_eq word.now text.now }
+    ensures same { result ≡ bytes_eq word.now text.now }
 {
     word == text
 }
@@ -20,7 +20,7 @@ pub(crate) fn is_same(word: &[u8], text: &[u8]) -> bool
 /// A number of bytes, below 2^32.
 #[tactic(auto, unfolding(crate::specs::Lines::length_of))]
 pub(crate) fn parse_length(word: &[u8]) -> Option<u32>
-    ensures { result ≡ length_of word.now }
+    ensures value { result ≡ length_of word.now }
 {
     let number = parse_number(word)?;
     if number < 1 << 32 {
@@ -33,7 +33,7 @@ pub(crate) fn parse_length(word: &[u8]) -> Option<u32>
 /// `true`, `false`, or a number with a sign or without one.
 #[tactic(auto, unfolding(crate::specs::Lines::argument_of))]
 pub(crate) fn parse_argument(word: &[u8]) -> Option<Argument>
-    ensures { result ≡ argument_of word.now }
+    ensures value { result ≡ argument_of word.now }
 {
     if is_same(word, b"true") {
         Some(Argument::Truth(true))
@@ -45,7 +45,7 @@ pub(crate) fn parse_argument(word: &[u8]) -> Option<Argument>
 }
 
 fn parse_signed(word: &[u8]) -> Option<Argument>
-    ensures { result ≡ signed_of word.now }
+    ensures value { result ≡ signed_of word.now }
 {
     match word {
         [] => None,
@@ -76,19 +76,19 @@ fn parse_number(word: &[u8]) -> Option<u128>
 }
 
 fn is_number(word: &[u8]) -> bool
-    ensures { result ≡ is_number word.now }
+    ensures digits { result ≡ is_number word.now }
 {
     !word.is_empty() && word.len() <= MAX_DIGITS && is_all_digits(word)
 }
 
 fn is_all_digits(word: &[u8]) -> bool
-    ensures { result ≡ list_all is_digit word.now }
+    ensures digits { result ≡ list_all is_digit word.now }
 {
     word.iter().all(|byte| is_digit(*byte))
 }
 
 fn is_digit(byte: u8) -> bool
-    ensures { result ≡ is_digit byte }
+    ensures digit { result ≡ is_digit byte }
 {
     byte >= b'0' && byte <= b'9'
 }

@@ -25,7 +25,7 @@ pub struct Reader<R> {
     failed: bool,
 }
 
-/// What came of a read.
+/// What reading a byte came to.
 enum ByteRead {
     Byte(u8),
     End,
@@ -78,7 +78,7 @@ impl<R: Read + Drop> Source for Reader<R> {
 
 /// Reads one byte.
 fn read_byte<R: Read>(reader: &mut R) -> ByteRead
-    ensures { ReadsByte (R.remaining reader.old) result (R.remaining reader.new) }
+    ensures byte { ReadsByte (R.remaining reader.old) result (R.remaining reader.new) }
 {
     let mut byte = [0u8; 1];
     'tries: for _i in 0..MAX_TRIES {

@@ -1,4 +1,4 @@
-// Putting a reply, piece by piece, as a line of text.
+// Writing a reply, piece by piece, as a line of text.
 
 ghost use Rattle.std.specs.Prelude.{◌≡◌, ◌∷◌, [], ◌++◌, codes, map, string_bytes};
 ghost use Rattle.std.specs.List.{flat_map};
@@ -6,9 +6,11 @@ ghost use Rattle.ash_meaning.specs.Refusals.{refusal_of};
 ghost use Rattle.ash_meaning.specs.State.{reply_of};
 ghost use Rattle.ash_subset.specs.Outcomes.{end_of};
 ghost use Rattle.ash_lines.specs.Sink.{Writes, WritesAndFlushes};
-ghost use Rattle.ash_lines.specs.Replies.{word_text, exception_text, refusal_name, details_of, details_in, details_text, names_text, refusal_text, place_text, finished_text, end_text, reply_text, seq_text};
+ghost use Rattle.ash_lines.specs.Replies.{line_reply_of, reply_line, reply_text, end_text, finished_text};
+ghost use Rattle.ash_lines.specs.Replies.{exception_text, place_text, seq_text, word_text};
+ghost use Rattle.ash_lines.specs.Replies.{refusal_text, refusal_name, details_of, details_in, details_text, names_text};
 
-use crate::output::{Sink, WriteFault};
+use crate::sink::{Sink, WriteFault};
 use ash_host::Word;
 use ash_meaning::refusal::Refusal;
 use ash_meaning::request::Reply;
@@ -16,54 +18,74 @@ use ash_parse::UnsupportedPart;
 use ash_subset::outcome::{Exception, Outcome};
 use itoa::Buffer;
 
-/// Puts a reply and the end of its line, and sends them.
-pub fn write_reply_line<K: Sink>(output: &mut K, reply: &Reply) -> Result<(), WriteFault>
-    ensures { WritesAndFlushes K.outlet output.old (reply_text (reply_of reply.now) ++ 10 ∷ []) result output.new }
+/// The reply to a line.
+#[derive(Drop)]
+pub enum LineReply {
+    /// What the host replies to the request.
+    Host(Reply),
+    /// The run ends.
+    Quit,
+    /// The line is no request.
+    BadRequest,
+    /// The line is too long.
+    LineTooLong,
+}
+
+/// Writes the reply to a line, as a line, and flushes it.
+pub fn write_line_reply<K: Sink>(output: &mut K, reply: &LineReply) -> Result<(), WriteFault>
+    ensures line { WritesAndFlushes K.outlet output.old (reply_line (line_reply_of reply.now))
+        result output.new }
 {
-    match write_reply(output, reply) {
-        Err(fault) => Err(fault),
-        Ok(()) => end_line(output),
+    match reply {
+        LineReply::Host(reply) => write_reply_line(output, reply),
+        LineReply::Quit => write_line(output, b"ok"),
+        LineReply::BadRequest => write_line(output, b"refused 601 BadRequest"),
+        LineReply::LineTooLong => write_line(output, b"refused 602 LineTooLong"),
     }
 }
 
-/// Puts a refusal and the end of its line, and sends them.
+/// Writes a reply of the host as a line, and flushes it.
+fn write_reply_line<K: Sink>(output: &mut K, reply: &Reply) -> Result<(), WriteFault>
+    ensures line { WritesAndFlushes K.outlet output.old
+        (reply_text (reply_of reply.now) ++ 10 ∷ []) result output.new }
+{
+    write_reply(output, reply)?;
+    end_line(output)
+}
+
+/// Writes a refusal as a line, and flushes it.
 pub fn write_refusal_line<K: Sink>(output: &mut K, refusal: &Refusal) -> Result<(), WriteFault>
-    ensures { WritesAndFlushes K.outlet output.old ((codes "refused " ++ refusal_text (refusal_of refusal.now)) ++ 10 ∷ []) result output.new }
+    ensures line { WritesAndFlushes K.outlet output.old
+        ((codes "refused " ++ refusal_text (refusal_of refusal.now)) ++ 10 ∷ []) result output.new }
 {
-    match write_refusal(output, refusal) {
-        Err(fault) => Err(fault),
-        Ok(()) => end_line(output),
-    }
+    write_refusal(output, refusal)?;
+    end_line(output)
 }
 
-/// Puts a text and the end of its line, and sends them.
+/// Writes a text as a line, and flushes it.
 pub fn write_line<K: Sink>(output: &mut K, text: &[u8]) -> Result<(), WriteFault>
-    ensures { WritesAndFlushes K.outlet output.old (text.now ++ 10 ∷ []) result output.new }
+    ensures line { WritesAndFlushes K.outlet output.old (text.now ++ 10 ∷ []) result output.new }
 {
-    match output.write(text) {
-        Err(fault) => Err(fault),
-        Ok(()) => end_line(output),
-    }
+    output.write(text)?;
+    end_line(output)
 }
 
-/// Ends the line, and sends what is held.
+/// Ends the line, and flushes all that is buffered.
 fn end_line<K: Sink>(output: &mut K) -> Result<(), WriteFault>
-    ensures { WritesAndFlushes K.outlet output.old (10 ∷ []) result output.new }
+    ensures line { WritesAndFlushes K.outlet output.old (10 ∷ []) result output.new }
 {
-    match output.write(b"\n") {
-        Err(fault) => Err(fault),
-        Ok(()) => output.flush(),
-    }
+    output.write(b"\n")?;
+    output.flush()
 }
 
 fn write_reply<K: Sink>(output: &mut K, reply: &Reply) -> Result<(), WriteFault>
-    ensures { Writes K.outlet output.old (reply_text (reply_of reply.now)) result output.new }
+    ensures text { Writes K.outlet output.old (reply_text (reply_of reply.now)) result output.new }
 {
     match reply {
-        Reply::Answer(answer) => match write_outcome(output, &answer.outcome) {
-            Err(fault) => Err(fault),
-            Ok(()) => write_seq(output, answer.seq),
-        },
+        Reply::Answer(answer) => {
+            write_outcome(output, &answer.outcome)?;
+            write_seq(output, answer.seq)
+        }
         Reply::Value(word) => write_ok(output, *word),
         Reply::Seq(seq) => {
             let mut digits = Buffer::new();
@@ -75,14 +97,14 @@ fn write_reply<K: Sink>(output: &mut K, reply: &Reply) -> Result<(), WriteFault>
 }
 
 fn write_seq<K: Sink>(output: &mut K, seq: u64) -> Result<(), WriteFault>
-    ensures { Writes K.outlet output.old (seq_text seq) result output.new }
+    ensures text { Writes K.outlet output.old (seq_text seq) result output.new }
 {
     let mut digits = Buffer::new();
     write_all(output, &[b" seq ".as_slice(), digits.format(seq).as_bytes()])
 }
 
 fn write_outcome<K: Sink>(output: &mut K, outcome: &Outcome) -> Result<(), WriteFault>
-    ensures { Writes K.outlet output.old (end_text (end_of outcome.now)) result output.new }
+    ensures text { Writes K.outlet output.old (end_text (end_of outcome.now)) result output.new }
 {
     match outcome {
         Outcome::Finished(value) => write_finished(output, *value),
@@ -91,15 +113,15 @@ fn write_outcome<K: Sink>(output: &mut K, outcome: &Outcome) -> Result<(), Write
             function,
             line,
         } => write_exception_at(output, *exception, function.as_str(), *line),
-        Outcome::Aborted { function, line } => match output.write(b"aborted") {
-            Err(fault) => Err(fault),
-            Ok(()) => write_place(output, function.as_str(), *line),
-        },
+        Outcome::Aborted { function, line } => {
+            output.write(b"aborted")?;
+            write_place(output, function.as_str(), *line)
+        }
     }
 }
 
 fn write_finished<K: Sink>(output: &mut K, value: Option<Word>) -> Result<(), WriteFault>
-    ensures { Writes K.outlet output.old (finished_text value) result output.new }
+    ensures text { Writes K.outlet output.old (finished_text value) result output.new }
 {
     match value {
         None => output.write(b"ok"),
@@ -108,12 +130,10 @@ fn write_finished<K: Sink>(output: &mut K, value: Option<Word>) -> Result<(), Wr
 }
 
 fn write_ok<K: Sink>(output: &mut K, word: Word) -> Result<(), WriteFault>
-    ensures { Writes K.outlet output.old (codes "ok " ++ word_text word) result output.new }
+    ensures text { Writes K.outlet output.old (codes "ok " ++ word_text word) result output.new }
 {
-    match output.write(b"ok ") {
-        Err(fault) => Err(fault),
-        Ok(()) => write_word(output, word),
-    }
+    output.write(b"ok ")?;
+    write_word(output, word)
 }
 
 fn write_exception_at<K: Sink>(
@@ -122,19 +142,17 @@ fn write_exception_at<K: Sink>(
     function: &str,
     line: u32,
 ) -> Result<(), WriteFault>
-    ensures { Writes K.outlet output.old (codes "exception " ++ (exception_text exception ++ place_text function.now line)) result output.new }
+    ensures text { Writes K.outlet output.old
+        (codes "exception " ++ (exception_text exception ++ place_text function.now line))
+        result output.new }
 {
-    if let Err(fault) = output.write(b"exception ") {
-        return Err(fault);
-    }
-    match write_exception(output, exception) {
-        Err(fault) => Err(fault),
-        Ok(()) => write_place(output, function, line),
-    }
+    output.write(b"exception ")?;
+    write_exception(output, exception)?;
+    write_place(output, function, line)
 }
 
 fn write_place<K: Sink>(output: &mut K, function: &str, line: u32) -> Result<(), WriteFault>
-    ensures { Writes K.outlet output.old (place_text function.now line) result output.new }
+    ensures text { Writes K.outlet output.old (place_text function.now line) result output.new }
 {
     let mut digits = Buffer::new();
     write_all(
@@ -149,7 +167,7 @@ fn write_place<K: Sink>(output: &mut K, function: &str, line: u32) -> Result<(),
 }
 
 fn write_word<K: Sink>(output: &mut K, word: Word) -> Result<(), WriteFault>
-    ensures { Writes K.outlet output.old (word_text word) result output.new }
+    ensures text { Writes K.outlet output.old (word_text word) result output.new }
 {
     let mut digits = Buffer::new();
     match word {
@@ -168,7 +186,7 @@ fn write_word<K: Sink>(output: &mut K, word: Word) -> Result<(), WriteFault>
 }
 
 fn write_exception<K: Sink>(output: &mut K, exception: Exception) -> Result<(), WriteFault>
-    ensures { Writes K.outlet output.old (exception_text exception) result output.new }
+    ensures text { Writes K.outlet output.old (exception_text exception) result output.new }
 {
     match exception {
         Exception::NullPointerAccess => output.write(b"NullPointerAccess"),
@@ -189,7 +207,7 @@ fn write_exception<K: Sink>(output: &mut K, exception: Exception) -> Result<(), 
     }
 }
 
-/// What a refusal tells of a source.
+/// What a refusal reports of a source.
 #[derive(Clone, Copy)]
 enum Details<'a> {
     Nothing,
@@ -201,22 +219,20 @@ enum Details<'a> {
     Names(&'a [String]),
 }
 
-/// A refusal, with what it tells of the source.
+/// Writes a refusal, with what it reports of the source.
 fn write_refusal<K: Sink>(output: &mut K, refusal: &Refusal) -> Result<(), WriteFault>
-    ensures { Writes K.outlet output.old (codes "refused " ++ refusal_text (refusal_of refusal.now)) result output.new }
+    ensures text { Writes K.outlet output.old
+        (codes "refused " ++ refusal_text (refusal_of refusal.now)) result output.new }
 {
-    if let Err(fault) = output.write(b"refused ") {
-        return Err(fault);
-    }
-    match output.write(refusal_name(refusal)) {
-        Err(fault) => Err(fault),
-        Ok(()) => write_details(output, details_in(refusal)),
-    }
+    output.write(b"refused ")?;
+    output.write(refusal_name(refusal))?;
+    write_details(output, details_in(refusal))
 }
 
-/// What a refusal tells of the source, each part behind a blank.
+/// Writes what a refusal reports of the source, with a blank before each part.
 fn write_details<K: Sink>(output: &mut K, details: Details<'_>) -> Result<(), WriteFault>
-    ensures { Writes K.outlet output.old (details_text (details_of details.entry)) result output.new }
+    ensures text { Writes K.outlet output.old (details_text (details_of details.entry))
+        result output.new }
 {
     let mut digits = Buffer::new();
     match details {
@@ -234,21 +250,20 @@ fn write_details<K: Sink>(output: &mut K, details: Details<'_>) -> Result<(), Wr
     }
 }
 
-/// Names, each behind a blank.
+/// Writes names, with a blank before each.
 fn write_names<K: Sink>(output: &mut K, names: &[String]) -> Result<(), WriteFault>
-    ensures { Writes K.outlet output.old (names_text (map string_bytes names.now)) result output.new }
+    ensures text { Writes K.outlet output.old (names_text (map string_bytes names.now))
+        result output.new }
 {
     for name in names {
-        if let Err(fault) = write_all(output, &[b" ".as_slice(), name.as_bytes()]) {
-            return Err(fault);
-        }
+        write_all(output, &[b" ".as_slice(), name.as_bytes()])?;
     }
     Ok(())
 }
 
-/// What a refusal tells of a source.
+/// What a refusal reports of a source.
 fn details_in(refusal: &Refusal) -> Details<'_>
-    ensures { details_of result ≡ details_in (refusal_of refusal.now) }
+    ensures details { details_of result ≡ details_in (refusal_of refusal.now) }
 {
     match refusal {
         Refusal::BadCharacter { at }
@@ -276,7 +291,7 @@ fn details_in(refusal: &Refusal) -> Details<'_>
 
 /// The number and the name of a refusal.
 fn refusal_name(refusal: &Refusal) -> &'static [u8]
-    ensures { result.now ≡ refusal_name (refusal_of refusal.now) }
+    ensures name { result.now ≡ refusal_name (refusal_of refusal.now) }
 {
     match refusal {
         Refusal::BadCharacter { .. } => b"101 BadCharacter",
@@ -315,14 +330,13 @@ fn refusal_name(refusal: &Refusal) -> &'static [u8]
     }
 }
 
-/// Puts pieces one after another.
+/// Writes pieces one after another.
 fn write_all<K: Sink>(output: &mut K, pieces: &[&[u8]]) -> Result<(), WriteFault>
-    ensures { Writes K.outlet output.old (flat_map (λ piece. piece.now) pieces.now) result output.new }
+    ensures text { Writes K.outlet output.old (flat_map (λ piece. piece.now) pieces.now)
+        result output.new }
 {
     for piece in pieces {
-        if let Err(fault) = output.write(piece) {
-            return Err(fault);
-        }
+        output.write(piece)?;
     }
     Ok(())
 }

@@ -18,7 +18,7 @@ pub trait Source {
 
     /// The next byte, or `None` at the end.
     fn next(&mut self) -> Result<Option<u8>, ReadFault>
-        ensures { ReadsNext feed self.old result self.new };
+        ensures byte { ReadsNext feed self.old result self.new };
 
     ghost is_feed: { IsFeed feed };
 }

@@ -1,5 +1,5 @@
--- Checking a script: from what was read and told to what came of it.
-use Rattle.std.proofs.Common.{◌≡◌, ◌<◌, ◌≤◌, ◌⊎◌, ℕ, ◌^◌, Bool, true, false, List, [], ◌++◌, length, refl, sym, ap, ◌∙◌, subst, arith, Option, Some, None, Ok, Err, Result, inl, inr, ⊎_elim}
+-- Checking a script: from what was read and written to what that says of the whole check.
+use Rattle.std.proofs.Common.{◌≡◌, ◌<◌, ◌≤◌, ◌⊎◌, ℕ, ◌^◌, List, [], ◌++◌, length, refl, sym, ap, ◌∙◌, subst, arith, Option, Some, None, Ok, Err, Result, inl, inr, ⊎_elim}
 use Rattle.std.proofs.lemmas.List.{append-nil, take_all, take_at}
 use Rattle.std.specs.Io.KnownBytes.{Consumes, IsAtEnd, Appends, Keeps}
 use Rattle.ash_registry.specs.Calls.{Call as Registration}
@@ -18,6 +18,8 @@ use Rattle.ash_lines.specs.Reader.{left_of, allowance_of, reader_feed}
 use Rattle.ash_lines.specs.Writer.{writer_outlet}
 use Rattle.ash_lines.specs.declared.reader.Reader.{Reader}
 use Rattle.ash_lines.specs.declared.writer.Writer.{Writer}
+use Rattle.ash_lines.specs.declared.bytes.BytesRead.{BytesRead}
+use Rattle.ash_lines.specs.declared.bytes.BytesRead.TheVariants as bytes_read
 use Rattle.ash_lines.specs.declared.source.ReadFault.{ReadFault}
 use Rattle.ash_lines.specs.declared.source.ReadFault.TheVariants as read_faults
 use Rattle.ash_serve.specs.declared.fault.RunFault.TheVariants as faults
@@ -25,14 +27,14 @@ use Rattle.ash_serve.specs.declared.program.ending.Ending.{Ending}
 use Rattle.ash_serve.specs.declared.program.fault.Fault.{Fault}
 use Rattle.ash_serve.specs.declared.program.fault.Fault.TheVariants as program
 
--- so few bytes are all kept
+-- so few bytes are all stored
 prefix-whole : (bytes : List ℕ) → length bytes ≤ 65537 → source_prefix bytes ≡ bytes
 unfolding source_prefix
 prefix-whole bytes h = take_all 65537 bytes h
 
-prefix-front : (front rest : List ℕ) → length front ≡ 65537 → source_prefix (front ++ rest) ≡ front
+prefix-exact : (start rest : List ℕ) → length start ≡ 65537 → source_prefix (start ++ rest) ≡ start
 unfolding source_prefix
-prefix-front front rest e = take_at front rest 65537 e
+prefix-exact start rest e = take_at start rest 65537 e
 
 -- Judging a source.
 
@@ -49,10 +51,10 @@ takes_memory checking refusal h n e =
 
 -- Over a source and a sink.
 
--- what is kept of 65,537 bytes, or of fewer where the source ends, is the script
-pub script_read : {S : Type 0} (feed : Feed S) (s t : S) (came : Bool) (prefix : List ℕ) → ReadsBytes feed s (Ok came) 65537 prefix t → ReadsScript feed s prefix t
-script_read feed s t true prefix h = subst (λ (x : List ℕ). ReadsScript feed s x t) (sym (h.3 ∙ prefix-whole h.0 (omega (arith, h.2)))) (h.1, inl h.2)
-script_read feed s t false prefix h = subst (λ (x : List ℕ). ReadsScript feed s x t) (sym (h.4 ∙ prefix-whole h.0 (omega (arith, h.2)))) (h.1, inr (h.2, h.3))
+-- what is stored of 65,537 bytes, or of fewer where the source ends, is the script
+pub script_read : {S : Type 0} (feed : Feed S) (s t : S) (came : BytesRead) (prefix : List ℕ) → ReadsBytes feed s (Ok came) 65537 prefix t → ReadsScript feed s prefix t
+script_read feed s t bytes_read.All prefix h = subst (λ (x : List ℕ). ReadsScript feed s x t) (sym (h.3 ∙ prefix-whole h.0 (omega (arith, h.2)))) (h.1, inl h.2)
+script_read feed s t bytes_read.Cut prefix h = subst (λ (x : List ℕ). ReadsScript feed s x t) (sym (h.4 ∙ prefix-whole h.0 (omega (arith, h.2)))) (h.1, inr (h.2, h.3))
 
 -- a read failed before that
 pub script_unread : {S K : Type 0} (feed : Feed S) (outlet : Outlet K) (registered : List Registration) (s t : S) (k : K) (fault : ReadFault) (prefix : List ℕ) → ReadsBytes feed s (Err fault) 65537 prefix t → ChecksScript feed outlet registered s k (Err (program.Run (fault_of fault))) t k
@@ -67,7 +69,7 @@ script_unjudged feed outlet registered s t k script (program.Registry fault) h j
 script_unjudged feed outlet registered s t k script (program.Store fault) h j = absurd j
 script_unjudged feed outlet registered s t k script (program.Run fault) h j = absurd j
 
--- the script was read, and what is found of it was told
+-- the script was read, and the verdict on it was written
 pub script_reported : {S K : Type 0} (feed : Feed S) (outlet : Outlet K) (registered : List Registration) (s t : S) (k o : K) (script : List ℕ) (verdict : Option Refusal) (r : Result Ending Fault) → ReadsScript feed s script t → verdict ≡ verdict_on registered script → WritesVerdict outlet k verdict r o → ChecksScript feed outlet registered s k r t o
 script_reported feed outlet registered s t k o script verdict (Ok ending) h e w = (script, h, subst (λ (x : Option Refusal). WritesVerdict outlet k x (Ok ending) o) e w)
 script_reported feed outlet registered s t k o script verdict (Err (program.Run faults.Write)) h e w = (script, h, subst (λ (x : Option Refusal). WritesVerdict outlet k x (Err (program.Run faults.Write)) o) e w)
@@ -87,7 +89,7 @@ script_of None left script h r = tt
 script_of (Some xs) None script h r = absurd h
 script_of (Some xs) (Some ys) script h r =
     ⊎_elim
-    (λ (full : length script ≡ 65537). sym (ap source_prefix h ∙ prefix-front script ys full))
+    (λ (full : length script ≡ 65537). sym (ap source_prefix h ∙ prefix-exact script ys full))
     (λ (e : (length script < 65537) × (ys ≡ [])).
     let all : xs ≡ script = h ∙ (ap (λ (y : List ℕ). script ++ y) e.1 ∙ append-nil script) in
     sym (ap source_prefix all ∙ prefix-whole script (omega (arith, e.0))))
@@ -144,7 +146,7 @@ file_checked remaining contents registered s t k o file r before x e a b n f w =
     subst (λ (y : _). ChecksFile registered file (contents y) r (contents x)) n
     (subst (λ (y : _). ChecksFile registered file (contents k.writer.now) r (contents y)) (sym (f (checked-name remaining contents registered s t k o r w))) checked)
 
--- The program ends by what was found.
+-- The program ends by the verdict.
 
 status-verdict : (verdict : Option Refusal) → ending_status (ending_of verdict) ≡ verdict_status verdict
 status-verdict None = refl

@@ -1,5 +1,5 @@
--- Lines that a host over two disks answered in turn are a run of the definition, up to the first failure, and part of a
--- life of its store.
+-- Requests that a host over two disks replied to in turn are a run of the definition, up to the first failure, and part
+-- of a life of its store.
 use Rattle.std.proofs.Common.{◌≡◌, ℕ, List, [], ◌∷◌, subst}
 use Rattle.ash_disk.specs.Device.{Device}
 use Rattle.ash_durable.specs.Hosting.{Hosted, Carries, CarriesAll}

@@ -1,4 +1,4 @@
--- What bytes spell, as they are read.
+-- What request bytes begin with, as they are read.
 use Rattle.std.proofs.Common.{◌≡◌, ◌<◌, ◌≤◌, ℕ, ◌==◌, nat_lt, true, false, List, [], ◌∷◌, ◌++◌, length, take, drop, refl, ap, ◌∙◌, subst, arith, append_assoc, Some, None}
 use Rattle.std.proofs.lemmas.Grind.{common_steps}
 use Rattle.std.proofs.lemmas.Bool.Decides.{nat_tests}
@@ -57,18 +57,18 @@ spells-long line h l more = ap next (append_assoc line (10 ∷ []) more) ∙ (ne
 pub spells-line : (line : List ℕ) (request : Line) → is_line line ≡ true → length line ≤ 4096 → parse_line line ≡ Complete request → Spells (line ++ 10 ∷ []) request
 spells-line line request h l e more = ap next (append_assoc line (10 ∷ []) more) ∙ (next-short line more h l ∙ rw e refl)
 
--- a source behind its line
+-- a source after its line
 
 source-next : (line name : List ℕ) (count : ℕ) (more : List ℕ) → is_line line ≡ true → length line ≤ 4096 → parse_line line ≡ LoadHeader name count → next ((line ++ 10 ∷ []) ++ more) ≡ after_source name (take count more) (cut_line (drop count more))
 source-next line name count more h l e = ap next (append_assoc line (10 ∷ []) more) ∙ (next-short line more h l ∙ rw e refl)
 
-take-front : (source more : List ℕ) → take (length source) (source ++ more) ≡ source
-take-front [] more = refl
-take-front (byte ∷ source) more = ap (λ (x : List ℕ). byte ∷ x) (take-front source more)
+take-whole : (source more : List ℕ) → take (length source) (source ++ more) ≡ source
+take-whole [] more = refl
+take-whole (byte ∷ source) more = ap (λ (x : List ℕ). byte ∷ x) (take-whole source more)
 
-drop-front : (source more : List ℕ) → drop (length source) (source ++ more) ≡ more
-drop-front [] more = refl
-drop-front (byte ∷ source) more = drop-front source more
+drop-whole : (source more : List ℕ) → drop (length source) (source ++ more) ≡ more
+drop-whole [] more = refl
+drop-whole (byte ∷ source) more = drop-whole source more
 
 line-nil : is_line [] ≡ true
 unfolding is_line
@@ -81,7 +81,7 @@ spells-load line name source count h l e n more =
     ∙ (source-next line name count ((source ++ 10 ∷ []) ++ more) h l e
     ∙ (ap (λ (x : List ℕ). after_source name (take count x) (cut_line (drop count x))) (append_assoc source (10 ∷ []) more)
     ∙ (subst (λ (k : ℕ). after_source name (take k (source ++ 10 ∷ more)) (cut_line (drop k (source ++ 10 ∷ more))) ≡ Whole (HostRequest (Load name source)) more) n
-    (rw (take-front source (10 ∷ more), drop-front source (10 ∷ more), cut-some [] more line-nil) refl))))
+    (rw (take-whole source (10 ∷ more), drop-whole source (10 ∷ more), cut-some [] more line-nil) refl))))
 
 some-others : (name source others more : List ℕ) → 0 < length others → after_source name source (Some (others, more)) ≡ Whole BadRequest more
 some-others name source [] more p = absurd (omega arith)
@@ -94,7 +94,7 @@ spells-unended line name source others count h l e n o p more =
     ∙ (source-next line name count ((source ++ (others ++ 10 ∷ [])) ++ more) h l e
     ∙ (ap (λ (x : List ℕ). after_source name (take count x) (cut_line (drop count x))) (append_assoc source (others ++ 10 ∷ []) more ∙ ap (λ (x : List ℕ). source ++ x) (append_assoc others (10 ∷ []) more))
     ∙ (subst (λ (k : ℕ). after_source name (take k (source ++ (others ++ 10 ∷ more))) (cut_line (drop k (source ++ (others ++ 10 ∷ more)))) ≡ Whole BadRequest more) n
-    (rw (take-front source (others ++ 10 ∷ more), drop-front source (others ++ 10 ∷ more), cut-some others more o) (some-others name source others more p)))))
+    (rw (take-whole source (others ++ 10 ∷ more), drop-whole source (others ++ 10 ∷ more), cut-some others more o) (some-others name source others more p)))))
 
 drop-short : (count : ℕ) (bytes : List ℕ) → length bytes ≤ count → drop count bytes ≡ []
 drop-short count bytes h = grind (arith, common_steps)
@@ -111,4 +111,4 @@ cut-source line name bytes count h l e n = source-next line name count bytes h l
 pub cut-unended : (line name source others : List ℕ) (count : ℕ) → is_line line ≡ true → length line ≤ 4096 → parse_line line ≡ LoadHeader name count → length source ≡ count → is_line others ≡ true → next ((line ++ 10 ∷ []) ++ (source ++ others)) ≡ Cut
 cut-unended line name source others count h l e n o =
     source-next line name count (source ++ others) h l e
-    ∙ subst (λ (k : ℕ). after_source name (take k (source ++ others)) (cut_line (drop k (source ++ others))) ≡ Cut) n (rw (drop-front source others, cut-none others o) refl)
+    ∙ subst (λ (k : ℕ). after_source name (take k (source ++ others)) (cut_line (drop k (source ++ others))) ≡ Cut) n (rw (drop-whole source others, cut-none others o) refl)

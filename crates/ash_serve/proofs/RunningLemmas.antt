@@ -46,7 +46,7 @@ pub keeps_all : (known : Option (List ℕ)) → Keeps known known
 keeps_all None = tt
 keeps_all (Some xs) = refl
 
--- the turns so far, and bytes that were read after them
+-- the run so far, and bytes that were read after it
 abbrev run-of : {R W H : Type 0} (remaining : R → Option (List ℕ)) (contents : W → Option (List ℕ)) (handles : RequestRelation H) (budget : ℕ) (s m t : Reader R) (k n : Writer W) (h j : H) (rest : List ℕ) → allowance_of s ≡ 2 ^ 40 → Log (reader_feed remaining) (writer_outlet contents) handles budget s k h m n j → (reader_feed remaining).reads m rest t → Run handles budget h j
 run-of remaining contents handles budget s m t k n h j rest a log took =
     let whole = (reader_is_feed remaining).onward s m t log.read rest log.took took in
@@ -60,7 +60,7 @@ run-of remaining contents handles budget s m t k n h j rest a log took =
       bounded = omega (arith, whole.1, a);
     }
 
--- the same with nothing after them
+-- the same with nothing after it
 abbrev run-nil : {R W H : Type 0} (remaining : R → Option (List ℕ)) (contents : W → Option (List ℕ)) (handles : RequestRelation H) (budget : ℕ) (s m : Reader R) (k n : Writer W) (h j : H) → allowance_of s ≡ 2 ^ 40 → Log (reader_feed remaining) (writer_outlet contents) handles budget s k h m n j → Run handles budget h j
 run-nil remaining contents handles budget s m k n h j a log = record {
   read = log.read;
@@ -83,7 +83,7 @@ run_ends {H = H} remaining contents handles budget s t k o h i input (Ok x) e a 
     let all : (run : Run handles budget h j) × ReadsPrefix input run.read × Appends (contents k.writer.now) (contents n.writer.now) (text_of run.replies) × (run.rest ≡ []) × ((ReadsAll input run.read × GoOn run.lines) ⊎ EndsWithQuit run.lines)
     = (run, reads_prefix input (left_of remaining t) log.read from, log.written.0, refl, inl (reads_all input (left_of remaining t) log.read from over.ended, w.3.on)) in
     subst (λ (y : H). (run : Run handles budget h y) × ReadsPrefix input run.read × Appends (contents k.writer.now) (contents o.writer.now) (text_of run.replies) × (run.rest ≡ []) × ((ReadsAll input run.read × GoOn run.lines) ⊎ EndsWithQuit run.lines)) (sym over.host_same)
-    (subst (λ (y : Writer _). (run : Run handles budget h j) × ReadsPrefix input run.read × Appends (contents k.writer.now) (contents y.writer.now) (text_of run.replies) × (run.rest ≡ []) × ((ReadsAll input run.read × GoOn run.lines) ⊎ EndsWithQuit run.lines)) (sym over.sink_same) all))
+    (subst (λ (y : Writer _). (run : Run handles budget h j) × ReadsPrefix input run.read × Appends (contents k.writer.now) (contents y.writer.now) (text_of run.replies) × (run.rest ≡ []) × ((ReadsAll input run.read × GoOn run.lines) ⊎ EndsWithQuit run.lines)) (sym over.output_same) all))
     (λ (left : HandlesLine (reader_feed remaining) handles budget m j Quit QuitReply t i × WritesAll (writer_outlet contents) n (reply_line QuitReply) o).
     let more = log-more (reader_feed remaining) (writer_outlet contents) (reader_is_feed remaining) (writer_is_outlet contents) handles budget s m t k n o h j i Quit QuitReply log left.0 left.1 in (
       run-nil remaining contents handles budget s t k o h i a more,
@@ -97,17 +97,17 @@ run_ends remaining contents handles budget s t k o h i input (Err faults.Truncat
     let m = w.0 in let n = w.1 in let j = w.2 in let log = w.3.log in let cut = w.4 in
     let whole = (reader_is_feed remaining).onward s m t log.read cut.rest log.took cut.took in
     let from : Consumes input (left_of remaining t) (log.read ++ cut.rest) = subst (λ (y : Option (List ℕ)). Consumes y (left_of remaining t) (log.read ++ cut.rest)) e whole.0 in
-    rw (cut.host_same, cut.sink_same) (run-of remaining contents handles budget s m t k n h j cut.rest a log cut.took, reads_all input (left_of remaining t) (log.read ++ cut.rest) from cut.ended, log.written.0, cut.cut, w.3.on)
+    rw (cut.host_same, cut.output_same) (run-of remaining contents handles budget s m t k n h j cut.rest a log cut.took, reads_all input (left_of remaining t) (log.read ++ cut.rest) from cut.ended, log.written.0, cut.cut, w.3.on)
 run_ends remaining contents handles budget s t k o h i input (Err faults.TooLong) e a w =
     let m = w.0 in let n = w.1 in let j = w.2 in let log = w.3.log in let f = w.4 in
     let whole = (reader_is_feed remaining).onward s m t log.read f.rest log.took f.faults.0 in
     let from : Consumes input (left_of remaining t) (log.read ++ f.rest) = subst (λ (y : Option (List ℕ)). Consumes y (left_of remaining t) (log.read ++ f.rest)) e whole.0 in
-    rw (f.host_same, f.sink_same) (run-of remaining contents handles budget s m t k n h j f.rest a log f.faults.0, reads_proper_prefix input (left_of remaining t) (log.read ++ f.rest) from (has-more t.extra (reader_remaining remaining t.reader) f.faults.2), log.written.0, f.unfinished, omega (arith, whole.1, a, f.faults.1), w.3.on)
+    rw (f.host_same, f.output_same) (run-of remaining contents handles budget s m t k n h j f.rest a log f.faults.0, reads_proper_prefix input (left_of remaining t) (log.read ++ f.rest) from (has-more t.extra (reader_remaining remaining t.reader) f.faults.2), log.written.0, f.unfinished, omega (arith, whole.1, a, f.faults.1), w.3.on)
 run_ends remaining contents handles budget s t k o h i input (Err faults.Read) e a w =
     let m = w.0 in let n = w.1 in let j = w.2 in let log = w.3.log in let f = w.4 in let last = f.faults.0 in
     let whole = (reader_is_feed remaining).onward s m last log.read f.rest log.took f.faults.1 in
     let from : Consumes input (left_of remaining last) (log.read ++ f.rest) = subst (λ (y : Option (List ℕ)). Consumes y (left_of remaining last) (log.read ++ f.rest)) e whole.0 in
-    rw (f.host_same, f.sink_same) (run-of remaining contents handles budget s m last k n h j f.rest a log f.faults.1, reads_prefix input (left_of remaining last) (log.read ++ f.rest) from, log.written.0, f.unfinished, w.3.on)
+    rw (f.host_same, f.output_same) (run-of remaining contents handles budget s m last k n h j f.rest a log f.faults.1, reads_prefix input (left_of remaining last) (log.read ++ f.rest) from, log.written.0, f.unfinished, w.3.on)
 run_ends remaining contents handles budget s t k o h i input (Err faults.Write) e a w =
     let m = w.0 in let n = w.1 in let j = w.2 in let log = w.3.log in let line = w.4.0 in let line_reply = w.4.1 in let served = w.4.2 in let stops = w.4.3 in
     let whole = (reader_is_feed remaining).onward s m t log.read served.bytes log.took served.took in (
@@ -134,16 +134,16 @@ run_ends remaining contents handles budget s t k o h i input (Err faults.Write) 
     )
 run_ends remaining contents handles budget s t k o h i input (Err faults.NoMemory) e a w = (w.2, subst (λ (y : Writer _). Keeps (contents k.writer.now) (contents y.writer.now)) (sym w.1) (keeps_all (contents k.writer.now)))
 
--- a run keeps its writer
+-- a run writes to the same writer to its end
 pub serves_name : {R W H : Type 0} (remaining : R → Option (List ℕ)) (contents : W → Option (List ℕ)) (handles : RequestRelation H) (budget : ℕ) (s t : Reader R) (k o : Writer W) (h i : H) (r : Result (Unit {0}) RunFault) → Serves (reader_feed remaining) (writer_outlet contents) handles budget s k h r t o i → o.writer.ghost_name ≡ k.writer.ghost_name
 serves_name remaining contents handles budget s t k o h i (Ok x) w =
     ⊎_elim
-    (λ (over : EndsBetweenRequests (reader_feed remaining) w.0 w.1 w.2 t o i). ap (λ (y : Writer _). y.writer.ghost_name) over.sink_same ∙ w.3.log.written.1)
+    (λ (over : EndsBetweenRequests (reader_feed remaining) w.0 w.1 w.2 t o i). ap (λ (y : Writer _). y.writer.ghost_name) over.output_same ∙ w.3.log.written.1)
     (λ (left : HandlesLine (reader_feed remaining) handles budget w.0 w.2 Quit QuitReply t i × WritesAll (writer_outlet contents) w.1 (reply_line QuitReply) o). left.1.written.1 ∙ w.3.log.written.1)
     w.4
-serves_name remaining contents handles budget s t k o h i (Err faults.Truncated) w = ap (λ (y : Writer _). y.writer.ghost_name) w.4.sink_same ∙ w.3.log.written.1
-serves_name remaining contents handles budget s t k o h i (Err faults.TooLong) w = ap (λ (y : Writer _). y.writer.ghost_name) w.4.sink_same ∙ w.3.log.written.1
-serves_name remaining contents handles budget s t k o h i (Err faults.Read) w = ap (λ (y : Writer _). y.writer.ghost_name) w.4.sink_same ∙ w.3.log.written.1
+serves_name remaining contents handles budget s t k o h i (Err faults.Truncated) w = ap (λ (y : Writer _). y.writer.ghost_name) w.4.output_same ∙ w.3.log.written.1
+serves_name remaining contents handles budget s t k o h i (Err faults.TooLong) w = ap (λ (y : Writer _). y.writer.ghost_name) w.4.output_same ∙ w.3.log.written.1
+serves_name remaining contents handles budget s t k o h i (Err faults.Read) w = ap (λ (y : Writer _). y.writer.ghost_name) w.4.output_same ∙ w.3.log.written.1
 serves_name remaining contents handles budget s t k o h i (Err faults.Write) w = w.4.3.broke.1 ∙ w.3.log.written.1
 serves_name remaining contents handles budget s t k o h i (Err faults.NoMemory) w = ap (λ (y : Writer _). y.writer.ghost_name) w.1
 
@@ -154,7 +154,7 @@ run_writes remaining contents handles budget s t k o h i input r before x e a b 
     subst (λ (y : _). RunEnds input handles budget h (contents y) r i (contents x)) b
     (subst (λ (y : _). RunEnds input handles budget h (contents k.writer.now) r i (contents y)) (sym (f (serves_name remaining contents handles budget s t k o h i r w))) ends)
 
--- what each request keeps, a run keeps
+-- what each request preserves, a run preserves
 
 replies-preserve : {H : Type 0} (handles : RequestRelation H) (holds : H → Type 0) → Preserves handles holds → (budget : ℕ) (line : Line) (line_reply : LineReply) (old new : H) → RepliesTo handles budget old line line_reply new → holds old → holds new
 replies-preserve handles holds is budget (HostRequest request) (HostReply reply) old new a h = is budget request old new reply a h

@@ -10,7 +10,7 @@ use Rattle.ash_serve.specs.declared.fault.RunFault.{RunFault}
 use Rattle.ash_serve.specs.declared.program.fault.Fault.{Fault}
 use Rattle.ash_serve.specs.declared.program.fault.Fault.TheVariants.{Usage, NoMemory, Registry, Store, Run}
 
--- how a run ended, as the program tells it
+-- how a run ended, as the program reports it
 abbrev pub end_of : Result (Unit {0}) RunFault → Result (Unit {0}) Fault
 end_of (Ok done) = Ok done
 end_of (Err fault) = Err (Run fault)
@@ -37,7 +37,7 @@ serves_made device registered a b host input before after budget r x y begun w =
 pub serves_opened : {D : Type 0} (device : Device D) (registered : List Call) (a b : D) (host : Hosted D) (input before after : Option (List ℕ)) (budget : ℕ) (r : Result (Unit {0}) Fault) (x y : D) → Opens device registered a b (Ok host) → ServesHost device host input budget before r x y after → ServesFrom device (Opens device registered a b) input budget before r x y after
 serves_opened device registered a b host input before after budget r x y begun w = serves_from device (Opens device registered a b) host input before after budget r x y begun w
 
--- a refusal, by what is handed on of it
+-- a refusal, by what is returned of it
 pub serves_refused : {D : Type 0} (device : Device D) (begins : Result (Hosted D) (OpenRefused D) → Type 0) (refused : OpenRefused D) (input before : Option (List ℕ)) (budget : ℕ) (r : Result (Unit {0}) Fault) (x y : D) → r ≡ Err (Store refused.fault) → x ≡ refused.a → y ≡ refused.b → begins (Err refused) → ServesFrom device begins input budget before r x y before
 serves_refused device begins refused input before budget r x y r_is x_is y_is begun =
     subst (λ (end : Result (Unit {0}) Fault). ServesFrom device begins input budget before end x y before) (sym r_is) (refused, begun, refl, x_is, y_is, refl)

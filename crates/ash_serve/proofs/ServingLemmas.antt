@@ -1,70 +1,57 @@
--- A run, turn by turn.
+-- A run, request by request.
 use Rattle.std.proofs.Common.{◌≡◌, ◌<◌, ℕ, true, false, List, [], ◌∷◌, ◌++◌, length, refl, sym, ap, ◌∙◌, subst, arith, append_assoc, Some, None, Ok, Err, Result}
 use Rattle.std.proofs.lemmas.List.{append-nil}
 use Rattle.std.specs.List.{AllByRecursion}
 use Rattle.ash_lines.specs.Source.{Feed, IsFeed}
 use Rattle.ash_lines.specs.Sink.{Outlet, IsOutlet, WritesAll, FailsPartway}
 use Rattle.ash_lines.specs.Lines.{Line, HostRequest, Quit, BadRequest, LineTooLong, GoesOn, Whole, next, ConsistsOf, is_unfinished}
-use Rattle.ash_lines.specs.Replies.{LineReply, HostReply, QuitReply, BadRequestReply, LineTooLongReply, reply_line, text_of}
-use Rattle.ash_serve.specs.Serving.{RequestRelation, HandlesNext, ServesNext, HandlesLine, RepliesTo, RepliesToAll, Spells, Log, OngoingLog, Serves, Ends, line_reply_of, turn_after}
+use Rattle.ash_lines.specs.Replies.{LineReply, HostReply, QuitReply, BadRequestReply, LineTooLongReply, line_reply_of, reply_line, text_of}
+use Rattle.ash_serve.specs.Serving.{RequestRelation, HandlesNext, HandlesLine, RepliesTo, RepliesToAll, Spells, Log, OngoingLog, Serves, EndsByFault, EndsBetweenRequests, ends_run}
 use Rattle.ash_serve.specs.declared.fault.RunFault.{RunFault}
 use Rattle.ash_serve.specs.declared.fault.RunFault.TheVariants as faults
-use Rattle.ash_serve.specs.declared.request.LineReply.{LineReply as CodeLineReply}
-use Rattle.ash_serve.specs.declared.request.LineReply.TheVariants as code_replies
-use Rattle.ash_serve.specs.declared.turn.Turn.{Turn}
-use Rattle.ash_serve.specs.declared.turn.Turn.TheVariants as turns
+use Rattle.ash_lines.specs.declared.reply.LineReply as code
 
--- one turn, by what taking the request came to
+-- how a run ends, by what reading and handling the next request did
 
-pub turns_fault : {S K H : Type 0} (feed : Feed S) (outlet : Outlet K) (handles : RequestRelation H) (budget : ℕ) (s t : S) (k : K) (h j : H) (fault : RunFault) → HandlesNext feed handles budget s h (Err fault) t j → ServesNext feed outlet handles budget s k h (Err fault) t k j
-turns_fault feed outlet handles budget s t k h j faults.Truncated w = record { rest = w.0; cut = w.3; took = w.1; ended = w.2; sink_same = refl; host_same = w.4 }
-turns_fault feed outlet handles budget s t k h j faults.TooLong w = record { rest = w.0; unfinished = w.2; faults = w.1; sink_same = refl; host_same = w.3 }
-turns_fault feed outlet handles budget s t k h j faults.Read w = record { rest = w.0; unfinished = w.2; faults = w.1; sink_same = refl; host_same = w.3 }
-turns_fault feed outlet handles budget s t k h j faults.Write w = absurd w
-turns_fault feed outlet handles budget s t k h j faults.NoMemory w = absurd w
+pub fault_ends : {S K H : Type 0} (feed : Feed S) (outlet : Outlet K) (handles : RequestRelation H) (budget : ℕ) (s t : S) (k : K) (h j : H) (fault : RunFault) → HandlesNext feed handles budget s h (Err fault) t j → EndsByFault feed outlet handles budget s k h fault t k j
+fault_ends feed outlet handles budget s t k h j faults.Truncated w = record { rest = w.0; cut = w.3; took = w.1; ended = w.2; output_same = refl; host_same = w.4 }
+fault_ends feed outlet handles budget s t k h j faults.TooLong w = record { rest = w.0; unfinished = w.2; faults = w.1; output_same = refl; host_same = w.3 }
+fault_ends feed outlet handles budget s t k h j faults.Read w = record { rest = w.0; unfinished = w.2; faults = w.1; output_same = refl; host_same = w.3 }
+fault_ends feed outlet handles budget s t k h j faults.Write w = absurd w
+fault_ends feed outlet handles budget s t k h j faults.NoMemory w = absurd w
 
-pub turns_over : {S K H : Type 0} (feed : Feed S) (outlet : Outlet K) (handles : RequestRelation H) (budget : ℕ) (s t : S) (k : K) (h j : H) → HandlesNext feed handles budget s h (Ok None) t j → ServesNext feed outlet handles budget s k h (Ok turns.Over) t k j
-turns_over feed outlet handles budget s t k h j w = record { took = w.0; ended = w.1; sink_same = refl; host_same = w.2 }
+pub input_ends : {S K H : Type 0} (feed : Feed S) (handles : RequestRelation H) (budget : ℕ) (s t : S) (k : K) (h j : H) → HandlesNext feed handles budget s h (Ok None) t j → EndsBetweenRequests feed s k h t k j
+input_ends feed handles budget s t k h j w = record { took = w.0; ended = w.1; output_same = refl; host_same = w.2 }
 
-pub turns_write : {S K H : Type 0} (feed : Feed S) (outlet : Outlet K) (handles : RequestRelation H) (budget : ℕ) (s t : S) (k n : K) (h j : H) (line_reply : CodeLineReply) → HandlesNext feed handles budget s h (Ok (Some line_reply)) t j → FailsPartway outlet k (reply_line (line_reply_of line_reply)) n → ServesNext feed outlet handles budget s k h (Err faults.Write) t n j
-turns_write feed outlet handles budget s t k n h j line_reply w x = (w.0, line_reply_of line_reply, w.1, x)
+pub write_ends : {S K H : Type 0} (feed : Feed S) (outlet : Outlet K) (handles : RequestRelation H) (budget : ℕ) (s t : S) (k n : K) (h j : H) (reply : code.LineReply) → HandlesNext feed handles budget s h (Ok (Some reply)) t j → FailsPartway outlet k (reply_line (line_reply_of reply)) n → EndsByFault feed outlet handles budget s k h faults.Write t n j
+write_ends feed outlet handles budget s t k n h j reply w x = (w.0, line_reply_of reply, w.1, x)
 
--- only `quit` is told so
-left_quit : {S H : Type 0} (feed : Feed S) (handles : RequestRelation H) (budget : ℕ) (s t : S) (h j : H) (line : Line) → HandlesLine feed handles budget s h line QuitReply t j → HandlesLine feed handles budget s h Quit QuitReply t j
-left_quit feed handles budget s t h j (HostRequest request) w = absurd w.handled
-left_quit feed handles budget s t h j Quit w = w
-left_quit feed handles budget s t h j BadRequest w = absurd w.handled
-left_quit feed handles budget s t h j LineTooLong w = absurd w.handled
+-- the reply that ends a run is that to `quit`
+quit_replied : {S H : Type 0} (feed : Feed S) (handles : RequestRelation H) (budget : ℕ) (s t : S) (h j : H) (line : Line) (reply : LineReply) → ends_run reply ≡ true → HandlesLine feed handles budget s h line reply t j → (reply ≡ QuitReply) × HandlesLine feed handles budget s h Quit QuitReply t j
+quit_replied feed handles budget s t h j Quit QuitReply e w = (refl, w)
+quit_replied feed handles budget s t h j (HostRequest request) QuitReply e w = absurd w.handled
+quit_replied feed handles budget s t h j BadRequest QuitReply e w = absurd w.handled
+quit_replied feed handles budget s t h j LineTooLong QuitReply e w = absurd w.handled
+quit_replied feed handles budget s t h j line (HostReply reply) e w = absurd (let q : false ≡ true = e in cc)
+quit_replied feed handles budget s t h j line BadRequestReply e w = absurd (let q : false ≡ true = e in cc)
+quit_replied feed handles budget s t h j line LineTooLongReply e w = absurd (let q : false ≡ true = e in cc)
 
--- what is told of other lines
-abbrev IsOther : LineReply → Type 0
-IsOther QuitReply = ⊥
-IsOther _ = Unit {0}
+pub quit_ends : {S K H : Type 0} (feed : Feed S) (outlet : Outlet K) (handles : RequestRelation H) (budget : ℕ) (s t : S) (k n : K) (h j : H) (reply : code.LineReply) → ends_run (line_reply_of reply) ≡ true → HandlesNext feed handles budget s h (Ok (Some reply)) t j → WritesAll outlet k (reply_line (line_reply_of reply)) n → HandlesLine feed handles budget s h Quit QuitReply t j × WritesAll outlet k (reply_line QuitReply) n
+quit_ends feed outlet handles budget s t k n h j reply e w x =
+    let q = quit_replied feed handles budget s t h j w.0 (line_reply_of reply) e w.1 in
+    (q.1, subst (λ (y : LineReply). WritesAll outlet k (reply_line y) n) q.0 x)
 
-goes_on : {H : Type 0} (handles : RequestRelation H) (budget : ℕ) (h j : H) (line : Line) (line_reply : LineReply) → IsOther line_reply → RepliesTo handles budget h line line_reply j → GoesOn line
-goes_on handles budget h j (HostRequest request) line_reply other a = tt
-goes_on handles budget h j BadRequest line_reply other a = tt
-goes_on handles budget h j LineTooLong line_reply other a = tt
-goes_on handles budget h j Quit (HostReply reply) other a = absurd a
-goes_on handles budget h j Quit QuitReply other a = absurd other
-goes_on handles budget h j Quit BadRequestReply other a = absurd a
-goes_on handles budget h j Quit LineTooLongReply other a = absurd a
+-- after any other reply it goes on
+pub goes_on : {H : Type 0} (handles : RequestRelation H) (budget : ℕ) (h j : H) (line : Line) (reply : LineReply) → ends_run reply ≡ false → RepliesTo handles budget h line reply j → GoesOn line
+goes_on handles budget h j (HostRequest request) reply e a = tt
+goes_on handles budget h j BadRequest reply e a = tt
+goes_on handles budget h j LineTooLong reply e a = tt
+goes_on handles budget h j Quit (HostReply reply) e a = absurd a
+goes_on handles budget h j Quit QuitReply e a = absurd (let q : true ≡ false = e in cc)
+goes_on handles budget h j Quit BadRequestReply e a = absurd a
+goes_on handles budget h j Quit LineTooLongReply e a = absurd a
 
-pub turns_on : {S K H : Type 0} (feed : Feed S) (outlet : Outlet K) (handles : RequestRelation H) (budget : ℕ) (s t : S) (k n : K) (h j : H) (line_reply : CodeLineReply) → HandlesNext feed handles budget s h (Ok (Some line_reply)) t j → WritesAll outlet k (reply_line (line_reply_of line_reply)) n → ServesNext feed outlet handles budget s k h (Ok (turn_after (line_reply_of line_reply))) t n j
-turns_on feed outlet handles budget s t k n h j (code_replies.Host reply) w x = (w.0, line_reply_of (code_replies.Host reply), w.1, x, goes_on handles budget h j w.0 (line_reply_of (code_replies.Host reply)) tt w.1.handled)
-turns_on feed outlet handles budget s t k n h j code_replies.Quit w x = (left_quit feed handles budget s t h j w.0 w.1, x)
-turns_on feed outlet handles budget s t k n h j code_replies.BadRequest w x = (w.0, BadRequestReply, w.1, x, goes_on handles budget h j w.0 BadRequestReply tt w.1.handled)
-turns_on feed outlet handles budget s t k n h j code_replies.LineTooLong w x = (w.0, LineTooLongReply, w.1, x, goes_on handles budget h j w.0 LineTooLongReply tt w.1.handled)
-
-pub turns_answered : {S K H : Type 0} (feed : Feed S) (outlet : Outlet K) (handles : RequestRelation H) (budget : ℕ) (s t : S) (k n : K) (h j : H) (line_reply : CodeLineReply) (r : Result Turn RunFault) → HandlesNext feed handles budget s h (Ok (Some line_reply)) t j → Ends outlet k (line_reply_of line_reply) r n → ServesNext feed outlet handles budget s k h r t n j
-turns_answered feed outlet handles budget s t k n h j line_reply (Ok turn) w x = rw x.0 (turns_on feed outlet handles budget s t k n h j line_reply w x.1)
-turns_answered feed outlet handles budget s t k n h j line_reply (Err faults.Write) w x = turns_write feed outlet handles budget s t k n h j line_reply w x
-turns_answered feed outlet handles budget s t k n h j line_reply (Err faults.Truncated) w x = absurd x
-turns_answered feed outlet handles budget s t k n h j line_reply (Err faults.TooLong) w x = absurd x
-turns_answered feed outlet handles budget s t k n h j line_reply (Err faults.Read) w x = absurd x
-turns_answered feed outlet handles budget s t k n h j line_reply (Err faults.NoMemory) w x = absurd x
-
--- what is asked is some bytes
+-- a request is some bytes
 
 next-nil : is_unfinished (next []) ≡ true
 unfolding next
@@ -122,12 +109,12 @@ ongoing-more feed outlet is io handles budget s m t k n o h i j line line_reply 
   on = all-more gone.log.lines line gone.on on;
 }
 
--- a turn takes from the allowance
+-- a request takes from the allowance
 pub served-falls : {S H : Type 0} (feed : Feed S) → IsFeed feed → (handles : RequestRelation H) (budget : ℕ) (s t : S) (h j : H) (line : Line) (line_reply : LineReply) → HandlesLine feed handles budget s h line line_reply t j → feed.allowance t < feed.allowance s
 served-falls feed is handles budget s t h j line line_reply w = let c = is.counted s t w.bytes w.took in let n = spells-some w.bytes line w.spells in omega (arith, c, n)
 
 -- the end of a run by a fault
-pub serves_fault : {S K H : Type 0} (feed : Feed S) (outlet : Outlet K) (handles : RequestRelation H) (budget : ℕ) (s m t : S) (k n o : K) (h i j : H) (fault : RunFault) → OngoingLog feed outlet handles budget s k h m n i → ServesNext feed outlet handles budget m n i (Err fault) t o j → Serves feed outlet handles budget s k h (Err fault) t o j
+pub serves_fault : {S K H : Type 0} (feed : Feed S) (outlet : Outlet K) (handles : RequestRelation H) (budget : ℕ) (s m t : S) (k n o : K) (h i j : H) (fault : RunFault) → OngoingLog feed outlet handles budget s k h m n i → EndsByFault feed outlet handles budget m n i fault t o j → Serves feed outlet handles budget s k h (Err fault) t o j
 serves_fault feed outlet handles budget s m t k n o h i j faults.Truncated log w = (m, n, i, log, w)
 serves_fault feed outlet handles budget s m t k n o h i j faults.TooLong log w = (m, n, i, log, w)
 serves_fault feed outlet handles budget s m t k n o h i j faults.Read log w = (m, n, i, log, w)

@@ -1,4 +1,4 @@
--- Checking a script: its bytes are read and judged, and what is found of it is told.
+-- Checking a script: its bytes are read and judged, and the verdict is written.
 use Rattle.std.specs.Prelude.{◌≡◌, ◌<◌, ◌⊎◌, ℕ, List, [], ◌∷◌, ◌++◌, length, codes, Option, Some, None, option_map, Result, Ok, Err, IfSome}
 use Rattle.std.specs.Io.KnownBytes.{Appends, Keeps}
 use Rattle.ash_registry.specs.Calls.{Call as Registration}
@@ -18,21 +18,21 @@ use Rattle.ash_serve.specs.declared.program.ending.Ending.TheVariants as endings
 use Rattle.ash_serve.specs.declared.program.fault.Fault.{Fault}
 use Rattle.ash_serve.specs.declared.program.fault.Fault.TheVariants as program
 
--- What is told of a script: `ok`, or its refusal as `load` tells it.
+-- the text of the verdict on a script: `ok`, or its refusal as the reply to a `load` has it
 abbrev pub verdict_text : Option Refusal → List ℕ
 verdict_text None = codes "ok"
 verdict_text (Some refusal) = codes "refused " ++ refusal_text refusal
 
--- that as a line
+-- the verdict as a line
 abbrev pub verdict_line : Option Refusal → List ℕ
 verdict_line verdict = verdict_text verdict ++ 10 ∷ []
 
--- how the program ends by it
+-- how the program ends by the verdict
 abbrev pub ending_of : Option Refusal → Ending
 ending_of None = endings.Well
 ending_of (Some refusal) = endings.Refused
 
--- what the code has of that
+-- what the code's verdict represents
 abbrev pub verdict_of : Option code.Refusal → Option Refusal
 verdict_of verdict = option_map refusal_of verdict
 
@@ -44,17 +44,17 @@ refusal_in (Err refusal) = Some refusal
 abbrev pub verdict_on : List Registration → List ℕ → Option Refusal
 verdict_on registered source = refusal_in (checked_source registered source)
 
--- A source that is too long takes no memory to judge, any other may.
+-- It may take memory to judge any source but one that is too long.
 abbrev pub TakesMemory : List Registration → List ℕ → Type 0
 TakesMemory registered source = checked_source registered source ≡ Err refusals.SourceTooLong → ⊥
 
--- what came of judging a source: why it is refused, if it is, or there was no memory
+-- Judging a source gave why it is refused, if it is, or there was no memory.
 abbrev pub Judges : List Registration → List ℕ → Result (Option code.Refusal) Fault → Type 0
 Judges registered source (Ok verdict) = verdict_of verdict ≡ verdict_on registered source
 Judges registered source (Err program.NoMemory) = TakesMemory registered source
 Judges registered source (Err _) = ⊥
 
--- what came of telling it
+-- The verdict was written, and this is how the program ends by it; or a write failed.
 abbrev pub WritesVerdict : {K : Type 0} → Outlet K → K → Option Refusal → Result Ending Fault → K → Type 0
 WritesVerdict outlet old verdict (Ok ending) new = (ending ≡ ending_of verdict) × WritesAll outlet old (verdict_line verdict) new
 WritesVerdict outlet old verdict (Err (program.Run faults.Write)) new = FailsPartway outlet old (verdict_line verdict) new
@@ -64,8 +64,7 @@ WritesVerdict outlet old verdict (Err _) new = ⊥
 abbrev pub ReadsScript : {S : Type 0} → Feed S → S → List ℕ → S → Type 0
 ReadsScript feed old script new = feed.reads old script new × ((length script ≡ 65537) ⊎ ((length script < 65537) × feed.ended new))
 
--- What came of checking the script of a source: it was read, and what is found of it was sent; or a read or a write
--- failed, or there was no memory.
+-- The script of a source was read and the verdict on it was written; or a read or a write failed, or there was no memory.
 abbrev pub ChecksScript : {S K : Type 0} → Feed S → Outlet K → List Registration → S → K → Result Ending Fault → S → K → Type 0
 ChecksScript feed outlet registered s k (Ok ending) s' k' =
     (script : List ℕ) × ReadsScript feed s script s' × WritesVerdict outlet k (verdict_on registered script) (Ok ending) k'
@@ -79,11 +78,11 @@ ChecksScript {S} feed outlet registered s k (Err program.NoMemory) s' k' =
     ((s' ≡ s) ⊎ ((script : List ℕ) × ReadsScript feed s script s' × TakesMemory registered script)) × (k' ≡ k)
 ChecksScript feed outlet registered s k (Err _) s' k' = ⊥
 
--- the script of a file, where its bytes are known: all of them, or the first 65,537
+-- The script of a file, where its bytes are known, is all of them or the first 65,537.
 abbrev pub IsScriptOf : Option (List ℕ) → List ℕ → Type 0
 IsScriptOf file script = IfSome file (λ bytes. script ≡ source_prefix bytes)
 
--- What came of checking the script of a file, told by bytes alone, where those of the file and the writer are known.
+-- The same of a file and a writer, by their bytes alone, where these are known.
 abbrev pub ChecksFile : List Registration → Option (List ℕ) → Option (List ℕ) → Result Ending Fault → Option (List ℕ) → Type 0
 ChecksFile registered file before (Ok ending) after =
     (script : List ℕ) × IsScriptOf file script × (ending ≡ ending_of (verdict_on registered script))

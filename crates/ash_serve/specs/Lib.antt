@@ -1,3 +1,4 @@
+pub mod Buffers
 pub mod Serving
 pub mod LongSources
 pub mod Running

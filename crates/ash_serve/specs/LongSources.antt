@@ -1,4 +1,4 @@
--- A host over two disks does not look past what is kept of a source.
+-- A host over two disks does not look past the prefix of a source that is stored.
 use Rattle.std.specs.Prelude.{refl}
 use Rattle.ash_disk.specs.Device.{Device}
 use Rattle.ash_durable.specs.Hosting.{Carries}

@@ -22,14 +22,14 @@ pub record HostRun {D : Type 0} (device : Device D) (host : Hosted D) (input : O
   pub first_is : a ≡ first last
   pub second_is : b ≡ second last
 
--- what came of serving by a host
+-- Serving from a host did this.
 abbrev pub ServesHost : {D : Type 0} → Device D → Hosted D → Option (List ℕ) → ℕ → Option (List ℕ) → Result (Unit {0}) Fault → D → D → Option (List ℕ) → Type 0
 ServesHost device host input budget before (Ok done) a b after = HostRun device host input budget before (Ok done) a b after
 ServesHost device host input budget before (Err (Run fault)) a b after = HostRun device host input budget before (Err fault) a b after
 ServesHost device host input budget before (Err _) a b after = ⊥
 
--- What came of serving by a host that begins so, or of its refusal, which is told and nothing written. Its disks are
--- handed back.
+-- Serving from a host that begins so did this; or there was a refusal, which is returned, and nothing was written. The
+-- disks are handed back.
 abbrev pub ServesFrom : {D : Type 0} → Device D → (Result (Hosted D) (OpenRefused D) → Type 0) → Option (List ℕ) → ℕ → Option (List ℕ) → Result (Unit {0}) Fault → D → D → Option (List ℕ) → Type 0
 ServesFrom {D} device begins input budget before (Err (Store fault)) a b after =
     (refused : OpenRefused D) × begins (Err refused) × (refused.fault ≡ fault) × (a ≡ refused.a) × (b ≡ refused.b) × (after ≡ before)

@@ -1,4 +1,4 @@
-// What carries requests out.
+// What handles requests.
 
 ghost use Rattle.ash_durable.specs.Hosting.{Carries};
 ghost use Rattle.ash_meaning.specs.State.{request_of, reply_of};
@@ -9,16 +9,17 @@ use ash_disk::Disk;
 use ash_durable::Host;
 use ash_meaning::request::{Reply, Request};
 
-/// A host, as the run sees it.
+/// A host, as the loop uses it.
 pub trait RequestHandler {
-    /// What a request may be replied, and what it leaves.
+    /// What the reply to a request may be, and the host after it.
     ghost handles: { RequestRelation Self };
 
-    /// Carries out one request, with a budget in ticks.
+    /// Handles one request, with a budget in ticks.
     fn handle(&mut self, request: &Request, budget: u64) -> Reply
-        ensures { handles budget (request_of request.now) self.old (reply_of result) self.new };
+        ensures handled { handles budget (request_of request.now) self.old (reply_of result)
+            self.new };
 
-    /// A source that is too long is refused whatever its bytes.
+    /// A source that is too long is refused whatever bytes come after its prefix.
     ghost depends_on_prefix: { DependsOnPrefix handles };
 }
 

@@ -1,20 +1,20 @@
-// The run over a source and a sink.
+// The loop over a source and a sink.
 
 ghost use Rattle.std.specs.Prelude.{◌≡◌, []};
-ghost use Rattle.ash_serve.specs.Serving.{Serves};
+ghost use Rattle.ash_lines.specs.Replies.{line_reply_of};
+ghost use Rattle.ash_serve.specs.Serving.{Serves, ends_run};
 
-use crate::handler::RequestHandler;
+use crate::buffers::Buffers;
 use crate::fault::RunFault;
-use crate::turn::{Turn, serve_next};
-use ash_lines::bytes::MAX_PREFIX_BYTES;
-use ash_lines::line::MAX_LINE_BYTES;
+use crate::handler::RequestHandler;
+use crate::request::handle_next;
+use ash_lines::reply::{LineReply, write_line_reply};
 use ash_lines::sink::Sink;
 use ash_lines::source::Source;
-use ash_lines::request_line::MAX_ARGUMENTS;
 use std::alloc::Global;
 
-/// Reads requests, has the host carry each out with this budget in ticks, and sends each reply before the next
-/// request is read. Ends at the end of the input between two requests, or when `quit` is answered.
+/// Reads requests, has the host handle each with this budget in ticks, and writes each reply, flushed, before the next
+/// request is read. Ends at the end of the input between two requests, or when the reply to `quit` is written.
 pub fn serve<S: Source, K: Sink, H: RequestHandler>(
     alloc: Global,
     input: &mut S,
@@ -22,32 +22,28 @@ pub fn serve<S: Source, K: Sink, H: RequestHandler>(
     host: &mut H,
     budget: u64,
 ) -> Result<(), RunFault>
-    requires { K.outlet.buffered output.old ≡ [] }
-    ensures { Serves S.feed K.outlet H.handles budget input.old output.old host.old result input.new output.new host.new }
+    requires nothing_buffered { K.outlet.buffered output.old ≡ [] }
+    ensures serves { Serves S.feed K.outlet H.handles budget input.old output.old host.old result
+        input.new output.new host.new }
 {
-    let Ok(mut line) = Vec::with_capacity(alloc, MAX_LINE_BYTES) else {
-        return Err(RunFault::NoMemory);
-    };
-    let Ok(mut arguments) = Vec::with_capacity(alloc, MAX_ARGUMENTS) else {
-        return Err(RunFault::NoMemory);
-    };
-    let Ok(mut prefix) = Vec::with_capacity(alloc, MAX_PREFIX_BYTES) else {
-        return Err(RunFault::NoMemory);
-    };
-    'turns: loop {
-        match serve_next(
-            input,
-            output,
-            host,
-            budget,
-            &mut line,
-            &mut arguments,
-            &mut prefix,
-        ) {
-            Err(fault) => return Err(fault),
-            Ok(Turn::Over) => return Ok(()),
-            Ok(Turn::Left) => return Ok(()),
-            Ok(Turn::On) => {}
+    let mut buffers = Buffers::new(alloc)?;
+    'requests: loop {
+        let Some(reply) = handle_next(input, host, budget, &mut buffers)? else {
+            return Ok(());
+        };
+        write_line_reply(output, &reply)?;
+        if ends_run(&reply) {
+            return Ok(());
         }
+    }
+}
+
+/// Whether the run ends with this reply.
+fn ends_run(reply: &LineReply) -> bool
+    ensures quit { result ≡ ends_run (line_reply_of reply.now) }
+{
+    match reply {
+        LineReply::Quit => true,
+        _ => false,
     }
 }

@@ -6,7 +6,7 @@ use ash_registry::Registry;
 use ash_serve::RunFault;
 use ash_serve::program::check::run_check;
 use ash_serve::program::fault::Fault;
-use ash_serve::program::service::{ServiceEnd, serve_stored};
+use ash_serve::program::service::{Service, ServiceEnd, serve_stored};
 use std::alloc::Global;
 use std::io;
 use std::io::{ErrorKind, Read, Write};
@@ -73,7 +73,13 @@ fn served_stored(
     requests: &[u8],
     written: &mut Vec<u8>,
 ) -> ServiceEnd<MemoryDisk> {
-    serve_stored(alloc, a, b, Registry::new(alloc), requests, written, 1000)
+    let service = Service {
+        a,
+        b,
+        registry: Registry::new(alloc),
+        budget: 1000,
+    };
+    serve_stored(alloc, service, requests, written)
 }
 
 /// The disks of a store with a module.
@@ -96,8 +102,8 @@ fn serves_again_from_the_disks_that_it_hands_back(rt: HostRuntime) -> Result<(),
     Ok(())
 }
 
-/// Compares how a run ended after so many reads or writes, and that what was written is a front of the output.
-fn check_front(
+/// Compares how a run ended after so many reads or writes, and that what was written is a prefix of the output.
+fn check_prefix(
     rt: &impl Abort,
     left: usize,
     found: Result<(), RunFault>,
@@ -116,7 +122,7 @@ fn check_reads(rt: &impl Abort, alloc: Global, left: usize) -> Result<(), Fail> 
     let mut written = Vec::new(alloc);
     let reader = Failing { bytes: INPUT, left };
     let found = ending(alloc, reader, &mut written, &mut host, 1000);
-    check_front(rt, left, found, RunFault::Read, &written);
+    check_prefix(rt, left, found, RunFault::Read, &written);
     Ok(())
 }
 
@@ -136,7 +142,7 @@ fn check_writes(rt: &impl Abort, alloc: Global, left: usize) -> Result<(), Fail>
         left,
     };
     let found = ending(alloc, INPUT, &mut writer, &mut host, 1000);
-    check_front(rt, left, found, RunFault::Write, &writer.bytes);
+    check_prefix(rt, left, found, RunFault::Write, &writer.bytes);
     Ok(())
 }
 

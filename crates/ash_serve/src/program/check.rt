@@ -1,11 +1,11 @@
-// Checking a script: its bytes are read and judged, and what is found of it is told.
+// Checking a script: its bytes are read and judged, and the verdict is written.
 
 ghost use Rattle.ash_registry.specs.Registered.{registered};
 ghost use Rattle.ash_serve.specs.Checking.{ReadsScript, Judges, verdict_of, WritesVerdict, ChecksScript, ChecksFile, EndsCheck};
 
 use super::ending::{End, Ending};
 use super::fault::Fault;
-use crate::fault::{RunFault, run_fault};
+use crate::fault::RunFault;
 use crate::run::MAX_BUFFERED_BYTES;
 use ash_durable::check_source;
 use ash_lines::bytes::{MAX_PREFIX_BYTES, read_bytes};
@@ -22,38 +22,36 @@ use std::io::{Read, Write};
 /// How many bytes are read of a script, at the most: by so many it is seen to be too long.
 const MAX_SCRIPT_BYTES: u32 = 65_537;
 
-/// Checks the script that a reader gives, with this registry, and writes a line on a writer, as `check_file`; and says
-/// how the program ends by that: with the status 0 where the line is `ok`, else 1.
+/// Checks the script that a reader gives, with this registry, and writes a line, as `check_file`; and returns how the
+/// program ends by that: with the status 0 where the line is `ok`, else 1.
 pub fn run_check<R: Read + Drop, W: Write>(
     alloc: Global,
     registry: &Registry,
     reader: R,
     writer: &mut W,
 ) -> End
-    ensures { EndsCheck (registered registry.now) (R.remaining reader) (W.contents writer.old) result (W.contents writer.new) }
+    ensures ends { EndsCheck (registered registry.now) (R.remaining reader)
+        (W.contents writer.old) result (W.contents writer.new) }
 {
     End::by(check_file(alloc, registry, reader, writer))
 }
 
-/// Checks the script that a reader gives, with this registry, and writes a line: `ok`, or its refusal as a `load` is
-/// told it. The first 65,537 bytes are judged.
+/// Checks the script that a reader gives, with this registry, and writes a line: `ok`, or its refusal as the reply to a
+/// `load` has it. The first 65,537 bytes are judged.
 ///
 /// `Run(Read)` where the reader fails among them, `Run(Write)` where the writer fails, `NoMemory` where there is none
-/// for the buffers or for the check. Nothing is written but the line; of that a front where the writer fails.
+/// for the buffers or for the check. Nothing is written but the line; of that a prefix where the writer fails.
 pub fn check_file<R: Read + Drop, W: Write>(
     alloc: Global,
     registry: &Registry,
     reader: R,
     writer: &mut W,
 ) -> Result<Ending, Fault>
-    ensures { ChecksFile (registered registry.now) (R.remaining reader) (W.contents writer.old) result (W.contents writer.new) }
+    ensures checks { ChecksFile (registered registry.now) (R.remaining reader)
+        (W.contents writer.old) result (W.contents writer.new) }
 {
-    let Ok(mut input) = Reader::new(alloc, reader) else {
-        return Err(Fault::NoMemory);
-    };
-    let Ok(buffer) = Vec::with_capacity(alloc, MAX_BUFFERED_BYTES) else {
-        return Err(Fault::NoMemory);
-    };
+    let mut input = Reader::new(alloc, reader)?;
+    let buffer = Vec::with_capacity(alloc, MAX_BUFFERED_BYTES)?;
     let mut output = Writer::new(writer, buffer);
     let result = check_script(alloc, registry, &mut input, &mut output);
     let lent = output.into_writer();
@@ -62,7 +60,7 @@ pub fn check_file<R: Read + Drop, W: Write>(
     result
 }
 
-/// Checks the script that a source gives, and sends what is found of it as a line. `Run(Read)` is told only where the
+/// Checks the script that a source gives, and writes the verdict as a line. `Run(Read)` is returned only where the
 /// source has failed, and `Run(Write)` only where the sink has.
 pub fn check_script<S: Source, K: Sink>(
     alloc: Global,
@@ -70,23 +68,22 @@ pub fn check_script<S: Source, K: Sink>(
     input: &mut S,
     output: &mut K,
 ) -> Result<Ending, Fault>
-    ensures { ChecksScript S.feed K.outlet (registered registry.now) input.old output.old result input.new output.new }
+    ensures checks { ChecksScript S.feed K.outlet (registered registry.now) input.old output.old
+        result input.new output.new }
 {
-    let Ok(mut script) = Vec::with_capacity(alloc, MAX_PREFIX_BYTES) else {
-        return Err(Fault::NoMemory);
-    };
+    let mut script = Vec::with_capacity(alloc, MAX_PREFIX_BYTES)?;
     match read_bytes(input, MAX_SCRIPT_BYTES, &mut script) {
-        Err(fault) => Err(Fault::Run(run_fault(fault))),
-        Ok(_) => match judge(alloc, registry, script.as_slice()) {
-            Err(fault) => Err(fault),
-            Ok(verdict) => write_verdict(output, &verdict),
-        },
+        Err(fault) => Err(Fault::Run(RunFault::from(fault))),
+        Ok(_) => {
+            let verdict = judge(alloc, registry, script.as_slice())?;
+            write_verdict(output, &verdict)
+        }
     }
 }
 
 /// Why this source is refused, if it is.
 fn judge(alloc: Global, registry: &Registry, source: &[u8]) -> Result<Option<Refusal>, Fault>
-    ensures { Judges (registered registry.now) source.now result }
+    ensures verdict { Judges (registered registry.now) source.now result }
 {
     match check_source(alloc, registry, source) {
         Ok(()) => Ok(None),
@@ -95,9 +92,9 @@ fn judge(alloc: Global, registry: &Registry, source: &[u8]) -> Result<Option<Ref
     }
 }
 
-/// Sends what is found of a script as a line, and says how the program ends by it.
+/// Writes the verdict on a script as a line, and returns how the program ends by it.
 fn write_verdict<K: Sink>(output: &mut K, verdict: &Option<Refusal>) -> Result<Ending, Fault>
-    ensures { WritesVerdict K.outlet output.old (verdict_of verdict.now) result output.new }
+    ensures line { WritesVerdict K.outlet output.old (verdict_of verdict.now) result output.new }
 {
     let (written, ending) = match verdict {
         None => (write_line(output, b"ok"), Ending::Well),

@@ -14,6 +14,15 @@ use ash_registry::Registry;
 use std::alloc::Global;
 use std::io::{Read, Write};
 
+/// What is served: the store on two disks, what is registered with its host, and the ticks that each request may take.
+#[derive(Drop)]
+pub struct Service<D> {
+    pub a: D,
+    pub b: D,
+    pub registry: Registry,
+    pub budget: u64,
+}
+
 /// How serving ended, and the disks as they are left.
 #[derive(Drop)]
 pub struct ServiceEnd<D> {
@@ -22,42 +31,55 @@ pub struct ServiceEnd<D> {
     pub b: D,
 }
 
-/// Serves a reader and a writer, with this registry, from the store that is on two disks, and hands these back.
+/// Opens the store that is on the disks, serves a reader and a writer from it, and hands the disks back.
 pub fn serve_stored<D: Disk, R: Read + Drop, W: Write>(
     alloc: Global,
-    a: D,
-    b: D,
-    registry: Registry,
+    service: Service<D>,
     reader: R,
     writer: &mut W,
-    budget: u64,
 ) -> ServiceEnd<D>
-    ensures { ServesFrom D.Disk (Opens D.Disk (registered registry) a b) (R.remaining reader) budget (W.contents writer.old) result.end result.a result.b (W.contents writer.new) }
+    ensures serves { ServesFrom D.Disk
+        (Opens D.Disk (registered service.registry) service.a service.b)
+        (R.remaining reader) service.budget (W.contents writer.old)
+        result.end result.a result.b (W.contents writer.new) }
 {
+    let Service {
+        a,
+        b,
+        registry,
+        budget,
+    } = service;
     match Host::open(alloc, a, b, registry) {
         Ok(host) => serve_host(alloc, host, reader, writer, budget),
         Err(refused) => refusal(refused),
     }
 }
 
-/// Makes a store with this registry on two disks, serves a reader and a writer from it, and hands the disks back.
+/// Creates a store on the disks, serves a reader and a writer from it, and hands the disks back.
 pub fn serve_new<D: Disk, R: Read + Drop, W: Write>(
     alloc: Global,
-    a: D,
-    b: D,
-    registry: Registry,
+    service: Service<D>,
     reader: R,
     writer: &mut W,
-    budget: u64,
 ) -> ServiceEnd<D>
-    ensures { ServesFrom D.Disk (Creates D.Disk (registered registry) a b) (R.remaining reader) budget (W.contents writer.old) result.end result.a result.b (W.contents writer.new) }
+    ensures serves { ServesFrom D.Disk
+        (Creates D.Disk (registered service.registry) service.a service.b)
+        (R.remaining reader) service.budget (W.contents writer.old)
+        result.end result.a result.b (W.contents writer.new) }
 {
+    let Service {
+        a,
+        b,
+        registry,
+        budget,
+    } = service;
     match Host::create(alloc, a, b, registry) {
         Ok(host) => serve_host(alloc, host, reader, writer, budget),
         Err(refused) => refusal(refused),
     }
 }
 
+/// Serves a reader and a writer from a host, and closes it.
 fn serve_host<D: Disk, R: Read + Drop, W: Write>(
     alloc: Global,
     mut host: Host<D>,
@@ -65,7 +87,8 @@ fn serve_host<D: Disk, R: Read + Drop, W: Write>(
     writer: &mut W,
     budget: u64,
 ) -> ServiceEnd<D>
-    ensures { ServesHost D.Disk host (R.remaining reader) budget (W.contents writer.old) result.end result.a result.b (W.contents writer.new) }
+    ensures serves { ServesHost D.Disk host (R.remaining reader) budget (W.contents writer.old)
+        result.end result.a result.b (W.contents writer.new) }
 {
     let end = match run(alloc, reader, writer, &mut host, budget) {
         Ok(()) => Ok(()),

@@ -8,7 +8,7 @@ use std::fs::{File, Files, OpenOptions, TryLockError};
 use std::io;
 use std::path::{Path, PathBuf};
 
-/// The two files of a store, and what keeps other processes from them: a lock on the first file, which the system
+/// The two files of a store, and what excludes other processes: a lock on the first file, which the system
 /// gives up when this process ends, however it ends.
 #[derive(Drop)]
 pub(super) struct Store {
@@ -55,7 +55,7 @@ fn paths(alloc: Global, folder: &str) -> Result<(PathBuf, PathBuf), AllocError> 
 }
 
 /// The file with a lock on it, or `None` where another process has one. On a file system that knows no locks there
-/// is none, and nothing keeps other processes away.
+/// is none, and no other process is excluded.
 fn lock_file<R: Files<File = File>>(rt: &R, path: &str) -> Result<Option<File>, Fault> {
     let mut options = OpenOptions::new();
     options.read(true).write(true);

@@ -1,4 +1,5 @@
 use Rattle.std.proofs.Common.{refl, arith, [], ◌∷◌, ◌++◌, length-append}
+use Rattle.std.proofs.lemmas.Result.{err_from_is_err_and}
 use Rattle.ash_lines.proofs.SourceLemmas.{next_end, next_byte, reads_then, faults_then}
 use Rattle.ash_lines.proofs.PrefixLemmas.{prefix-more, prefix-nil}
 use Rattle.ash_lines.proofs.bytes.read_bytes.Goals as goal
@@ -9,27 +10,28 @@ loop-i-init g c = record {
   room = omega arith;
 }
 
-pub returns-in-Err-clause-read : goal.returns-in-Err-clause-read
-returns-in-Err-clause-read g c =
+pub returns-in_err-next-clause-read : goal.returns-in_err-next-clause-read
+returns-in_err-next-clause-read g c =
     let i = c.loop-i.invariant.read in
-    (i.0, faults_then g.S.Source.feed g.met.S.Source.is_feed _ _ _ i.0 _ i.1 c.in-Err.ensures, omega (arith, i.2))
+    let p = err_from_is_err_and c.from_residual.result c.from_residual.ensures.1 in
+    rw (p.1, p.2) (i.0, faults_then g.S.Source.feed g.met.S.Source.is_feed _ _ _ i.0 _ i.1 c.in_err-next.ensures.byte, omega (arith, i.2))
 
-pub returns-in-Ok-None-clause-read : goal.returns-in-Ok-None-clause-read
-returns-in-Ok-None-clause-read g c =
+pub returns-in-None-clause-read : goal.returns-in-None-clause-read
+returns-in-None-clause-read g c =
     let i = c.loop-i.invariant.read in
-    let e = next_end g.S.Source.feed _ _ _ _ c.next.ensures c.in-Ok-None.is c.in-Ok-None.field-0-is in
+    let e = next_end g.S.Source.feed _ _ _ _ c.next.ensures.byte c.in_ok-next.was c.in-None.is in
     (i.0, reads_then g.S.Source.feed g.met.S.Source.is_feed _ _ _ i.0 i.1 e.0, omega (arith, i.2), e.1, i.3)
 
 pub loop-i-preserved : goal.loop-i-preserved
 loop-i-preserved g c =
     let i = c.loop-i.invariant.read in
-    let e = next_byte g.S.Source.feed _ _ _ _ _ c.next.ensures c.in-Ok-Some.is c.in-Ok-Some.field-0-is in
+    let e = next_byte g.S.Source.feed _ _ _ _ _ c.next.ensures.byte c.in_ok-next.was c.in-Some.is in
     record {
       read = (
-        i.0 ++ c.in-Ok-Some.byte ∷ [],
-        g.met.S.Source.is_feed.onward _ _ _ i.0 (c.in-Ok-Some.byte ∷ []) i.1 e,
-        omega (arith, i.2, length-append i.0 (c.in-Ok-Some.byte ∷ [])),
-        prefix-more i.0 _ _ c.in-Ok-Some.byte c.push_if_room.ensures.pushed c.push_if_room.ensures.full i.3,
+        i.0 ++ c.in-Some.byte ∷ [],
+        g.met.S.Source.is_feed.onward _ _ _ i.0 (c.in-Some.byte ∷ []) i.1 e,
+        omega (arith, i.2, length-append i.0 (c.in-Some.byte ∷ [])),
+        prefix-more i.0 _ _ c.in-Some.byte c.push_if_room.ensures.pushed c.push_if_room.ensures.full i.3,
       );
       room = c.push_if_room.ensures.room;
     }
