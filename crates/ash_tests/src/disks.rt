@@ -161,7 +161,7 @@ fn a_snapshot_that_is_not_kept(rt: HostRuntime) -> Result<(), Fail> {
 const SNAPSHOT_ALONE: &[u8] = b"snapshot\nsnapshot\ndiscard m\nseq\n";
 
 /// The second snapshot shuts the gate of the older generation on the first disk, with a write and a sync, and then writes the
-/// new one. No discard is left, since there is no module.
+/// new one. No discard is stored, since there is no module.
 static SECOND_SNAPSHOTS: [Fused; 2] = [
     (
         0,
