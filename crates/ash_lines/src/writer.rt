@@ -83,8 +83,8 @@ impl<'a, W: Write> Writer<'a, W> {
     }
 
     fn flush_writer(&mut self) -> Result<(), WriteFault>
-        ensures flushed { WritesThrough (writer_outlet W.contents) self.old [] result self.new
-            self.old.buffer.items }
+        ensures flushed { WritesThrough (writer_outlet W.contents) self.old []
+            result self.new self.old.buffer.items }
     {
         match self.writer.flush() {
             Ok(()) => Ok(()),
@@ -97,8 +97,8 @@ impl<'a, W: Write> Writer<'a, W> {
 
     /// Writes out these bytes, past the buffer.
     fn write_through(&mut self, bytes: &[u8]) -> Result<(), WriteFault>
-        ensures written { WritesThrough (writer_outlet W.contents) self.old bytes.now result self.new
-            self.old.buffer.items }
+        ensures written { WritesThrough (writer_outlet W.contents) self.old bytes.now
+            result self.new self.old.buffer.items }
     {
         match write_out(self.writer, bytes) {
             Ok(()) => Ok(()),

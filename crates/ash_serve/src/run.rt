@@ -26,8 +26,8 @@ pub(crate) const MAX_BUFFERED_BYTES: usize = 8192;
 ///
 /// `Truncated` where the input ends inside a request, `TooLong` past 2^40 bytes, `Read` and `Write` where the
 /// reader or the writer fails, `NoMemory` where there is none for the buffers; no other memory is taken. However it
-/// ends, the files of a host that runs hold its state afterwards, if they did before, and every life of its store goes on:
-/// each request of which a byte of the answer was written is in every image that a crash may leave.
+/// ends, the files of a host that runs hold its state afterwards, if they did before, and every life of its store goes
+/// on: each request of which a byte of the answer was written is in every image that a crash may leave.
 #[tactic(auto, using(crate::proofs::DefinedLemmas::replies_run, crate::proofs::DefinedLemmas::replies_live))]
 pub fn run<D: Disk, R: Read + Drop, W: Write>(
     alloc: Global,
@@ -42,8 +42,8 @@ pub fn run<D: Disk, R: Read + Drop, W: Write>(
     ensures defined { (lines : List Line) (replies : List LineReply)
         → RepliesToAll (Carries D.Disk) budget host.old lines replies host.new
         → RunsToFailure budget host.old (host_requests lines) (host_replies replies) host.new }
-    // Every life of the store goes on with the requests that were answered, however the run ends: each of them, written or
-    // not, is acknowledged in it.
+    // Every life of the store goes on with the requests that were answered, however the run ends: each of them, written
+    // or not, is acknowledged in it.
     ensures lives { (lines : List Line) (replies : List LineReply)
         → RepliesToAll (Carries D.Disk) budget host.old lines replies host.new
         → LivesOn D.Disk budget host.old (host_requests lines) (host_replies replies) host.new }

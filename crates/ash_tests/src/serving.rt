@@ -63,7 +63,8 @@ const INPUT: &[u8] =
     b"seq\n\nget m n\ncall m f 5 true -7\nload m 3\nabc\nload m 2\nabcd\nobject 1\nseq  \nquit\nseq\n";
 
 const OUTPUT: &str =
-    "ok 0\nrefused 601 BadRequest\nrefused 401 NoModule\nrefused 401 NoModule\nrefused 104 Unexpected 3\nrefused 601 BadRequest\nrefused 601 BadRequest\nrefused 601 BadRequest\nok\n";
+    "ok 0\nrefused 601 BadRequest\nrefused 401 NoModule\nrefused 401 NoModule\nrefused 104 Unexpected 3\n\
+    refused 601 BadRequest\nrefused 601 BadRequest\nrefused 601 BadRequest\nok\n";
 
 /// What is written where the store on two disks is served, and how that ends.
 fn served_stored(
