@@ -111,17 +111,17 @@ parse_load _ = Complete BadRequest
 
 -- a call, if its arguments are all such
 abbrev pub call_request : List ℕ → List ℕ → Option (List Argument) → ParsedLine
-call_request module function None = Complete BadRequest
-call_request module function (Some arguments) = Complete (HostRequest (Call module function arguments))
+call_request module_name function None = Complete BadRequest
+call_request module_name function (Some arguments) = Complete (HostRequest (Call module_name function arguments))
 
 -- call NAME FUNCTION, then any number of arguments
 abbrev pub parse_call : List (List ℕ) → ParsedLine
-parse_call (module ∷ function ∷ words) = call_request module function (arguments_of words)
+parse_call (module_name ∷ function ∷ words) = call_request module_name function (arguments_of words)
 parse_call _ = Complete BadRequest
 
 -- get NAME GLOBAL
 abbrev pub parse_get : List (List ℕ) → ParsedLine
-parse_get (module ∷ name ∷ []) = Complete (HostRequest (Global module name))
+parse_get (module_name ∷ name ∷ []) = Complete (HostRequest (Global module_name name))
 parse_get _ = Complete BadRequest
 
 -- discard NAME

@@ -9,7 +9,7 @@ use Rattle.ash_lines.specs.declared.request_line.ParsedLine.TheVariants as lines
 -- what a line asks, where these are the arguments that were stored
 abbrev pub parsed_of : code.ParsedLine → List Argument → ParsedLine
 parsed_of (lines.Request request) arguments = Complete (HostRequest (request_of request))
-parsed_of (lines.Call module function) arguments = Complete (HostRequest (Call module.now function.now arguments))
+parsed_of (lines.Call name function) arguments = Complete (HostRequest (Call name.now function.now arguments))
 parsed_of (lines.Load header) arguments = LoadHeader header.name.now header.length
 parsed_of lines.Quit arguments = Complete Quit
 parsed_of lines.BadRequest arguments = Complete BadRequest

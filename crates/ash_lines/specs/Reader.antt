@@ -13,7 +13,7 @@ use Rattle.ash_lines.specs.declared.reader.ByteRead.TheVariants as byte_reads
 abbrev pub ReadsByte : Option (List ℕ) → ByteRead → Option (List ℕ) → Type 0
 ReadsByte old (byte_reads.Byte byte) new = Consumes old new (byte ∷ [])
 ReadsByte old byte_reads.End new = Keeps old new × IsAtEnd new
-ReadsByte old byte_read_faults.Failed new = ⊤
+ReadsByte old byte_reads.Failed new = ⊤
 
 -- the bytes that are left, where they are known
 abbrev pub left_of : {R : Type 0} → (R → Option (List ℕ)) → Reader R → Option (List ℕ)

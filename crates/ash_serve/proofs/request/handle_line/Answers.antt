@@ -12,7 +12,7 @@ returns-in-Request-clause-handled g c start w =
 
 pub returns-in-Call-clause-handled : goal.returns-in-Call-clause-handled
 returns-in-Call-clause-handled g c start w =
-    line_replied g.S.Source.feed g.H.RequestHandler.handles c.args.budget start c.args.input.now c.args.host.now c.handle-in-Call.new.self c.args.buffers.now.line.items (HostRequest (Call c.in-Call.module.now c.in-Call.function.now c.parse_line.new.arguments.items)) (code_replies.Host c.handle-in-Call.result)
+    line_replied g.S.Source.feed g.H.RequestHandler.handles c.args.budget start c.args.input.now c.args.host.now c.handle-in-Call.new.self c.args.buffers.now.line.items (HostRequest (Call c.in-Call.«module».now c.in-Call.function.now c.parse_line.new.arguments.items)) (code_replies.Host c.handle-in-Call.result)
     w c.requires.short (c.in-Call.ensures.parsed ∙ ap parse_line c.as_slice.ensures.value) (rw c.as_slice-in-Call.ensures.value at c.handle-in-Call.ensures.handled)
 
 pub returns-in-Load-clause-handled : goal.returns-in-Load-clause-handled
