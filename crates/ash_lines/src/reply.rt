@@ -100,7 +100,10 @@ fn write_seq<K: Sink>(output: &mut K, seq: u64) -> Result<(), WriteFault>
     ensures text { Writes K.outlet output.old (seq_text seq) result output.new }
 {
     let mut digits = Buffer::new();
-    write_all(output, &[b" seq ".as_slice(), digits.format(seq).as_bytes()])
+    write_all(
+        output,
+        &[b" seq ".as_slice(), digits.format(seq).as_bytes()],
+    )
 }
 
 fn write_outcome<K: Sink>(output: &mut K, outcome: &Outcome) -> Result<(), WriteFault>

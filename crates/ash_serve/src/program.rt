@@ -89,8 +89,12 @@ fn serve<R: Files<File = File> + Input + Print + AllocGlobal>(
         registry: registrations(rt.alloc())?,
         budget: limits.budget,
     };
-    let ServiceEnd { end, a, b } =
-        serve_stored(rt.alloc(), service, rt.reader(), &mut io::writer(rt));
+    let ServiceEnd { end, a, b } = serve_stored(
+        rt.alloc(),
+        service,
+        rt.reader(),
+        &mut io::writer(rt),
+    );
     drop((a, b));
     drop(lock);
     end

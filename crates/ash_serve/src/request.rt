@@ -1,7 +1,7 @@
 // The next request is read, and the host handles it.
 
 ghost use Rattle.std.specs.Prelude.{◌≡◌, ◌≤◌, ℕ, List, length, vec_capacity};
-ghost use Rattle.ash_lines.specs.Lines.{LoadHeader, parse_line};
+ghost use Rattle.ash_lines.specs.Lines.{LoadHeader as Header, parse_line};
 ghost use Rattle.ash_lines.specs.Reading.{ReadsWholeLine};
 ghost use Rattle.ash_serve.specs.Buffers.{HasRoom};
 ghost use Rattle.ash_serve.specs.Serving.{HandlesNext, HandlesRequest};
@@ -49,22 +49,17 @@ fn handle_line<S: Source, H: RequestHandler>(
         → HandlesRequest S.feed H.handles budget start host.old result input.new host.new }
     ensures room { HasRoom buffers.new }
 {
-    let Buffers {
-        line,
-        arguments,
-        prefix,
-    } = buffers;
-    match parse_line(line.as_slice(), arguments) {
+    match parse_line(buffers.line.as_slice(), &mut buffers.arguments) {
         ParsedLine::Request(request) => Ok(LineReply::Host(host.handle(&request, budget))),
         ParsedLine::Call { module, function } => {
             let request = Request::Call {
                 module,
                 function,
-                arguments: arguments.as_slice(),
+                arguments: buffers.arguments.as_slice(),
             };
             Ok(LineReply::Host(host.handle(&request, budget)))
         }
-        ParsedLine::Load(header) => handle_load(input, host, budget, header, prefix),
+        ParsedLine::Load(header) => handle_load(input, host, budget, header, &mut buffers.prefix),
         ParsedLine::Quit => Ok(LineReply::Quit),
         ParsedLine::BadRequest => Ok(LineReply::BadRequest),
     }
@@ -82,7 +77,7 @@ fn handle_load<S: Source, H: RequestHandler>(
     requires room { 65537 ≤ vec_capacity prefix.old }
     ensures handled { (start : S) (line : List ℕ) → ReadsWholeLine S.feed start line input.old
         → length line ≤ 4096
-        → parse_line line ≡ LoadHeader header.entry.name.now header.entry.length
+        → parse_line line ≡ Header header.entry.name.now header.entry.length
         → HandlesRequest S.feed H.handles budget start host.old result input.new host.new }
     ensures room { 65537 ≤ vec_capacity prefix.new }
 {

@@ -32,7 +32,9 @@ pub fn serve<S: Source, K: Sink, H: RequestHandler>(
             return Ok(());
         };
         write_line_reply(output, &reply)?;
-        if ends_run(&reply) {
+        let ends = ends_run(&reply);
+        drop(reply);
+        if ends {
             return Ok(());
         }
     }

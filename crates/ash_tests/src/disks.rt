@@ -179,7 +179,13 @@ static SECOND_SNAPSHOTS: [Fused; 2] = [
 
 #[test]
 fn a_second_snapshot_that_is_not_kept(rt: HostRuntime) -> Result<(), Fail> {
-    check_each(&rt, rt.alloc(), Failing::First, SNAPSHOT_ALONE, &SECOND_SNAPSHOTS)
+    check_each(
+        &rt,
+        rt.alloc(),
+        Failing::First,
+        SNAPSHOT_ALONE,
+        &SECOND_SNAPSHOTS,
+    )
 }
 
 /// The disks after the first example.

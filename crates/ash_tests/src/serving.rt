@@ -95,7 +95,13 @@ fn serves_again_from_the_disks_that_it_hands_back(rt: HostRuntime) -> Result<(),
     let alloc = rt.alloc();
     let (a, b) = stored(alloc)?;
     let mut written = Vec::new(alloc);
-    let ServiceEnd { end, a, b } = served_stored(alloc, a, b, b"load k 10\nint n = 8;\n", &mut written);
+    let ServiceEnd { end, a, b } = served_stored(
+        alloc,
+        a,
+        b,
+        b"load k 10\nint n = 8;\n",
+        &mut written,
+    );
     end?;
     served_stored(alloc, a, b, b"get m n\nget k n\nseq\n", &mut written).end?;
     let wanted = b"ok seq 2\nok 7\nok 8\nok 2\n".as_slice();

@@ -18,10 +18,10 @@ returns-in_err-skip_line-clause-handled g c start line w l e =
     let p = err_from_is_err_and c.from_residual-in_err-skip_line.result c.from_residual-in_err-skip_line.ensures.1 in
     rw p.1 (load_line_fault g.S.Source.feed g.met.S.Source.is_feed g.H.RequestHandler.handles c.args.budget start c.args.input.now c.read_bytes.new.input c.skip_line.new.input c.args.host.now line c.args.header.name.now c.read_bytes.new.prefix.items c.args.header.length c.in_err-skip_line.field-0.0 p.0 w l e p.2 all c.in_err-skip_line.ensures.skips)
 
-pub returns-in-Cut-skip_line-clause-handled : goal.returns-in-Cut-skip_line-clause-handled
-returns-in-Cut-skip_line-clause-handled g c start line w l e =
+pub returns-in-Cut-2-clause-handled : goal.returns-in-Cut-2-clause-handled
+returns-in-Cut-2-clause-handled g c start line w l e =
     let all = rw c.in-All.is at c.in_ok-read_bytes.ensures.read in
-    load_line_cut g.S.Source.feed g.met.S.Source.is_feed g.H.RequestHandler.handles c.args.budget start c.args.input.now c.read_bytes.new.input c.skip_line.new.input c.args.host.now line c.args.header.name.now c.read_bytes.new.prefix.items c.args.header.length w l e all (rw c.in-Cut-skip_line.is at c.in_ok-skip_line.ensures.skips)
+    load_line_cut g.S.Source.feed g.met.S.Source.is_feed g.H.RequestHandler.handles c.args.budget start c.args.input.now c.read_bytes.new.input c.skip_line.new.input c.args.host.now line c.args.header.name.now c.read_bytes.new.prefix.items c.args.header.length w l e all (rw c.in-Cut-2.is at c.in_ok-skip_line.ensures.skips)
 
 pub returns-in-Bytes-clause-handled : goal.returns-in-Bytes-clause-handled
 returns-in-Bytes-clause-handled g c start line w l e =

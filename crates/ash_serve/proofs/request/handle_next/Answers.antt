@@ -16,12 +16,12 @@ returns-in-TooLong-clause-handled g c = line_long g.S.Source.feed g.H.RequestHan
 pub handle_line-requires-clause-short : goal.handle_line-requires-clause-short
 handle_line-requires-clause-short g c = let w = rw c.in-Whole.is at c.in_ok-read_line.ensures.read in w.1
 
-pub returns-in_err-handle_line-clause-handled : goal.returns-in_err-handle_line-clause-handled
-returns-in_err-handle_line-clause-handled g c =
+pub returns-in_err-handle_line-in-Whole-clause-handled : goal.returns-in_err-handle_line-in-Whole-clause-handled
+returns-in_err-handle_line-in-Whole-clause-handled g c =
     let w = rw c.in-Whole.is at c.in_ok-read_line.ensures.read in
-    let p = err_from_is_err_and c.from_residual-in_err-handle_line.result c.from_residual-in_err-handle_line.ensures.1 in
-    rw (p.1, p.2) (c.in_err-handle_line.ensures.handled c.args.input.now w.0)
+    let p = err_from_is_err_and c.from_residual-in_err-handle_line-in-Whole.result c.from_residual-in_err-handle_line-in-Whole.ensures.1 in
+    rw (p.1, p.2) (c.in_err-handle_line-in-Whole.ensures.handled c.args.input.now w.0)
 
-pub returns-in-Whole-clause-handled : goal.returns-in-Whole-clause-handled
-returns-in-Whole-clause-handled g c =
-    let w = rw c.in-Whole.is at c.in_ok-read_line.ensures.read in c.in_ok-handle_line.ensures.handled c.args.input.now w.0
+pub returns-in_ok-handle_line-in-Whole-clause-handled : goal.returns-in_ok-handle_line-in-Whole-clause-handled
+returns-in_ok-handle_line-in-Whole-clause-handled g c =
+    let w = rw c.in-Whole.is at c.in_ok-read_line.ensures.read in c.in_ok-handle_line-in-Whole.ensures.handled c.args.input.now w.0

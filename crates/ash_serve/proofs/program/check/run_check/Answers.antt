@@ -8,5 +8,5 @@ use Rattle.ash_serve.proofs.program.check.run_check.Goals as goal
 pub returns : goal.returns
 returns g c = record {
   ends = subst (λ (end : End). EndsCheck (registered c.args.registry.now) (g.R.Read.remaining c.args.reader) (g.W.Write.contents c.args.writer.now) end (g.W.Write.contents c.check_file.new.writer)) (sym c.by.ensures.end)
-    (ends_check _ _ _ _ c.check_file.result c.check_file.ensures.checks);
+      (ends_check _ _ _ _ c.check_file.result c.check_file.ensures.checks);
 }
