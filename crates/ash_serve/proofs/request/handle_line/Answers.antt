@@ -1,4 +1,4 @@
-use Rattle.std.proofs.Common.{◌≡◌, ◌∙◌, List, ℕ, refl, sym, ap}
+use Rattle.std.proofs.Common.{◌∙◌, refl, sym, ap}
 use Rattle.ash_meaning.specs.State.{Call, request_of}
 use Rattle.ash_lines.specs.Lines.{HostRequest, Quit, BadRequest, parse_line}
 use Rattle.ash_lines.specs.declared.reply.LineReply.TheVariants as code_replies
