@@ -5,4 +5,4 @@ pub mod WordLemmas
 pub mod SinkLemmas
 pub mod ReaderLemmas
 pub mod WriterLemmas
-pub mod KeptLemmas
+pub mod PrefixLemmas

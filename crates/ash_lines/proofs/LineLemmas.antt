@@ -6,8 +6,8 @@ use Rattle.std.specs.List.{position_or_len, position}
 use Rattle.ash_lines.specs.Lines.{pieces, onto}
 
 -- the first space
-abbrev pub space_in : List ℕ → ℕ
-space_in line = position_or_len (λ byte. byte == 32) line
+abbrev pub first_space : List ℕ → ℕ
+first_space line = position_or_len (λ byte. byte == 32) line
 
 -- the pieces of a line by its first byte
 pub pieces-space : (byte : ℕ) (more : List ℕ) → (byte == 32) ≡ true → pieces (byte ∷ more) ≡ [] ∷ pieces more
@@ -20,17 +20,17 @@ pieces-other byte more e = rw e refl
 
 -- a line with a space in it
 abbrev pub SplitsAt : List ℕ → Type 0
-SplitsAt line = space_in line < length line → pieces line ≡ take (space_in line) line ∷ pieces (drop (space_in line + 1) line)
+SplitsAt line = first_space line < length line → pieces line ≡ take (first_space line) line ∷ pieces (drop (first_space line + 1) line)
 
 split_at : (byte : ℕ) (more : List ℕ) (t : Bool) → (byte == 32) ≡ t → SplitsAt more → SplitsAt (byte ∷ more)
 split_at byte more true e step h = let k = pieces-space byte more e in rw e k
 split_at byte more false e step h =
     let k = pieces-other byte more e in
     let g = rw e at h in
-    let below : space_in more < length more = omega arith in
+    let below : first_space more < length more = omega arith in
     let i = step below in
-    let one : 1 + space_in more ≡ suc (space_in more) = omega arith in
-    let two : suc (space_in more) + 1 ≡ suc (space_in more + 1) = omega arith in
+    let one : 1 + first_space more ≡ suc (first_space more) = omega arith in
+    let two : suc (first_space more) + 1 ≡ suc (first_space more + 1) = omega arith in
     rw e (k ∙ rw (i, one, two) refl)
 
 pub pieces-some : (line : List ℕ) → SplitsAt line
@@ -39,7 +39,7 @@ pieces-some (byte ∷ more) h = split_at byte more (byte == 32) refl (pieces-som
 
 -- a line with none
 abbrev pub IsOnePiece : List ℕ → Type 0
-IsOnePiece line = length line ≤ space_in line → pieces line ≡ line ∷ []
+IsOnePiece line = length line ≤ first_space line → pieces line ≡ line ∷ []
 
 one_at : (byte : ℕ) (more : List ℕ) (t : Bool) → (byte == 32) ≡ t → IsOnePiece more → IsOnePiece (byte ∷ more)
 one_at byte more true e step h = absurd (let g = rw e at h in omega arith)
@@ -54,10 +54,10 @@ pieces-none (byte ∷ more) h = one_at byte more (byte == 32) refl (pieces-none 
 
 -- what a search for the first space finds
 
-pub none-space : (line : List ℕ) → None ≡ position (λ byte. byte == 32) line → length line ≤ space_in line
+pub none-space : (line : List ℕ) → None ≡ position (λ byte. byte == 32) line → length line ≤ first_space line
 none-space line h = grind (arith, nat_tests)
 
-pub some-space : (line : List ℕ) (space : ℕ) → Some space ≡ position (λ byte. byte == 32) line → (space ≡ space_in line) × (space_in line < length line)
+pub some-space : (line : List ℕ) (space : ℕ) → Some space ≡ position (λ byte. byte == 32) line → (space ≡ first_space line) × (first_space line < length line)
 some-space line space h = (grind (arith, nat_tests), grind (arith, nat_tests))
 
 -- the first piece, and the line after its space

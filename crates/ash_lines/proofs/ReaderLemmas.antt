@@ -13,8 +13,8 @@ keeps_nothing None new h = tt
 keeps_nothing (Some xs) None h = absurd h
 keeps_nothing (Some xs) (Some ys) h = sym h
 
-pub came_end : {E : Type 0} (old mid new : Option (List ℕ)) (r : Result ℕ E) (n : ℕ) (buf : List ℕ) → Keeps old mid → ReadConsumes mid new r buf → r ≡ Ok n → n ≡ 0 → 0 < length buf → Keeps old new × IsAtEnd new
-came_end old mid new r n buf k h e f l =
+pub reads_end : {E : Type 0} (old mid new : Option (List ℕ)) (r : Result ℕ E) (n : ℕ) (buf : List ℕ) → Keeps old mid → ReadConsumes mid new r buf → r ≡ Ok n → n ≡ 0 → 0 < length buf → Keeps old new × IsAtEnd new
+reads_end old mid new r n buf k h e f l =
     let w = rw (e, f) at h in
     (keeps_nothing old new (keeps_then old mid new [] k w.0), w.1 refl l)
 
@@ -25,8 +25,8 @@ take-one (suc zero) (b ∷ []) byte z l o e = ap (λ (x : ℕ). x ∷ []) (sym e
 take-one (suc (suc n)) (b ∷ []) byte z l o e = absurd (omega arith)
 take-one (suc n) (b ∷ b' ∷ buf) byte z l o e = absurd (omega arith)
 
-pub came_byte : {E : Type 0} (old mid new : Option (List ℕ)) (r : Result ℕ E) (n : ℕ) (buf : List ℕ) (byte : ℕ) → Keeps old mid → ReadConsumes mid new r buf → r ≡ Ok n → (n ≡ 0 → ⊥) → n ≤ length buf → length buf ≡ 1 → byte ≡ get_or buf 0 0 → Consumes old new (byte ∷ [])
-came_byte old mid new r n buf byte k h e z l o f =
+pub reads_byte : {E : Type 0} (old mid new : Option (List ℕ)) (r : Result ℕ E) (n : ℕ) (buf : List ℕ) (byte : ℕ) → Keeps old mid → ReadConsumes mid new r buf → r ≡ Ok n → (n ≡ 0 → ⊥) → n ≤ length buf → length buf ≡ 1 → byte ≡ get_or buf 0 0 → Consumes old new (byte ∷ [])
+reads_byte old mid new r n buf byte k h e z l o f =
     let w = rw e at h in
     keeps_then old mid new (byte ∷ []) k (subst (λ (x : List ℕ). Consumes mid new x) (take-one n buf byte z l o f) w.0)
 

@@ -7,9 +7,9 @@ use Rattle.std.specs.List.{list_all}
 use Rattle.std.specs.Str.{IsUtf8}
 use Rattle.std.specs.Borrow.{Bor}
 use Rattle.ash_meaning.specs.declared.request.Argument.{Argument}
-use Rattle.ash_lines.specs.Lines.{pieces, onto, is_visible, is_word, both, argument_of, arguments_of, Says, BadRequest, spelling, words_spelling}
+use Rattle.ash_lines.specs.Lines.{pieces, onto, is_visible, is_word, both, argument_of, arguments_of, Complete, BadRequest, parse_line, parse_words}
 use Rattle.ash_lines.specs.Words.{is_none_left, words_left}
-use Rattle.ash_lines.specs.Spelled.{prepend}
+use Rattle.ash_lines.specs.ParsedLines.{prepend}
 use Rattle.ash_lines.proofs.LineLemmas.{pieces-space, pieces-other}
 
 -- a line has a piece
@@ -88,10 +88,10 @@ arguments-end arguments left e = rw (e, arguments-nil) (ap (λ (x : List Argumen
 
 -- lines
 
-pub spelling-bad : (line : List ℕ) → false ≡ list_all is_word (pieces line) → Says BadRequest ≡ spelling line
-unfolding spelling
-spelling-bad line e = rw (← e) refl
+pub parse_line-bad : (line : List ℕ) → false ≡ list_all is_word (pieces line) → Complete BadRequest ≡ parse_line line
+unfolding parse_line
+parse_line-bad line e = rw (← e) refl
 
-pub spelling-good : (line : List ℕ) (words : List (List ℕ)) → true ≡ list_all is_word (pieces line) → pieces line ≡ words → words_spelling words ≡ spelling line
-unfolding spelling
-spelling-good line words e f = rw (← e, f) refl
+pub parse_line-good : (line : List ℕ) (words : List (List ℕ)) → true ≡ list_all is_word (pieces line) → pieces line ≡ words → parse_words words ≡ parse_line line
+unfolding parse_line
+parse_line-good line words e f = rw (← e, f) refl

@@ -3,8 +3,8 @@ use Rattle.std.proofs.Common.{◌≡◌, ◌≤◌, ℕ, ◌+◌, ◌-◌, List,
 use Rattle.std.proofs.lemmas.Grind.{common_steps}
 use Rattle.std.proofs.lemmas.List.{append-nil}
 use Rattle.std.specs.Io.KnownBytes.{Appends, Keeps, WriteAppends}
-use Rattle.ash_lines.specs.Sink.{Outlet, IsOutlet, Stops, Puts, Flushes}
-use Rattle.ash_lines.specs.Writer.{appends-nothing, appends-onward, Passes}
+use Rattle.ash_lines.specs.Sink.{Outlet, IsOutlet, FailsPartway, Writes, Flushes}
+use Rattle.ash_lines.specs.Writer.{appends-nothing, appends-onward, WritesThrough}
 use Rattle.ash_lines.specs.declared.sink.WriteFault.{WriteFault}
 
 take-nothing : (bytes : List ℕ) → take 0 bytes ≡ []
@@ -29,63 +29,63 @@ keeps_appends (Some xs) (Some ys) None bytes h k = absurd k
 keeps_appends (Some xs) (Some ys) (Some zs) bytes h k = k ∙ h
 
 -- a write that took so many bytes
-pub wrote_more : {E : Type 0} (old mid new : Option (List ℕ)) (bytes part : List ℕ) (sent count : ℕ) (r : Result ℕ E) → Appends old mid (take sent bytes) → WriteAppends mid new r part → r ≡ Ok count → part ≡ drop sent bytes → Appends old new (take (sent + count) bytes)
-wrote_more old mid new bytes part sent count r h k e p =
+pub wrote_more : {E : Type 0} (old mid new : Option (List ℕ)) (bytes part : List ℕ) (written count : ℕ) (r : Result ℕ E) → Appends old mid (take written bytes) → WriteAppends mid new r part → r ≡ Ok count → part ≡ drop written bytes → Appends old new (take (written + count) bytes)
+wrote_more old mid new bytes part written count r h k e p =
     let w = rw (e, p) at k in
-    subst (λ (x : List ℕ). Appends old new x) (take-sum sent count bytes) (appends-onward old mid new (take sent bytes) (take count (drop sent bytes)) h w)
+    subst (λ (x : List ℕ). Appends old new x) (take-sum written count bytes) (appends-onward old mid new (take written bytes) (take count (drop written bytes)) h w)
 
 -- a write that took none, or failed
-pub wrote_none : {E : Type 0} (old mid new : Option (List ℕ)) (bytes part : List ℕ) (sent count : ℕ) (r : Result ℕ E) → Appends old mid (take sent bytes) → WriteAppends mid new r part → r ≡ Ok count → count ≡ 0 → Appends old new (take sent bytes)
-wrote_none old mid new bytes part sent count r h k e z =
+pub wrote_none : {E : Type 0} (old mid new : Option (List ℕ)) (bytes part : List ℕ) (written count : ℕ) (r : Result ℕ E) → Appends old mid (take written bytes) → WriteAppends mid new r part → r ≡ Ok count → count ≡ 0 → Appends old new (take written bytes)
+wrote_none old mid new bytes part written count r h k e z =
     let w = rw (e, z) at k in
-    subst (λ (x : List ℕ). Appends old new x) (append-nil (take sent bytes)) (appends-onward old mid new (take sent bytes) [] h w)
+    subst (λ (x : List ℕ). Appends old new x) (append-nil (take written bytes)) (appends-onward old mid new (take written bytes) [] h w)
 
-pub wrote_failed : {E : Type 0} (old mid new : Option (List ℕ)) (bytes part : List ℕ) (sent : ℕ) (fault : E) (r : Result ℕ E) → Appends old mid (take sent bytes) → WriteAppends mid new r part → r ≡ Err fault → Appends old new (take sent bytes)
-wrote_failed old mid new bytes part sent fault r h k e = let w = rw e at k in keeps_appends old mid new (take sent bytes) h w
+pub wrote_failed : {E : Type 0} (old mid new : Option (List ℕ)) (bytes part : List ℕ) (written : ℕ) (fault : E) (r : Result ℕ E) → Appends old mid (take written bytes) → WriteAppends mid new r part → r ≡ Err fault → Appends old new (take written bytes)
+wrote_failed old mid new bytes part written fault r h k e = let w = rw e at k in keeps_appends old mid new (take written bytes) h w
 
-pub wrote_all : (old new : Option (List ℕ)) (bytes : List ℕ) (sent : ℕ) → Appends old new (take sent bytes) → length bytes ≤ sent → Appends old new bytes
-wrote_all old new bytes sent h l = let e : take sent bytes ≡ bytes = grind (arith, common_steps) in subst (λ (x : List ℕ). Appends old new x) e h
+pub wrote_all : (old new : Option (List ℕ)) (bytes : List ℕ) (written : ℕ) → Appends old new (take written bytes) → length bytes ≤ written → Appends old new bytes
+wrote_all old new bytes written h l = let e : take written bytes ≡ bytes = grind (arith, common_steps) in subst (λ (x : List ℕ). Appends old new x) e h
 
-pub slice_rest : (bytes : List ℕ) (sent : ℕ) → take (length bytes - sent) (drop sent bytes) ≡ drop sent bytes
-slice_rest bytes sent = grind (arith, common_steps)
+pub slice_rest : (bytes : List ℕ) (written : ℕ) → take (length bytes - written) (drop written bytes) ≡ drop written bytes
+slice_rest bytes written = grind (arith, common_steps)
 
-pub slice_length : (bytes : List ℕ) (sent : ℕ) → length (take (length bytes - sent) (drop sent bytes)) ≤ length bytes - sent
-slice_length bytes sent = grind (arith, common_steps)
+pub slice_length : (bytes : List ℕ) (written : ℕ) → length (take (length bytes - written) (drop written bytes)) ≤ length bytes - written
+slice_length bytes written = grind (arith, common_steps)
 
--- a front, and what is lost
-pub split_front : (n : ℕ) (xs : List ℕ) → xs ≡ take n xs ++ drop n xs
-split_front zero xs = refl
-split_front (suc n) [] = refl
-split_front (suc n) (x ∷ xs) = ap (λ (ys : List ℕ). x ∷ ys) (split_front n xs)
+-- a prefix, and what is lost
+pub split_prefix : (n : ℕ) (xs : List ℕ) → xs ≡ take n xs ++ drop n xs
+split_prefix zero xs = refl
+split_prefix (suc n) [] = refl
+split_prefix (suc n) (x ∷ xs) = ap (λ (ys : List ℕ). x ∷ ys) (split_prefix n xs)
 
 pub keeps_none : (old new : Option (List ℕ)) → Keeps old new → Appends old new []
 keeps_none None new k = tt
 keeps_none (Some xs) None k = absurd k
 keeps_none (Some xs) (Some ys) k = k ∙ sym (append-nil xs)
 
--- putting bytes behind those that are sent first
+-- bytes that are written after those that were buffered
 
-pub send_fault : {K : Type 0} (outlet : Outlet K) (s t : K) (bytes : List ℕ) → ((out : List ℕ) × (lost : List ℕ) × outlet.breaks s out t × (outlet.held s ≡ out ++ lost)) → Stops outlet s bytes t
-send_fault outlet s t bytes h = record { out = h.0; lost = h.1 ++ bytes; broke = h.2; whole = ap (λ (x : List ℕ). x ++ bytes) h.3 ∙ append_assoc h.0 h.1 bytes }
+pub buffered_fault : {K : Type 0} (outlet : Outlet K) (s t : K) (bytes : List ℕ) → ((out : List ℕ) × (lost : List ℕ) × outlet.fails s out t × (outlet.buffered s ≡ out ++ lost)) → FailsPartway outlet s bytes t
+buffered_fault outlet s t bytes h = record { out = h.0; lost = h.1 ++ bytes; broke = h.2; whole = ap (λ (x : List ℕ). x ++ bytes) h.3 ∙ append_assoc h.0 h.1 bytes }
 
-pub pass_after : {K : Type 0} (outlet : Outlet K) → IsOutlet outlet → (s m t : K) (bytes : List ℕ) (r : Result (Unit {0}) WriteFault) → (outlet.sends s (outlet.held s) m × (outlet.held m ≡ [])) → Passes outlet m bytes r t (outlet.held m) → Puts outlet s bytes r t
-pass_after outlet is s m t bytes (Ok x) h k = record {
-  out = outlet.held s ++ bytes;
-  sent = is.onward s m t (outlet.held s) bytes h.0 k.0;
-  whole = sym (append-nil (outlet.held s ++ bytes)) ∙ ap (λ (x : List ℕ). (outlet.held s ++ bytes) ++ x) (sym (k.1 ∙ h.1));
+pub through_after : {K : Type 0} (outlet : Outlet K) → IsOutlet outlet → (s m t : K) (bytes : List ℕ) (r : Result (Unit {0}) WriteFault) → (outlet.writes s (outlet.buffered s) m × (outlet.buffered m ≡ [])) → WritesThrough outlet m bytes r t (outlet.buffered m) → Writes outlet s bytes r t
+through_after outlet is s m t bytes (Ok x) h k = record {
+  out = outlet.buffered s ++ bytes;
+  written = is.onward s m t (outlet.buffered s) bytes h.0 k.0;
+  whole = sym (append-nil (outlet.buffered s ++ bytes)) ∙ ap (λ (x : List ℕ). (outlet.buffered s ++ bytes) ++ x) (sym (k.1 ∙ h.1));
 }
-pass_after outlet is s m t bytes (Err x) h k = record {
-  out = outlet.held s ++ k.0;
+through_after outlet is s m t bytes (Err x) h k = record {
+  out = outlet.buffered s ++ k.0;
   lost = k.1;
-  broke = is.broken s m t (outlet.held s) k.0 h.0 k.2;
-  whole = ap (λ (x : List ℕ). outlet.held s ++ x) k.3 ∙ sym (append_assoc (outlet.held s) k.0 k.1);
+  broke = is.broken s m t (outlet.buffered s) k.0 h.0 k.2;
+  whole = ap (λ (x : List ℕ). outlet.buffered s ++ x) k.3 ∙ sym (append_assoc (outlet.buffered s) k.0 k.1);
 }
 
-pub flush_after : {K : Type 0} (outlet : Outlet K) → IsOutlet outlet → (s m t : K) (r : Result (Unit {0}) WriteFault) → (outlet.sends s (outlet.held s) m × (outlet.held m ≡ [])) → Passes outlet m [] r t (outlet.held m) → Flushes outlet s r t
-flush_after outlet is s m t (Ok x) h k = record { sent = is.onward s m t (outlet.held s) [] h.0 k.0; empty = k.1 ∙ h.1 }
+pub flush_after : {K : Type 0} (outlet : Outlet K) → IsOutlet outlet → (s m t : K) (r : Result (Unit {0}) WriteFault) → (outlet.writes s (outlet.buffered s) m × (outlet.buffered m ≡ [])) → WritesThrough outlet m [] r t (outlet.buffered m) → Flushes outlet s r t
+flush_after outlet is s m t (Ok x) h k = record { written = is.onward s m t (outlet.buffered s) [] h.0 k.0; empty = k.1 ∙ h.1 }
 flush_after outlet is s m t (Err x) h k = record {
-  out = outlet.held s ++ k.0;
+  out = outlet.buffered s ++ k.0;
   lost = k.1;
-  broke = is.broken s m t (outlet.held s) k.0 h.0 k.2;
-  whole = ap (λ (x : List ℕ). outlet.held s ++ x) k.3 ∙ sym (append_assoc (outlet.held s) k.0 k.1);
+  broke = is.broken s m t (outlet.buffered s) k.0 h.0 k.2;
+  whole = ap (λ (x : List ℕ). outlet.buffered s ++ x) k.3 ∙ sym (append_assoc (outlet.buffered s) k.0 k.1);
 }

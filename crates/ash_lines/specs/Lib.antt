@@ -3,7 +3,7 @@ pub mod Sink
 pub mod Reading
 pub mod Lines
 pub mod Words
-pub mod Spelled
+pub mod ParsedLines
 pub mod Replies
 pub mod Reader
 pub mod Writer

@@ -7,14 +7,14 @@ use Rattle.ash_meaning.specs.declared.request.Argument.TheVariants.{Truth, Numbe
 use Rattle.ash_meaning.specs.State.{Request, Call, Discard, Global, Seq, Snapshot}
 use Rattle.ash_meaning.specs.State as state
 
--- what one request asks: something of the host, or to end the run; or it is no request, or too long a line
+-- What one request asks: something of the host, or to end the run. Or it is no request, or its line is too long.
 pub data Line : Type 0 where
-  Asked : (request : Request) → Line
+  HostRequest : (request : Request) → Line
   Quit : Line
   BadRequest : Line
   LineTooLong : Line
 
--- a line after which the run goes on: any but `quit`
+-- The run goes on after this line: after any but `quit`.
 abbrev pub GoesOn : Line → Type 0
 GoesOn Quit = ⊥
 GoesOn _ = Unit {0}
@@ -30,7 +30,7 @@ abbrev pub onto : ℕ → List (List ℕ) → List (List ℕ)
 onto byte [] = (byte ∷ []) ∷ []
 onto byte (piece ∷ pieces) = (byte ∷ piece) ∷ pieces
 
--- the pieces of a line between its spaces; two spaces in a row have an empty piece between them
+-- The pieces of a line between its spaces. Two spaces in a row have an empty piece between them.
 unfoldable pub pieces : List ℕ → List (List ℕ)
 pieces [] = [] ∷ []
 pieces (byte ∷ more) = if byte == 32 then [] ∷ pieces more else onto byte (pieces more)
@@ -48,7 +48,7 @@ is_word piece = nat_lt 0 (length piece) && list_all is_visible piece
 abbrev pub is_digit : ℕ → Bool
 is_digit byte = nat_le 48 byte && nat_le byte 57
 
--- the number that digits spell, after those that are read already
+-- the number that digits spell, where those before them spell the first argument
 abbrev pub value_after : ℕ → List ℕ → ℕ
 value_after number [] = number
 value_after number (digit ∷ digits) = value_after (10 * number + (digit - 48)) digits
@@ -94,66 +94,68 @@ arguments_of (word ∷ words) = both (argument_of word) (arguments_of words)
 
 -- Lines.
 
--- what a line says: all that is asked, or a source of so many bytes follows it
-pub data Spelling : Type 0 where
-  Says : (line : Line) → Spelling
-  Loads : (name : List ℕ) → (length : ℕ) → Spelling
+-- What a line asks: all of it is in the line, or a source of so many bytes follows, to be loaded under a name.
+pub data ParsedLine : Type 0 where
+  Complete : (line : Line) → ParsedLine
+  LoadHeader : (name : List ℕ) → (length : ℕ) → ParsedLine
 
-abbrev pub loads : List ℕ → Option ℕ → Spelling
-loads name None = Says BadRequest
-loads name (Some length) = Loads name length
+-- the line of a load, if its length is one
+abbrev pub load_header : List ℕ → Option ℕ → ParsedLine
+load_header name None = Complete BadRequest
+load_header name (Some length) = LoadHeader name length
 
 -- load NAME LENGTH
-abbrev pub load_spelling : List (List ℕ) → Spelling
-load_spelling (name ∷ length ∷ []) = loads name (length_of length)
-load_spelling _ = Says BadRequest
+abbrev pub parse_load : List (List ℕ) → ParsedLine
+parse_load (name ∷ length ∷ []) = load_header name (length_of length)
+parse_load _ = Complete BadRequest
 
-abbrev pub calls : List ℕ → List ℕ → Option (List Argument) → Spelling
-calls script function None = Says BadRequest
-calls script function (Some arguments) = Says (Asked (Call script function arguments))
+-- a call, if its arguments are all such
+abbrev pub call_request : List ℕ → List ℕ → Option (List Argument) → ParsedLine
+call_request module_name function None = Complete BadRequest
+call_request module_name function (Some arguments) = Complete (HostRequest (Call module_name function arguments))
 
 -- call NAME FUNCTION, then any number of arguments
-abbrev pub call_spelling : List (List ℕ) → Spelling
-call_spelling (script ∷ function ∷ words) = calls script function (arguments_of words)
-call_spelling _ = Says BadRequest
+abbrev pub parse_call : List (List ℕ) → ParsedLine
+parse_call (module_name ∷ function ∷ words) = call_request module_name function (arguments_of words)
+parse_call _ = Complete BadRequest
 
 -- get NAME GLOBAL
-abbrev pub get_spelling : List (List ℕ) → Spelling
-get_spelling (script ∷ name ∷ []) = Says (Asked (Global script name))
-get_spelling _ = Says BadRequest
+abbrev pub parse_get : List (List ℕ) → ParsedLine
+parse_get (module_name ∷ name ∷ []) = Complete (HostRequest (Global module_name name))
+parse_get _ = Complete BadRequest
 
 -- discard NAME
-abbrev pub discard_spelling : List (List ℕ) → Spelling
-discard_spelling (name ∷ []) = Says (Asked (Discard name))
-discard_spelling _ = Says BadRequest
+abbrev pub parse_discard : List (List ℕ) → ParsedLine
+parse_discard (name ∷ []) = Complete (HostRequest (Discard name))
+parse_discard _ = Complete BadRequest
 
 -- a request of one word
-abbrev pub lone_spelling : Line → List (List ℕ) → Spelling
-lone_spelling line [] = Says line
-lone_spelling line _ = Says BadRequest
+abbrev pub parse_lone : Line → List (List ℕ) → ParsedLine
+parse_lone line [] = Complete line
+parse_lone line _ = Complete BadRequest
 
-abbrev pub verb_spelling : List ℕ → List (List ℕ) → Spelling
-verb_spelling verb words =
-    if bytes_eq verb (codes "load") then load_spelling words
-    else if bytes_eq verb (codes "call") then call_spelling words
-    else if bytes_eq verb (codes "get") then get_spelling words
-    else if bytes_eq verb (codes "discard") then discard_spelling words
-    else if bytes_eq verb (codes "seq") then lone_spelling (Asked Seq) words
-    else if bytes_eq verb (codes "snapshot") then lone_spelling (Asked Snapshot) words
-    else if bytes_eq verb (codes "quit") then lone_spelling Quit words
-    else Says BadRequest
+abbrev pub parse_verb : List ℕ → List (List ℕ) → ParsedLine
+parse_verb verb words =
+    if bytes_eq verb (codes "load") then parse_load words
+    else if bytes_eq verb (codes "call") then parse_call words
+    else if bytes_eq verb (codes "get") then parse_get words
+    else if bytes_eq verb (codes "discard") then parse_discard words
+    else if bytes_eq verb (codes "seq") then parse_lone (HostRequest Seq) words
+    else if bytes_eq verb (codes "snapshot") then parse_lone (HostRequest Snapshot) words
+    else if bytes_eq verb (codes "quit") then parse_lone Quit words
+    else Complete BadRequest
 
-abbrev pub words_spelling : List (List ℕ) → Spelling
-words_spelling [] = Says BadRequest
-words_spelling (verb ∷ words) = verb_spelling verb words
+abbrev pub parse_words : List (List ℕ) → ParsedLine
+parse_words [] = Complete BadRequest
+parse_words (verb ∷ words) = parse_verb verb words
 
--- what a line says: words, parted by one space each
-unfoldable pub spelling : List ℕ → Spelling
-spelling line = if list_all is_word (pieces line) then words_spelling (pieces line) else Says BadRequest
+-- What a line asks by its words, between which there is one space each.
+unfoldable pub parse_line : List ℕ → ParsedLine
+parse_line line = if list_all is_word (pieces line) then parse_words (pieces line) else Complete BadRequest
 
 -- The input.
 
--- what stands at the front of the input: nothing, the beginning of a request that the end cuts, or a request and what follows it
+-- what the input begins with: nothing, a request that the end cuts, or a whole request, and what follows it
 pub data Next : Type 0 where
   End : Next
   Cut : Next
@@ -162,29 +164,29 @@ pub data Next : Type 0 where
 -- After a source its line ends; where it goes on, the rest of it is skipped and there was no request.
 abbrev pub after_source : List ℕ → List ℕ → Option (List ℕ × List ℕ) → Next
 after_source name source None = Cut
-after_source name source (Some ([], more)) = Whole (Asked (state.Load name source)) more
+after_source name source (Some ([], more)) = Whole (HostRequest (state.Load name source)) more
 after_source name source (Some (byte ∷ line, more)) = Whole BadRequest more
 
-abbrev pub after_line : Spelling → List ℕ → Next
-after_line (Says line) more = Whole line more
-after_line (Loads name length) more = after_source name (take length more) (cut_line (drop length more))
+abbrev pub after_line : ParsedLine → List ℕ → Next
+after_line (Complete line) more = Whole line more
+after_line (LoadHeader name length) more = after_source name (take length more) (cut_line (drop length more))
 
 -- the most bytes of a line
-abbrev pub most_line : ℕ
-most_line = 4096
+abbrev pub max_line_bytes : ℕ
+max_line_bytes = 4096
 
 abbrev pub on_line : Option (List ℕ × List ℕ) → Next
 on_line None = Cut
-on_line (Some (line, more)) = if nat_lt most_line (length line) then Whole LineTooLong more else after_line (spelling line) more
+on_line (Some (line, more)) = if nat_lt max_line_bytes (length line) then Whole LineTooLong more else after_line (parse_line line) more
 
 unfoldable pub next : List ℕ → Next
 next [] = End
 next (byte ∷ more) = on_line (cut_line (byte ∷ more))
 
--- The input is these requests one after another, and then this rest.
-abbrev pub Asks : List ℕ → List Line → List ℕ → Type 0
-Asks input [] rest = input ≡ rest
-Asks input (line ∷ lines) rest = (more : List ℕ) × (next input ≡ Whole line more) × Asks more lines rest
+-- The input consists of these requests, one after another, and then of this rest.
+abbrev pub ConsistsOf : List ℕ → List Line → List ℕ → Type 0
+ConsistsOf input [] rest = input ≡ rest
+ConsistsOf input (line ∷ lines) rest = (more : List ℕ) × (next input ≡ Whole line more) × ConsistsOf more lines rest
 
 -- no request begins, or one that the end of these bytes cuts
 abbrev pub is_unfinished : Next → Bool

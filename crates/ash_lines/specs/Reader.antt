@@ -6,14 +6,14 @@ use Rattle.std.specs.Io.KnownBytes.{Consumes, Keeps, IsAtEnd, prepend_known}
 use Rattle.std.proofs.Common.{sym, ap, ◌∙◌, append_assoc, arith, length-append}
 use Rattle.ash_lines.specs.Source.{Feed, IsFeed}
 use Rattle.ash_lines.specs.declared.reader.Reader.{Reader}
-use Rattle.ash_lines.specs.declared.reader.Arrival.{Arrival}
-use Rattle.ash_lines.specs.declared.reader.Arrival.TheVariants as arrivals
+use Rattle.ash_lines.specs.declared.reader.ByteRead.{ByteRead}
+use Rattle.ash_lines.specs.declared.reader.ByteRead.TheVariants as byte_reads
 
--- what a read came to, where the reader's bytes are known
-abbrev pub Came : Option (List ℕ) → Arrival → Option (List ℕ) → Type 0
-Came old (arrivals.Byte byte) new = Consumes old new (byte ∷ [])
-Came old arrivals.End new = Keeps old new × IsAtEnd new
-Came old arrivals.Failed new = ⊤
+-- What reading a byte did to the reader's bytes, where they are known.
+abbrev pub ReadsByte : Option (List ℕ) → ByteRead → Option (List ℕ) → Type 0
+ReadsByte old (byte_reads.Byte byte) new = Consumes old new (byte ∷ [])
+ReadsByte old byte_reads.End new = Keeps old new × IsAtEnd new
+ReadsByte old byte_reads.Failed new = ⊤
 
 -- the bytes that are left, where they are known
 abbrev pub left_of : {R : Type 0} → (R → Option (List ℕ)) → Reader R → Option (List ℕ)
@@ -25,8 +25,8 @@ allowance_of s = if is_some s.extra then 0 else s.allowance
 
 abbrev pub reader_feed : {R : Type 0} → (R → Option (List ℕ)) → Feed (Reader R)
 reader_feed remaining = record {
-  takes = λ s bytes t. Consumes (left_of remaining s) (left_of remaining t) bytes × (length bytes + allowance_of t ≡ allowance_of s) × (t.failed ≡ s.failed);
-  breaks = λ s t. t.failed ≡ true;
+  reads = λ s bytes t. Consumes (left_of remaining s) (left_of remaining t) bytes × (length bytes + allowance_of t ≡ allowance_of s) × (t.failed ≡ s.failed);
+  fails = λ s t. t.failed ≡ true;
   ended = λ s. IsAtEnd (left_of remaining s);
   unread = λ s. is_some s.extra ≡ true;
   allowance = λ s. allowance_of s;

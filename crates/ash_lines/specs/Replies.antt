@@ -10,17 +10,26 @@ use Rattle.ash_meaning.specs.Refusals.{Refusal}
 use Rattle.ash_meaning.specs.Refusals as refusals
 use Rattle.ash_parse.specs.declared.faults.UnsupportedPart.{UnsupportedPart}
 use Rattle.ash_parse.specs.Faults.{part_text}
+use Rattle.ash_lines.specs.declared.reply.LineReply as code
+use Rattle.ash_lines.specs.declared.reply.LineReply.TheVariants as code_replies
 use Rattle.ash_lines.specs.declared.reply.Details as details
 use Rattle.ash_lines.specs.declared.reply.Details.TheVariants as the_details
 use Rattle.ash_subset.specs.Meaning.{End, Finished, Threw, Aborted}
-use Rattle.ash_meaning.specs.State.{Reply, Answered, Value, Number, Done, Refused}
+use Rattle.ash_meaning.specs.State.{Reply, Answered, Value, Number, Done, Refused, reply_of}
 
--- what is told of a line: the host's reply, that the run ends, or why it is no request
-pub data Told : Type 0 where
-  Replied : (reply : Reply) → Told
-  Left : Told
-  NoRequest : Told
-  LongLine : Told
+-- the reply to a line: the host's, that the run ends, or why the line is no request
+pub data LineReply : Type 0 where
+  HostReply : (reply : Reply) → LineReply
+  QuitReply : LineReply
+  BadRequestReply : LineReply
+  LineTooLongReply : LineReply
+
+-- what the code's reply to a line represents
+abbrev pub line_reply_of : code.LineReply → LineReply
+line_reply_of (code_replies.Host reply) = HostReply (reply_of reply)
+line_reply_of code_replies.Quit = QuitReply
+line_reply_of code_replies.BadRequest = BadRequestReply
+line_reply_of code_replies.LineTooLong = LineTooLongReply
 
 abbrev pub word_text : Word → List ℕ
 word_text (Bool true) = codes "true"
@@ -79,7 +88,7 @@ refusal_name refusals.Reopen = codes "508 Reopen"
 refusal_name refusals.NoMemory = codes "509 NoMemory"
 refusal_name refusals.GenerationSpent = codes "511 GenerationSpent"
 
--- what a refusal tells of a source: an offset in it, the word of a part that the profile doesn't have, or classes by name
+-- what a refusal reports of a source: an offset in it, the word of a part that the profile doesn't have, or classes by name
 pub data Details : Type 0 where
   Nothing : Details
   At : (at : ℕ) → Details
@@ -108,14 +117,14 @@ details_in (refusals.ConstantOutOfRange at) = At at
 details_in (refusals.DuplicateCase at) = At at
 details_in _ = Nothing
 
--- what the code has of that
+-- what the code's details represent
 abbrev pub details_of : details.Details → Details
 details_of the_details.Nothing = Nothing
 details_of (the_details.At at) = At at
 details_of (the_details.WordAt word at) = WordAt word at
 details_of (the_details.Names names) = Names (map string_bytes names.now)
 
--- names, each behind a blank
+-- names, with a blank before each
 abbrev pub names_text : List (List ℕ) → List ℕ
 names_text names = flat_map (λ name. codes " " ++ name) names
 
@@ -128,7 +137,7 @@ details_text (Names names) = names_text names
 abbrev pub refusal_text : Refusal → List ℕ
 refusal_text refusal = refusal_name refusal ++ details_text (details_in refusal)
 
--- a function of the script and the line that it came to
+-- where a run ended: a function of the script, and the line in it
 abbrev pub place_text : List ℕ → ℕ → List ℕ
 place_text function line = codes " " ++ (function ++ (codes " " ++ decimal line))
 
@@ -153,16 +162,16 @@ reply_text (Number seq) = codes "ok " ++ decimal seq
 reply_text Done = codes "ok"
 reply_text (Refused refusal) = codes "refused " ++ refusal_text refusal
 
-abbrev pub told_text : Told → List ℕ
-told_text (Replied reply) = reply_text reply
-told_text Left = codes "ok"
-told_text NoRequest = codes "refused 601 BadRequest"
-told_text LongLine = codes "refused 602 LineTooLong"
+abbrev pub line_reply_text : LineReply → List ℕ
+line_reply_text (HostReply reply) = reply_text reply
+line_reply_text QuitReply = codes "ok"
+line_reply_text BadRequestReply = codes "refused 601 BadRequest"
+line_reply_text LineTooLongReply = codes "refused 602 LineTooLong"
 
--- a reply is a line
-unfoldable pub reply_line : Told → List ℕ
-reply_line told = told_text told ++ 10 ∷ []
+-- the reply to a line, as a line
+unfoldable pub reply_line : LineReply → List ℕ
+reply_line line_reply = line_reply_text line_reply ++ 10 ∷ []
 
--- replies, one after another
-abbrev pub text_of : List Told → List ℕ
+-- the text of replies, one after another
+abbrev pub text_of : List LineReply → List ℕ
 text_of replies = flat_map reply_line replies

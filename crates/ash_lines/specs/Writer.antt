@@ -9,9 +9,9 @@ use Rattle.ash_lines.specs.declared.writer.Writer.{Writer}
 
 abbrev pub writer_outlet : {W : Type 0} → (W → Option (List ℕ)) → Outlet (Writer W)
 writer_outlet contents = record {
-  sends = λ s bytes t. Appends (contents s.writer.now) (contents t.writer.now) bytes × (t.writer.ghost_name ≡ s.writer.ghost_name) × (t.failed ≡ s.failed);
-  breaks = λ s bytes t. Appends (contents s.writer.now) (contents t.writer.now) bytes × (t.writer.ghost_name ≡ s.writer.ghost_name) × (t.failed ≡ true);
-  held = λ s. s.buffer.items;
+  writes = λ s bytes t. Appends (contents s.writer.now) (contents t.writer.now) bytes × (t.writer.ghost_name ≡ s.writer.ghost_name) × (t.failed ≡ s.failed);
+  fails = λ s bytes t. Appends (contents s.writer.now) (contents t.writer.now) bytes × (t.writer.ghost_name ≡ s.writer.ghost_name) × (t.failed ≡ true);
+  buffered = λ s. s.buffer.items;
 }
 
 pub appends-nothing : (known : Option (List ℕ)) → Appends known known []
@@ -31,12 +31,12 @@ writer_is_outlet contents = record {
   broken = λ s t u first more h k. (appends-onward (contents s.writer.now) (contents t.writer.now) (contents u.writer.now) first more h.0 k.0, k.1 ∙ h.1, k.2);
 }
 
--- what of the bytes went out, where the writer's are known: all, or so many before a write failed
-abbrev pub Wrote : Option (List ℕ) → List ℕ → Result (Unit {0}) ℕ → Option (List ℕ) → Type 0
-Wrote old bytes (Ok _) new = Appends old new bytes
-Wrote old bytes (Err count) new = Appends old new (take count bytes)
+-- How many of the bytes went out, where the writer's are known: all, or so many before a write failed.
+abbrev pub WritesOut : Option (List ℕ) → List ℕ → Result (Unit {0}) ℕ → Option (List ℕ) → Type 0
+WritesOut old bytes (Ok _) new = Appends old new bytes
+WritesOut old bytes (Err count) new = Appends old new (take count bytes)
 
--- bytes went out, and this is held behind them; or a front of them did
-abbrev pub Passes : {K : Type 0} → Outlet K → K → List ℕ → Result (Unit {0}) WriteFault → K → List ℕ → Type 0
-Passes outlet old bytes (Ok _) new held = outlet.sends old bytes new × (outlet.held new ≡ held)
-Passes outlet old bytes (Err _) new held = (out : List ℕ) × (lost : List ℕ) × outlet.breaks old out new × (bytes ≡ out ++ lost)
+-- Bytes went out, and this is buffered after them; or a prefix of them went out.
+abbrev pub WritesThrough : {K : Type 0} → Outlet K → K → List ℕ → Result (Unit {0}) WriteFault → K → List ℕ → Type 0
+WritesThrough outlet old bytes (Ok _) new buffered = outlet.writes old bytes new × (outlet.buffered new ≡ buffered)
+WritesThrough outlet old bytes (Err _) new buffered = (out : List ℕ) × (lost : List ℕ) × outlet.fails old out new × (bytes ≡ out ++ lost)

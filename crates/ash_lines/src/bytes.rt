@@ -1,42 +1,51 @@
-// Reading the bytes of a source.
+// Reading the bytes of a script's source.
 
 ghost use Rattle.std.specs.Prelude.{◌≡◌, ◌<◌, ◌≤◌, ◌∷◌, [], ◌++◌, length, vec_capacity};
 ghost use Rattle.ash_lines.specs.Reading.{ReadsBytes};
 
 use crate::source::{ReadFault, Source};
 
-/// The most bytes that are kept of a source: one more than a source may have.
-pub const MOST_KEPT: usize = 65537;
+/// The most bytes that are stored of a source: one more than a source may have, so that a longer one is seen to be too
+/// long.
+pub const MAX_PREFIX_BYTES: usize = 65537;
 
-/// Reads so many bytes and keeps the first of them. Answers whether they came before the end.
-pub fn read_bytes<S: Source>(
-    source: &mut S,
-    length: u32,
-    kept: &mut Vec<u8>,
-) -> Result<bool, ReadFault>
-    requires { 65537 ≤ vec_capacity kept.old }
-    ensures read { ReadsBytes S.feed source.old result length kept.new.items source.new }
-    ensures room { 65537 ≤ vec_capacity kept.new }
-{
-    kept.clear();
-    for i in 0..length {
-        match source.next() {
-            Err(fault) => return Err(fault),
-            Ok(None) => return Ok(false),
-            Ok(Some(byte)) => keep(kept, byte),
-        }
-    }
-    Ok(true)
+/// Whether so many bytes came.
+#[derive(Clone, Copy)]
+pub enum BytesRead {
+    All,
+    /// The input ended before the last of them.
+    Cut,
 }
 
-/// Keeps a byte where there is room for it.
-fn keep(kept: &mut Vec<u8>, byte: u8)
-    requires { 65537 ≤ vec_capacity kept.old }
-    ensures kept { length kept.old.items < 65537 → kept.new.items ≡ kept.old.items ++ byte ∷ [] }
-    ensures full { 65537 ≤ length kept.old.items → kept.new.items ≡ kept.old.items }
-    ensures room { 65537 ≤ vec_capacity kept.new }
+/// Reads so many bytes, and stores their prefix in place of what the buffer had.
+pub fn read_bytes<S: Source>(
+    input: &mut S,
+    length: u32,
+    prefix: &mut Vec<u8>,
+) -> Result<BytesRead, ReadFault>
+    requires room { 65537 ≤ vec_capacity prefix.old }
+    ensures read { ReadsBytes S.feed input.old result length prefix.new.items input.new }
+    ensures room { 65537 ≤ vec_capacity prefix.new }
 {
-    if kept.len() < MOST_KEPT {
-        kept.push_reserved(byte);
+    prefix.clear();
+    for i in 0..length {
+        match input.next()? {
+            None => return Ok(BytesRead::Cut),
+            Some(byte) => push_if_room(prefix, byte),
+        }
+    }
+    Ok(BytesRead::All)
+}
+
+/// Stores a byte where there is room for it.
+fn push_if_room(prefix: &mut Vec<u8>, byte: u8)
+    requires room { 65537 ≤ vec_capacity prefix.old }
+    ensures pushed { length prefix.old.items < 65537
+        → prefix.new.items ≡ prefix.old.items ++ byte ∷ [] }
+    ensures full { 65537 ≤ length prefix.old.items → prefix.new.items ≡ prefix.old.items }
+    ensures room { 65537 ≤ vec_capacity prefix.new }
+{
+    if prefix.len() < MAX_PREFIX_BYTES {
+        prefix.push_reserved(byte);
     }
 }

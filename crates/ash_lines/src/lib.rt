@@ -1,8 +1,8 @@
-//! Requests and replies as bytes: which lines spell which request, and which bytes tell which reply, over any source
-//! and any sink.
+//! Requests and replies as bytes: which lines are which request, and which bytes are which reply, over any source of
+//! bytes and any sink.
 //!
-//! `source` and `sink` are what both ends give; `line`, `words`, `number`, `spelled` and `bytes` read a request;
-//! `reply` puts a reply's text; `reader` and `writer` are a source and a sink over std's traits.
+//! `source` and `sink` are what both ends give; `line`, `words`, `number`, `request_line` and `bytes` read a request;
+//! `reply` writes the text of a reply; `reader` and `writer` are a source and a sink over std's traits.
 #![tactic(auto)]
 
 pub mod bytes;
@@ -10,8 +10,8 @@ pub mod line;
 mod number;
 pub mod reader;
 pub mod reply;
+pub mod request_line;
 pub mod sink;
 pub mod source;
-pub mod spelled;
 mod words;
 pub mod writer;

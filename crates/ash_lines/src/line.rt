@@ -3,23 +3,23 @@
 ghost use Rattle.std.specs.Prelude.{◌≤◌, vec_capacity, Result};
 ghost use Rattle.ash_lines.specs.Reading.{Skips, IsLong, ReadsLine};
 ghost use Rattle.ash_lines.specs.declared.source.ReadFault.{ReadFault};
-ghost use Rattle.ash_lines.specs.declared.line.Skipped.{Skipped};
+ghost use Rattle.ash_lines.specs.declared.line.LineRest.{LineRest};
 
 use crate::source::{ReadFault, Source};
 
 /// The most bytes of a line, its line feed not counted.
-pub const MOST_LINE: usize = 4096;
+pub const MAX_LINE_BYTES: usize = 4096;
 
-/// What stood before a line feed.
+/// What comes before the next line feed.
 #[derive(Clone, Copy)]
-pub enum Skipped {
-    Nothing,
+pub enum LineRest {
+    Empty,
     Bytes,
-    /// The input ended before it.
+    /// The input ends before it.
     Cut,
 }
 
-/// What a line came to.
+/// How reading a line ended.
 #[derive(Clone, Copy)]
 pub enum LineRead {
     Whole,
@@ -31,42 +31,40 @@ pub enum LineRead {
 }
 
 /// Reads up to and past the next line feed.
-pub fn skip_line<S: Source>(source: &mut S) -> Result<Skipped, ReadFault>
-    ensures { Skips S.feed source.old result source.new }
+pub fn skip_line<S: Source>(input: &mut S) -> Result<LineRest, ReadFault>
+    ensures skips { Skips S.feed input.old result input.new }
 {
     let mut any = false;
     'bytes: loop {
-        match source.next() {
-            Err(fault) => return Err(fault),
-            Ok(None) => return Ok(Skipped::Cut),
-            Ok(Some(b'\n')) => {
+        match input.next()? {
+            None => return Ok(LineRest::Cut),
+            Some(b'\n') => {
                 return Ok(if any {
-                    Skipped::Bytes
+                    LineRest::Bytes
                 } else {
-                    Skipped::Nothing
+                    LineRest::Empty
                 });
             }
-            Ok(Some(_)) => any = true,
+            Some(_) => any = true,
         }
     }
 }
 
-/// Reads a line into the buffer. What is past 4,096 bytes of it is skipped.
-pub fn read_line<S: Source>(source: &mut S, line: &mut Vec<u8>) -> Result<LineRead, ReadFault>
-    requires { 4096 ≤ vec_capacity line.old }
-    ensures read { ReadsLine S.feed source.old result line.new.items source.new }
+/// Reads a line into the buffer, in place of what it had. A line of more than 4,096 bytes is skipped.
+pub fn read_line<S: Source>(input: &mut S, line: &mut Vec<u8>) -> Result<LineRead, ReadFault>
+    requires room { 4096 ≤ vec_capacity line.old }
+    ensures read { ReadsLine S.feed input.old result line.new.items input.new }
     ensures room { 4096 ≤ vec_capacity line.new }
 {
     line.clear();
     'bytes: loop {
-        match source.next() {
-            Err(fault) => return Err(fault),
-            Ok(None) if line.is_empty() => return Ok(LineRead::End),
-            Ok(None) => return Ok(LineRead::Cut),
-            Ok(Some(b'\n')) => return Ok(LineRead::Whole),
-            Ok(Some(byte)) => {
-                if line.len() == MOST_LINE {
-                    return skip_long(source);
+        match input.next()? {
+            None if line.is_empty() => return Ok(LineRead::End),
+            None => return Ok(LineRead::Cut),
+            Some(b'\n') => return Ok(LineRead::Whole),
+            Some(byte) => {
+                if line.len() == MAX_LINE_BYTES {
+                    return skip_long_line(input);
                 }
                 line.push_reserved(byte);
             }
@@ -74,13 +72,13 @@ pub fn read_line<S: Source>(source: &mut S, line: &mut Vec<u8>) -> Result<LineRe
     }
 }
 
-/// Skips what is left of a line that is too long.
-fn skip_long<S: Source>(source: &mut S) -> Result<LineRead, ReadFault>
-    ensures { (skipped : Result Skipped ReadFault) × Skips S.feed source.old skipped source.new × IsLong skipped result }
+/// Skips the rest of a line that is too long.
+fn skip_long_line<S: Source>(input: &mut S) -> Result<LineRead, ReadFault>
+    ensures skips { (rest : Result LineRest ReadFault) × Skips S.feed input.old rest input.new
+        × IsLong rest result }
 {
-    match skip_line(source) {
-        Err(fault) => Err(fault),
-        Ok(Skipped::Cut) => Ok(LineRead::Cut),
-        Ok(_) => Ok(LineRead::TooLong),
+    match skip_line(input)? {
+        LineRest::Cut => Ok(LineRead::Cut),
+        _ => Ok(LineRead::TooLong),
     }
 }

@@ -8,21 +8,21 @@ ghost use Rattle.ash_lines.specs.Lines.{is_digit, is_number, number_of, length_o
 use ash_meaning::request::Argument;
 
 /// The most digits of a number.
-const MOST_DIGITS: usize = 20;
+const MAX_DIGITS: usize = 20;
 
 /// Whether two words are the same.
 pub(crate) fn is_same(word: &[u8], text: &[u8]) -> bool
-    ensures { result ≡ bytes_eq word.now text.now }
+    ensures same { result ≡ bytes_eq word.now text.now }
 {
     word == text
 }
 
 /// A number of bytes, below 2^32.
 #[tactic(auto, unfolding(crate::specs::Lines::length_of))]
-pub(crate) fn length(word: &[u8]) -> Option<u32>
-    ensures { result ≡ length_of word.now }
+pub(crate) fn parse_length(word: &[u8]) -> Option<u32>
+    ensures value { result ≡ length_of word.now }
 {
-    let number = number(word)?;
+    let number = parse_number(word)?;
     if number < 1 << 32 {
         Some(number as u32)
     } else {
@@ -32,36 +32,36 @@ pub(crate) fn length(word: &[u8]) -> Option<u32>
 
 /// `true`, `false`, or a number with a sign or without one.
 #[tactic(auto, unfolding(crate::specs::Lines::argument_of))]
-pub(crate) fn argument(word: &[u8]) -> Option<Argument>
-    ensures { result ≡ argument_of word.now }
+pub(crate) fn parse_argument(word: &[u8]) -> Option<Argument>
+    ensures value { result ≡ argument_of word.now }
 {
     if is_same(word, b"true") {
         Some(Argument::Truth(true))
     } else if is_same(word, b"false") {
         Some(Argument::Truth(false))
     } else {
-        signed(word)
+        parse_signed(word)
     }
 }
 
-fn signed(word: &[u8]) -> Option<Argument>
-    ensures { result ≡ signed_of word.now }
+fn parse_signed(word: &[u8]) -> Option<Argument>
+    ensures value { result ≡ signed_of word.now }
 {
     match word {
         [] => None,
         [b'-', digits @ ..] => {
-            let size = number(digits)?;
+            let size = parse_number(digits)?;
             Some(Argument::Number(-(size as i128)))
         }
         _ => {
-            let size = number(word)?;
+            let size = parse_number(word)?;
             Some(Argument::Number(size as i128))
         }
     }
 }
 
 /// The number that 1 to 20 digits spell.
-fn number(word: &[u8]) -> Option<u128>
+fn parse_number(word: &[u8]) -> Option<u128>
     ensures value { result ≡ number_of word.now }
     ensures bound { IfSome result (λ number. number < 2 ^ 127) }
 {
@@ -76,19 +76,19 @@ fn number(word: &[u8]) -> Option<u128>
 }
 
 fn is_number(word: &[u8]) -> bool
-    ensures { result ≡ is_number word.now }
+    ensures digits { result ≡ is_number word.now }
 {
-    !word.is_empty() && word.len() <= MOST_DIGITS && is_all_digits(word)
+    !word.is_empty() && word.len() <= MAX_DIGITS && is_all_digits(word)
 }
 
 fn is_all_digits(word: &[u8]) -> bool
-    ensures { result ≡ list_all is_digit word.now }
+    ensures digits { result ≡ list_all is_digit word.now }
 {
     word.iter().all(|byte| is_digit(*byte))
 }
 
 fn is_digit(byte: u8) -> bool
-    ensures { result ≡ is_digit byte }
+    ensures digit { result ≡ is_digit byte }
 {
     byte >= b'0' && byte <= b'9'
 }

@@ -3,17 +3,17 @@
 ghost use Rattle.std.specs.Prelude.{◌≡◌, ◌^◌, IfOk, None, false};
 ghost use Rattle.std.specs.Io.Buffered.{reader_remaining};
 ghost use Rattle.std.specs.Io.KnownBytes.{Keeps};
-ghost use Rattle.ash_lines.specs.Reader.{reader_feed, reader_is_feed, left_of, allowance_of, Came};
+ghost use Rattle.ash_lines.specs.Reader.{reader_feed, reader_is_feed, left_of, allowance_of, ReadsByte};
 
 use crate::source::{ReadFault, Source};
 use std::alloc::{AllocError, Global};
 use std::io::{BufReader, ErrorKind, Read};
 
 /// The most bytes that are read in one run.
-pub const MOST_READ: u64 = 1 << 40;
+pub const MAX_INPUT_BYTES: u64 = 1 << 40;
 
 /// How often in a row a read may be interrupted before it counts as failed.
-const MOST_TRIES: u32 = u32::MAX;
+const MAX_TRIES: u32 = u32::MAX;
 
 /// The bytes of a reader, up to 2^40 of them, read through a buffer. A read that is interrupted is tried again.
 #[derive(Drop)]
@@ -25,8 +25,8 @@ pub struct Reader<R> {
     failed: bool,
 }
 
-/// What came of a read.
-enum Arrival {
+/// What reading a byte came to.
+enum ByteRead {
     Byte(u8),
     End,
     Failed,
@@ -42,7 +42,7 @@ impl<R: Read + Drop> Reader<R> {
             Ok(reader) => Ok(Reader {
                 reader,
                 extra: None,
-                allowance: MOST_READ,
+                allowance: MAX_INPUT_BYTES,
                 failed: false,
             }),
         }
@@ -59,12 +59,12 @@ impl<R: Read + Drop> Source for Reader<R> {
             return Err(ReadFault::TooLong);
         }
         match read_byte(&mut self.reader) {
-            Arrival::Failed => {
+            ByteRead::Failed => {
                 self.failed = true;
                 Err(ReadFault::Failed)
             }
-            Arrival::End => Ok(None),
-            Arrival::Byte(byte) => {
+            ByteRead::End => Ok(None),
+            ByteRead::Byte(byte) => {
                 if self.allowance == 0 {
                     self.extra = Some(byte);
                     return Err(ReadFault::TooLong);
@@ -77,20 +77,20 @@ impl<R: Read + Drop> Source for Reader<R> {
 }
 
 /// Reads one byte.
-fn read_byte<R: Read>(reader: &mut R) -> Arrival
-    ensures { Came (R.remaining reader.old) result (R.remaining reader.new) }
+fn read_byte<R: Read>(reader: &mut R) -> ByteRead
+    ensures byte { ReadsByte (R.remaining reader.old) result (R.remaining reader.new) }
 {
     let mut byte = [0u8; 1];
-    'tries: for _i in 0..MOST_TRIES {
+    'tries: for _i in 0..MAX_TRIES {
         match reader.read(&mut byte) {
-            Ok(0) => return Arrival::End,
-            Ok(_) => return Arrival::Byte(byte[0]),
+            Ok(0) => return ByteRead::End,
+            Ok(_) => return ByteRead::Byte(byte[0]),
             Err(fault) => {
                 if fault.kind() != ErrorKind::Interrupted {
-                    return Arrival::Failed;
+                    return ByteRead::Failed;
                 }
             }
         }
     }
-    Arrival::Failed
+    ByteRead::Failed
 }

@@ -1,12 +1,14 @@
-// Putting a reply, piece by piece, as a line of text.
+// Writing a reply, piece by piece, as a line of text.
 
 ghost use Rattle.std.specs.Prelude.{◌≡◌, ◌∷◌, [], ◌++◌, codes, map, string_bytes};
 ghost use Rattle.std.specs.List.{flat_map};
 ghost use Rattle.ash_meaning.specs.Refusals.{refusal_of};
 ghost use Rattle.ash_meaning.specs.State.{reply_of};
 ghost use Rattle.ash_subset.specs.Outcomes.{end_of};
-ghost use Rattle.ash_lines.specs.Sink.{Puts, Says};
-ghost use Rattle.ash_lines.specs.Replies.{word_text, exception_text, refusal_name, details_of, details_in, details_text, names_text, refusal_text, place_text, finished_text, end_text, reply_text, seq_text};
+ghost use Rattle.ash_lines.specs.Sink.{Writes, WritesAndFlushes};
+ghost use Rattle.ash_lines.specs.Replies.{line_reply_of, reply_line, reply_text, end_text, finished_text};
+ghost use Rattle.ash_lines.specs.Replies.{exception_text, place_text, seq_text, word_text};
+ghost use Rattle.ash_lines.specs.Replies.{refusal_text, refusal_name, details_of, details_in, details_text, names_text};
 
 use crate::sink::{Sink, WriteFault};
 use ash_host::Word;
@@ -16,129 +18,148 @@ use ash_parse::UnsupportedPart;
 use ash_subset::outcome::{Exception, Outcome};
 use itoa::Buffer;
 
-/// Puts a reply and the end of its line, and sends them.
-pub fn say_reply<K: Sink>(sink: &mut K, reply: &Reply) -> Result<(), WriteFault>
-    ensures { Says K.outlet sink.old (reply_text (reply_of reply.now) ++ 10 ∷ []) result sink.new }
-{
-    match put_reply(sink, reply) {
-        Err(fault) => Err(fault),
-        Ok(()) => end_line(sink),
-    }
+/// The reply to a line.
+#[derive(Drop)]
+pub enum LineReply {
+    /// What the host replies to the request.
+    Host(Reply),
+    /// The run ends.
+    Quit,
+    /// The line is no request.
+    BadRequest,
+    /// The line is too long.
+    LineTooLong,
 }
 
-/// Puts a refusal and the end of its line, and sends them.
-pub fn say_refusal<K: Sink>(sink: &mut K, refusal: &Refusal) -> Result<(), WriteFault>
-    ensures { Says K.outlet sink.old ((codes "refused " ++ refusal_text (refusal_of refusal.now)) ++ 10 ∷ []) result sink.new }
-{
-    match put_refusal(sink, refusal) {
-        Err(fault) => Err(fault),
-        Ok(()) => end_line(sink),
-    }
-}
-
-/// Puts a text and the end of its line, and sends them.
-pub fn say<K: Sink>(sink: &mut K, text: &[u8]) -> Result<(), WriteFault>
-    ensures { Says K.outlet sink.old (text.now ++ 10 ∷ []) result sink.new }
-{
-    match sink.put(text) {
-        Err(fault) => Err(fault),
-        Ok(()) => end_line(sink),
-    }
-}
-
-/// Ends the line, and sends what is held.
-fn end_line<K: Sink>(sink: &mut K) -> Result<(), WriteFault>
-    ensures { Says K.outlet sink.old (10 ∷ []) result sink.new }
-{
-    match sink.put(b"\n") {
-        Err(fault) => Err(fault),
-        Ok(()) => sink.flush(),
-    }
-}
-
-fn put_reply<K: Sink>(sink: &mut K, reply: &Reply) -> Result<(), WriteFault>
-    ensures { Puts K.outlet sink.old (reply_text (reply_of reply.now)) result sink.new }
+/// Writes the reply to a line, as a line, and flushes it.
+pub fn write_line_reply<K: Sink>(output: &mut K, reply: &LineReply) -> Result<(), WriteFault>
+    ensures line { WritesAndFlushes K.outlet output.old (reply_line (line_reply_of reply.now))
+        result output.new }
 {
     match reply {
-        Reply::Answer(answer) => match put_end(sink, &answer.outcome) {
-            Err(fault) => Err(fault),
-            Ok(()) => put_seq(sink, answer.seq),
-        },
-        Reply::Value(word) => put_ok(sink, *word),
-        Reply::Seq(seq) => {
-            let mut digits = Buffer::new();
-            put_all(sink, &[b"ok ".as_slice(), digits.format(*seq).as_bytes()])
-        }
-        Reply::Done => sink.put(b"ok"),
-        Reply::Refused(refusal) => put_refusal(sink, refusal),
+        LineReply::Host(reply) => write_reply_line(output, reply),
+        LineReply::Quit => write_line(output, b"ok"),
+        LineReply::BadRequest => write_line(output, b"refused 601 BadRequest"),
+        LineReply::LineTooLong => write_line(output, b"refused 602 LineTooLong"),
     }
 }
 
-fn put_seq<K: Sink>(sink: &mut K, seq: u64) -> Result<(), WriteFault>
-    ensures { Puts K.outlet sink.old (seq_text seq) result sink.new }
+/// Writes a reply of the host as a line, and flushes it.
+fn write_reply_line<K: Sink>(output: &mut K, reply: &Reply) -> Result<(), WriteFault>
+    ensures line { WritesAndFlushes K.outlet output.old
+        (reply_text (reply_of reply.now) ++ 10 ∷ []) result output.new }
 {
-    let mut digits = Buffer::new();
-    put_all(sink, &[b" seq ".as_slice(), digits.format(seq).as_bytes()])
+    write_reply(output, reply)?;
+    end_line(output)
 }
 
-fn put_end<K: Sink>(sink: &mut K, outcome: &Outcome) -> Result<(), WriteFault>
-    ensures { Puts K.outlet sink.old (end_text (end_of outcome.now)) result sink.new }
+/// Writes a refusal as a line, and flushes it.
+pub fn write_refusal_line<K: Sink>(output: &mut K, refusal: &Refusal) -> Result<(), WriteFault>
+    ensures line { WritesAndFlushes K.outlet output.old
+        ((codes "refused " ++ refusal_text (refusal_of refusal.now)) ++ 10 ∷ []) result output.new }
+{
+    write_refusal(output, refusal)?;
+    end_line(output)
+}
+
+/// Writes a text as a line, and flushes it.
+pub fn write_line<K: Sink>(output: &mut K, text: &[u8]) -> Result<(), WriteFault>
+    ensures line { WritesAndFlushes K.outlet output.old (text.now ++ 10 ∷ []) result output.new }
+{
+    output.write(text)?;
+    end_line(output)
+}
+
+/// Ends the line, and flushes all that is buffered.
+fn end_line<K: Sink>(output: &mut K) -> Result<(), WriteFault>
+    ensures line { WritesAndFlushes K.outlet output.old (10 ∷ []) result output.new }
+{
+    output.write(b"\n")?;
+    output.flush()
+}
+
+fn write_reply<K: Sink>(output: &mut K, reply: &Reply) -> Result<(), WriteFault>
+    ensures text { Writes K.outlet output.old (reply_text (reply_of reply.now)) result output.new }
+{
+    match reply {
+        Reply::Answer(answer) => {
+            write_outcome(output, &answer.outcome)?;
+            write_seq(output, answer.seq)
+        }
+        Reply::Value(word) => write_ok(output, *word),
+        Reply::Seq(seq) => {
+            let mut digits = Buffer::new();
+            write_all(output, &[b"ok ".as_slice(), digits.format(*seq).as_bytes()])
+        }
+        Reply::Done => output.write(b"ok"),
+        Reply::Refused(refusal) => write_refusal(output, refusal),
+    }
+}
+
+fn write_seq<K: Sink>(output: &mut K, seq: u64) -> Result<(), WriteFault>
+    ensures text { Writes K.outlet output.old (seq_text seq) result output.new }
+{
+    let mut digits = Buffer::new();
+    write_all(
+        output,
+        &[b" seq ".as_slice(), digits.format(seq).as_bytes()],
+    )
+}
+
+fn write_outcome<K: Sink>(output: &mut K, outcome: &Outcome) -> Result<(), WriteFault>
+    ensures text { Writes K.outlet output.old (end_text (end_of outcome.now)) result output.new }
 {
     match outcome {
-        Outcome::Finished(value) => put_finished(sink, *value),
+        Outcome::Finished(value) => write_finished(output, *value),
         Outcome::Exception {
             exception,
             function,
             line,
-        } => put_exception_at(sink, *exception, function.as_str(), *line),
-        Outcome::Aborted { function, line } => match sink.put(b"aborted") {
-            Err(fault) => Err(fault),
-            Ok(()) => put_place(sink, function.as_str(), *line),
-        },
+        } => write_exception_at(output, *exception, function.as_str(), *line),
+        Outcome::Aborted { function, line } => {
+            output.write(b"aborted")?;
+            write_place(output, function.as_str(), *line)
+        }
     }
 }
 
-fn put_finished<K: Sink>(sink: &mut K, value: Option<Word>) -> Result<(), WriteFault>
-    ensures { Puts K.outlet sink.old (finished_text value) result sink.new }
+fn write_finished<K: Sink>(output: &mut K, value: Option<Word>) -> Result<(), WriteFault>
+    ensures text { Writes K.outlet output.old (finished_text value) result output.new }
 {
     match value {
-        None => sink.put(b"ok"),
-        Some(word) => put_ok(sink, word),
+        None => output.write(b"ok"),
+        Some(word) => write_ok(output, word),
     }
 }
 
-fn put_ok<K: Sink>(sink: &mut K, word: Word) -> Result<(), WriteFault>
-    ensures { Puts K.outlet sink.old (codes "ok " ++ word_text word) result sink.new }
+fn write_ok<K: Sink>(output: &mut K, word: Word) -> Result<(), WriteFault>
+    ensures text { Writes K.outlet output.old (codes "ok " ++ word_text word) result output.new }
 {
-    match sink.put(b"ok ") {
-        Err(fault) => Err(fault),
-        Ok(()) => put_word(sink, word),
-    }
+    output.write(b"ok ")?;
+    write_word(output, word)
 }
 
-fn put_exception_at<K: Sink>(
-    sink: &mut K,
+fn write_exception_at<K: Sink>(
+    output: &mut K,
     exception: Exception,
     function: &str,
     line: u32,
 ) -> Result<(), WriteFault>
-    ensures { Puts K.outlet sink.old (codes "exception " ++ (exception_text exception ++ place_text function.now line)) result sink.new }
+    ensures text { Writes K.outlet output.old
+        (codes "exception " ++ (exception_text exception ++ place_text function.now line))
+        result output.new }
 {
-    if let Err(fault) = sink.put(b"exception ") {
-        return Err(fault);
-    }
-    match put_exception(sink, exception) {
-        Err(fault) => Err(fault),
-        Ok(()) => put_place(sink, function, line),
-    }
+    output.write(b"exception ")?;
+    write_exception(output, exception)?;
+    write_place(output, function, line)
 }
 
-fn put_place<K: Sink>(sink: &mut K, function: &str, line: u32) -> Result<(), WriteFault>
-    ensures { Puts K.outlet sink.old (place_text function.now line) result sink.new }
+fn write_place<K: Sink>(output: &mut K, function: &str, line: u32) -> Result<(), WriteFault>
+    ensures text { Writes K.outlet output.old (place_text function.now line) result output.new }
 {
     let mut digits = Buffer::new();
-    put_all(
-        sink,
+    write_all(
+        output,
         &[
             b" ".as_slice(),
             function.as_bytes(),
@@ -148,48 +169,48 @@ fn put_place<K: Sink>(sink: &mut K, function: &str, line: u32) -> Result<(), Wri
     )
 }
 
-fn put_word<K: Sink>(sink: &mut K, word: Word) -> Result<(), WriteFault>
-    ensures { Puts K.outlet sink.old (word_text word) result sink.new }
+fn write_word<K: Sink>(output: &mut K, word: Word) -> Result<(), WriteFault>
+    ensures text { Writes K.outlet output.old (word_text word) result output.new }
 {
     let mut digits = Buffer::new();
     match word {
-        Word::Bool(true) => sink.put(b"true"),
-        Word::Bool(false) => sink.put(b"false"),
-        Word::Int(number) => sink.put(digits.format(number).as_bytes()),
-        Word::Uint(number) => sink.put(digits.format(number).as_bytes()),
-        Word::Int64(number) => sink.put(digits.format(number).as_bytes()),
-        Word::Uint64(number) => sink.put(digits.format(number).as_bytes()),
-        Word::Null => sink.put(b"null"),
-        Word::Object(number) => put_all(
-            sink,
+        Word::Bool(true) => output.write(b"true"),
+        Word::Bool(false) => output.write(b"false"),
+        Word::Int(number) => output.write(digits.format(number).as_bytes()),
+        Word::Uint(number) => output.write(digits.format(number).as_bytes()),
+        Word::Int64(number) => output.write(digits.format(number).as_bytes()),
+        Word::Uint64(number) => output.write(digits.format(number).as_bytes()),
+        Word::Null => output.write(b"null"),
+        Word::Object(number) => write_all(
+            output,
             &[b"object ".as_slice(), digits.format(number).as_bytes()],
         ),
     }
 }
 
-fn put_exception<K: Sink>(sink: &mut K, exception: Exception) -> Result<(), WriteFault>
-    ensures { Puts K.outlet sink.old (exception_text exception) result sink.new }
+fn write_exception<K: Sink>(output: &mut K, exception: Exception) -> Result<(), WriteFault>
+    ensures text { Writes K.outlet output.old (exception_text exception) result output.new }
 {
     match exception {
-        Exception::NullPointerAccess => sink.put(b"NullPointerAccess"),
-        Exception::DivideByZero => sink.put(b"DivideByZero"),
-        Exception::DivideOverflow => sink.put(b"DivideOverflow"),
-        Exception::StackOverflow => sink.put(b"StackOverflow"),
-        Exception::PoolEmpty => sink.put(b"PoolEmpty"),
-        Exception::ObjectLimit => sink.put(b"ObjectLimit"),
-        Exception::BadHostAnswer => sink.put(b"BadHostAnswer"),
+        Exception::NullPointerAccess => output.write(b"NullPointerAccess"),
+        Exception::DivideByZero => output.write(b"DivideByZero"),
+        Exception::DivideOverflow => output.write(b"DivideOverflow"),
+        Exception::StackOverflow => output.write(b"StackOverflow"),
+        Exception::PoolEmpty => output.write(b"PoolEmpty"),
+        Exception::ObjectLimit => output.write(b"ObjectLimit"),
+        Exception::BadHostAnswer => output.write(b"BadHostAnswer"),
         Exception::Raised(code) => {
             let mut digits = Buffer::new();
-            put_all(
-                sink,
+            write_all(
+                output,
                 &[b"Raised ".as_slice(), digits.format(code).as_bytes()],
             )
         }
-        Exception::NumbersSpent => sink.put(b"NumbersSpent"),
+        Exception::NumbersSpent => output.write(b"NumbersSpent"),
     }
 }
 
-/// What a refusal tells of a source.
+/// What a refusal reports of a source.
 #[derive(Clone, Copy)]
 enum Details<'a> {
     Nothing,
@@ -201,54 +222,51 @@ enum Details<'a> {
     Names(&'a [String]),
 }
 
-/// A refusal, with what it tells of the source.
-fn put_refusal<K: Sink>(sink: &mut K, refusal: &Refusal) -> Result<(), WriteFault>
-    ensures { Puts K.outlet sink.old (codes "refused " ++ refusal_text (refusal_of refusal.now)) result sink.new }
+/// Writes a refusal, with what it reports of the source.
+fn write_refusal<K: Sink>(output: &mut K, refusal: &Refusal) -> Result<(), WriteFault>
+    ensures text { Writes K.outlet output.old
+        (codes "refused " ++ refusal_text (refusal_of refusal.now)) result output.new }
 {
-    if let Err(fault) = sink.put(b"refused ") {
-        return Err(fault);
-    }
-    match sink.put(refusal_name(refusal)) {
-        Err(fault) => Err(fault),
-        Ok(()) => put_details(sink, details_in(refusal)),
-    }
+    output.write(b"refused ")?;
+    output.write(refusal_name(refusal))?;
+    write_details(output, details_in(refusal))
 }
 
-/// What a refusal tells of the source, each part behind a blank.
-fn put_details<K: Sink>(sink: &mut K, details: Details<'_>) -> Result<(), WriteFault>
-    ensures { Puts K.outlet sink.old (details_text (details_of details.entry)) result sink.new }
+/// Writes what a refusal reports of the source, with a blank before each part.
+fn write_details<K: Sink>(output: &mut K, details: Details<'_>) -> Result<(), WriteFault>
+    ensures text { Writes K.outlet output.old (details_text (details_of details.entry))
+        result output.new }
 {
     let mut digits = Buffer::new();
     match details {
-        Details::Nothing => put_all(sink, &[]),
-        Details::At(at) => put_all(sink, &[b" ".as_slice(), digits.format(at).as_bytes()]),
+        Details::Nothing => write_all(output, &[]),
+        Details::At(at) => write_all(output, &[b" ".as_slice(), digits.format(at).as_bytes()]),
         Details::WordAt(word, at) => {
             let word = word.as_str();
             let place = digits.format(at);
-            put_all(
-                sink,
+            write_all(
+                output,
                 &[b" ".as_slice(), word.as_bytes(), b" ", place.as_bytes()],
             )
         }
-        Details::Names(names) => put_names(sink, names),
+        Details::Names(names) => write_names(output, names),
     }
 }
 
-/// Names, each behind a blank.
-fn put_names<K: Sink>(sink: &mut K, names: &[String]) -> Result<(), WriteFault>
-    ensures { Puts K.outlet sink.old (names_text (map string_bytes names.now)) result sink.new }
+/// Writes names, with a blank before each.
+fn write_names<K: Sink>(output: &mut K, names: &[String]) -> Result<(), WriteFault>
+    ensures text { Writes K.outlet output.old (names_text (map string_bytes names.now))
+        result output.new }
 {
     for name in names {
-        if let Err(fault) = put_all(sink, &[b" ".as_slice(), name.as_bytes()]) {
-            return Err(fault);
-        }
+        write_all(output, &[b" ".as_slice(), name.as_bytes()])?;
     }
     Ok(())
 }
 
-/// What a refusal tells of a source.
+/// What a refusal reports of a source.
 fn details_in(refusal: &Refusal) -> Details<'_>
-    ensures { details_of result ≡ details_in (refusal_of refusal.now) }
+    ensures details { details_of result ≡ details_in (refusal_of refusal.now) }
 {
     match refusal {
         Refusal::BadCharacter { at }
@@ -276,7 +294,7 @@ fn details_in(refusal: &Refusal) -> Details<'_>
 
 /// The number and the name of a refusal.
 fn refusal_name(refusal: &Refusal) -> &'static [u8]
-    ensures { result.now ≡ refusal_name (refusal_of refusal.now) }
+    ensures name { result.now ≡ refusal_name (refusal_of refusal.now) }
 {
     match refusal {
         Refusal::BadCharacter { .. } => b"101 BadCharacter",
@@ -315,14 +333,13 @@ fn refusal_name(refusal: &Refusal) -> &'static [u8]
     }
 }
 
-/// Puts pieces one after another.
-fn put_all<K: Sink>(sink: &mut K, pieces: &[&[u8]]) -> Result<(), WriteFault>
-    ensures { Puts K.outlet sink.old (flat_map (λ piece. piece.now) pieces.now) result sink.new }
+/// Writes pieces one after another.
+fn write_all<K: Sink>(output: &mut K, pieces: &[&[u8]]) -> Result<(), WriteFault>
+    ensures text { Writes K.outlet output.old (flat_map (λ piece. piece.now) pieces.now)
+        result output.new }
 {
     for piece in pieces {
-        if let Err(fault) = sink.put(piece) {
-            return Err(fault);
-        }
+        output.write(piece)?;
     }
     Ok(())
 }

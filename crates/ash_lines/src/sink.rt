@@ -1,23 +1,23 @@
 // Where replies go.
 
-ghost use Rattle.ash_lines.specs.Sink.{Outlet, IsOutlet, Puts, Flushes};
+ghost use Rattle.ash_lines.specs.Sink.{Outlet, IsOutlet, Writes, Flushes};
 
 /// A write failed, or took no byte.
 #[derive(Clone, Copy, Debug, PartialEq, Eq)]
 pub struct WriteFault;
 
-/// Bytes that are put piece by piece and then sent.
+/// Takes bytes, which it may buffer until it is flushed.
 pub trait Sink {
-    /// What went out between two moments, and what is held at one.
+    /// What went out between two moments, and what is buffered at one.
     ghost outlet: { Outlet Self };
 
-    /// Puts bytes behind those that are held; some may go out.
-    fn put(&mut self, bytes: &[u8]) -> Result<(), WriteFault>
-        ensures { Puts outlet self.old bytes.now result self.new };
+    /// Writes bytes after those that are buffered. Some may go out at once.
+    fn write(&mut self, bytes: &[u8]) -> Result<(), WriteFault>
+        ensures written { Writes outlet self.old bytes.now result self.new };
 
-    /// Sends all that is held.
+    /// Writes out all that is buffered.
     fn flush(&mut self) -> Result<(), WriteFault>
-        ensures { Flushes outlet self.old result self.new };
+        ensures flushed { Flushes outlet self.old result self.new };
 
     ghost is_outlet: { IsOutlet outlet };
 }

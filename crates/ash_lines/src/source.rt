@@ -1,6 +1,6 @@
 // Where requests come from.
 
-ghost use Rattle.ash_lines.specs.Source.{Feed, IsFeed, Gives};
+ghost use Rattle.ash_lines.specs.Source.{Feed, IsFeed, ReadsNext};
 
 /// Why no byte could be read.
 #[derive(Clone, Copy, Debug, PartialEq, Eq)]
@@ -18,7 +18,7 @@ pub trait Source {
 
     /// The next byte, or `None` at the end.
     fn next(&mut self) -> Result<Option<u8>, ReadFault>
-        ensures { Gives feed self.old result self.new };
+        ensures byte { ReadsNext feed self.old result self.new };
 
     ghost is_feed: { IsFeed feed };
 }

@@ -7,7 +7,7 @@ ghost use Rattle.ash_lines.specs.Words.{words_left, is_none_left};
 
 use std::str;
 
-/// The words of a line that have not been taken yet.
+/// The words of a line that are still to come.
 #[derive(Clone, Copy)]
 pub(crate) struct Words<'a> {
     /// What is left of the line, or nothing after its last word.
@@ -17,25 +17,25 @@ pub(crate) struct Words<'a> {
 impl<'a> Words<'a> {
     /// The pieces of a line between its spaces.
     pub(crate) fn of(line: &'a [u8]) -> Words<'a>
-        ensures { words_left result.rest ≡ pieces line.now }
+        ensures pieces { words_left result.rest ≡ pieces line.now }
     {
         Words { rest: Some(line) }
     }
 
     /// Whether no piece is left.
     pub(crate) fn is_empty(&self) -> bool
-        ensures { result ≡ is_none_left (words_left self.now.rest) }
+        ensures empty { result ≡ is_none_left (words_left self.now.rest) }
     {
         self.rest.is_none()
     }
 
     /// The next piece.
     pub(crate) fn next(&mut self) -> Option<&'a [u8]>
-        ensures { MatchOption result (words_left self.old.rest ≡ [])
+        ensures next { MatchOption result (words_left self.old.rest ≡ [])
             (λ word. words_left self.old.rest ≡ word.now ∷ words_left self.new.rest) }
     {
         let line = self.rest?;
-        match space_in(line) {
+        match first_space(line) {
             None => {
                 self.rest = None;
                 Some(line)
@@ -48,16 +48,16 @@ impl<'a> Words<'a> {
     }
 }
 
-/// Where the first space stands.
-fn space_in(line: &[u8]) -> Option<usize>
-    ensures { result ≡ position (λ byte. byte == 32) line.now }
+/// The place of the first space.
+fn first_space(line: &[u8]) -> Option<usize>
+    ensures first { result ≡ position (λ byte. byte == 32) line.now }
 {
     line.iter().position(|byte| *byte == b' ')
 }
 
 /// Whether each piece of the line is a word.
 pub(crate) fn is_all_words(line: &[u8]) -> bool
-    ensures { result ≡ list_all is_word (pieces line.now) }
+    ensures words { result ≡ list_all is_word (pieces line.now) }
 {
     let mut words = Words::of(line);
     while let Some(word) = words.next() {
@@ -70,19 +70,19 @@ pub(crate) fn is_all_words(line: &[u8]) -> bool
 
 /// Whether a piece is a word: visible characters of ASCII, one at the least.
 fn is_word(piece: &[u8]) -> bool
-    ensures { result ≡ is_word piece.now }
+    ensures word { result ≡ is_word piece.now }
 {
     !piece.is_empty() && is_all_visible(piece)
 }
 
 fn is_all_visible(piece: &[u8]) -> bool
-    ensures { result ≡ list_all is_visible piece.now }
+    ensures visible { result ≡ list_all is_visible piece.now }
 {
     piece.iter().all(|byte| is_visible(*byte))
 }
 
 fn is_visible(byte: u8) -> bool
-    ensures { result ≡ is_visible byte }
+    ensures visible { result ≡ is_visible byte }
 {
     byte >= 0x21 && byte <= 0x7e
 }

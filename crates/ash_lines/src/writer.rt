@@ -2,12 +2,12 @@
 
 ghost use Rattle.std.specs.Prelude.{◌≡◌, ◌≤◌, [], ◌++◌, length, take, IfOk, IfErr, OnOk};
 ghost use Rattle.std.specs.Io.KnownBytes.{Keeps, Appends};
-ghost use Rattle.ash_lines.specs.Writer.{writer_outlet, writer_is_outlet, Wrote, Passes};
+ghost use Rattle.ash_lines.specs.Writer.{writer_outlet, writer_is_outlet, WritesOut, WritesThrough};
 
 use crate::sink::{Sink, WriteFault};
 use std::io::{ErrorKind, Write};
 
-/// A writer behind a buffer, so that a reply is one write. A write that is interrupted is tried again.
+/// A writer with a buffer before it, so that a reply is one write. A write that is interrupted is tried again.
 #[derive(Drop)]
 pub struct Writer<'a, W> {
     writer: &'a mut W,
@@ -16,9 +16,9 @@ pub struct Writer<'a, W> {
 }
 
 impl<'a, W: Write> Writer<'a, W> {
-    /// A writer behind this buffer, which is emptied first. The room of the buffer is what is held back at the most.
+    /// A writer with this buffer before it, which is emptied first. No more is buffered than it has room for.
     pub fn new(writer: &'a mut W, mut buffer: Vec<u8>) -> Writer<'a, W>
-        ensures held { result.buffer.items ≡ [] }
+        ensures buffered { result.buffer.items ≡ [] }
         ensures writer { result.writer ≡ writer.entry }
     {
         buffer.clear();
@@ -29,9 +29,9 @@ impl<'a, W: Write> Writer<'a, W> {
         }
     }
 
-    /// The writer, and nothing of what is held.
+    /// The writer. What is buffered is lost.
     pub fn into_writer(self) -> &'a mut W
-        ensures { result ≡ self.entry.writer }
+        ensures same_writer { result ≡ self.entry.writer }
     {
         let Writer {
             writer,
@@ -48,30 +48,27 @@ impl<'a, W: Write> Sink for Writer<'a, W> {
 
     ghost is_outlet = { writer_is_outlet W.contents };
 
-    fn put(&mut self, bytes: &[u8]) -> Result<(), WriteFault> {
+    fn write(&mut self, bytes: &[u8]) -> Result<(), WriteFault> {
         let room = self.buffer.capacity().saturating_sub(self.buffer.len());
         if bytes.len() <= room {
             self.buffer.extend_from_slice(bytes).unwrap();
             return Ok(());
         }
-        match self.send() {
-            Err(fault) => Err(fault),
-            Ok(()) => self.pass(bytes),
-        }
+        self.write_buffered()?;
+        self.write_through(bytes)
     }
 
     fn flush(&mut self) -> Result<(), WriteFault> {
-        match self.send() {
-            Err(fault) => Err(fault),
-            Ok(()) => self.flush_writer(),
-        }
+        self.write_buffered()?;
+        self.flush_writer()
     }
 }
 
 impl<'a, W: Write> Writer<'a, W> {
-    /// Sends what is held.
-    fn send(&mut self) -> Result<(), WriteFault>
-        ensures { Passes (writer_outlet W.contents) self.old self.old.buffer.items result self.new [] }
+    /// Writes out what is buffered.
+    fn write_buffered(&mut self) -> Result<(), WriteFault>
+        ensures written { WritesThrough (writer_outlet W.contents) self.old self.old.buffer.items
+            result self.new [] }
     {
         match write_out(self.writer, self.buffer.as_slice()) {
             Ok(()) => {
@@ -86,7 +83,8 @@ impl<'a, W: Write> Writer<'a, W> {
     }
 
     fn flush_writer(&mut self) -> Result<(), WriteFault>
-        ensures { Passes (writer_outlet W.contents) self.old [] result self.new self.old.buffer.items }
+        ensures flushed { WritesThrough (writer_outlet W.contents) self.old []
+            result self.new self.old.buffer.items }
     {
         match self.writer.flush() {
             Ok(()) => Ok(()),
@@ -97,9 +95,10 @@ impl<'a, W: Write> Writer<'a, W> {
         }
     }
 
-    /// Sends these bytes past the buffer.
-    fn pass(&mut self, bytes: &[u8]) -> Result<(), WriteFault>
-        ensures { Passes (writer_outlet W.contents) self.old bytes.now result self.new self.old.buffer.items }
+    /// Writes out these bytes, past the buffer.
+    fn write_through(&mut self, bytes: &[u8]) -> Result<(), WriteFault>
+        ensures written { WritesThrough (writer_outlet W.contents) self.old bytes.now
+            result self.new self.old.buffer.items }
     {
         match write_out(self.writer, bytes) {
             Ok(()) => Ok(()),
@@ -111,24 +110,24 @@ impl<'a, W: Write> Writer<'a, W> {
     }
 }
 
-/// Writes the bytes, or so many of them before a write failed or took none.
+/// Writes out the bytes; the error says how many of them went out before a write failed or took none.
 fn write_out<W: Write>(writer: &mut W, bytes: &[u8]) -> Result<(), usize>
-    ensures { Wrote (W.contents writer.old) bytes.now result (W.contents writer.new) }
+    ensures written { WritesOut (W.contents writer.old) bytes.now result (W.contents writer.new) }
 {
-    let mut sent = 0;
+    let mut written = 0;
     'tries: for _i in 0..u64::MAX {
-        if sent >= bytes.len() {
+        if written >= bytes.len() {
             return Ok(());
         }
-        match writer.write(&bytes[sent..]) {
-            Ok(0) => return Err(sent),
-            Ok(count) => sent += count,
+        match writer.write(&bytes[written..]) {
+            Ok(0) => return Err(written),
+            Ok(count) => written += count,
             Err(fault) => {
                 if fault.kind() != ErrorKind::Interrupted {
-                    return Err(sent);
+                    return Err(written);
                 }
             }
         }
     }
-    Err(sent)
+    Err(written)
 }

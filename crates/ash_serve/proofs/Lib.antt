@@ -1,5 +1,5 @@
 pub mod NextLemmas
-pub mod TakenLemmas
+pub mod RequestLemmas
 pub mod ServingLemmas
 pub mod RunningLemmas
 pub mod DefinedLemmas

@@ -1,4 +1,4 @@
--- Checking a script: its bytes are read and judged, and what is found of it is told.
+-- Checking a script: its bytes are read and judged, and the verdict is written.
 use Rattle.std.specs.Prelude.{◌≡◌, ◌<◌, ◌⊎◌, ℕ, List, [], ◌∷◌, ◌++◌, length, codes, Option, Some, None, option_map, Result, Ok, Err, IfSome}
 use Rattle.std.specs.Io.KnownBytes.{Appends, Keeps}
 use Rattle.ash_registry.specs.Calls.{Call as Registration}
@@ -7,10 +7,10 @@ use Rattle.ash_meaning.specs.Refusals.{Refusal, refusal_of}
 use Rattle.ash_meaning.specs.Refusals as refusals
 use Rattle.ash_meaning.specs.Checking.{Checking, checked_source}
 use Rattle.ash_lines.specs.Source.{Feed, Faults}
-use Rattle.ash_lines.specs.Sink.{Outlet, Sent, Stops}
-use Rattle.ash_lines.specs.Reading.{kept_part}
+use Rattle.ash_lines.specs.Sink.{Outlet, WritesAll, FailsPartway}
+use Rattle.ash_lines.specs.Reading.{source_prefix}
 use Rattle.ash_lines.specs.Replies.{refusal_text}
-use Rattle.ash_lines.specs.declared.source.ReadFault.TheVariants as reads
+use Rattle.ash_lines.specs.declared.source.ReadFault.TheVariants as read_faults
 use Rattle.ash_serve.specs.declared.fault.RunFault.TheVariants as faults
 use Rattle.ash_serve.specs.declared.program.ending.End.{End}
 use Rattle.ash_serve.specs.declared.program.ending.Ending.{Ending}
@@ -18,98 +18,97 @@ use Rattle.ash_serve.specs.declared.program.ending.Ending.TheVariants as endings
 use Rattle.ash_serve.specs.declared.program.fault.Fault.{Fault}
 use Rattle.ash_serve.specs.declared.program.fault.Fault.TheVariants as program
 
--- What is told of a script: `ok`, or its refusal as `load` tells it.
-abbrev pub found_text : Option Refusal → List ℕ
-found_text None = codes "ok"
-found_text (Some refusal) = codes "refused " ++ refusal_text refusal
+-- the text of the verdict on a script: `ok`, or its refusal as the reply to a `load` has it
+abbrev pub verdict_text : Option Refusal → List ℕ
+verdict_text None = codes "ok"
+verdict_text (Some refusal) = codes "refused " ++ refusal_text refusal
 
--- that as a line
-abbrev pub found_line : Option Refusal → List ℕ
-found_line found = found_text found ++ 10 ∷ []
+-- the verdict as a line
+abbrev pub verdict_line : Option Refusal → List ℕ
+verdict_line verdict = verdict_text verdict ++ 10 ∷ []
 
--- how the program ends by it
+-- how the program ends by the verdict
 abbrev pub ending_of : Option Refusal → Ending
 ending_of None = endings.Well
 ending_of (Some refusal) = endings.Refused
 
--- what the code has of that
-abbrev pub found_of : Option code.Refusal → Option Refusal
-found_of found = option_map refusal_of found
+-- what the code's verdict represents
+abbrev pub verdict_of : Option code.Refusal → Option Refusal
+verdict_of verdict = option_map refusal_of verdict
 
 -- why a source is refused, if it is
 abbrev pub refusal_in : Checking → Option Refusal
 refusal_in (Ok items) = None
 refusal_in (Err refusal) = Some refusal
 
-abbrev pub judged : List Registration → List ℕ → Option Refusal
-judged registered source = refusal_in (checked_source registered source)
+abbrev pub verdict_on : List Registration → List ℕ → Option Refusal
+verdict_on registered source = refusal_in (checked_source registered source)
 
--- A source that is too long takes no memory to judge, any other may.
+-- It may take memory to judge any source but one that is too long.
 abbrev pub TakesMemory : List Registration → List ℕ → Type 0
 TakesMemory registered source = checked_source registered source ≡ Err refusals.SourceTooLong → ⊥
 
--- what came of judging a source: why it is refused, if it is, or there was no memory
+-- Judging a source gave why it is refused, if it is, or there was no memory.
 abbrev pub Judges : List Registration → List ℕ → Result (Option code.Refusal) Fault → Type 0
-Judges registered source (Ok found) = found_of found ≡ judged registered source
+Judges registered source (Ok verdict) = verdict_of verdict ≡ verdict_on registered source
 Judges registered source (Err program.NoMemory) = TakesMemory registered source
 Judges registered source (Err _) = ⊥
 
--- what came of telling it
-abbrev pub Tells : {K : Type 0} → Outlet K → K → Option Refusal → Result Ending Fault → K → Type 0
-Tells outlet old found (Ok ending) new = (ending ≡ ending_of found) × Sent outlet old (found_line found) new
-Tells outlet old found (Err (program.Run faults.Write)) new = Stops outlet old (found_line found) new
-Tells outlet old found (Err _) new = ⊥
+-- The verdict was written, and this is how the program ends by it; or a write failed.
+abbrev pub WritesVerdict : {K : Type 0} → Outlet K → K → Option Refusal → Result Ending Fault → K → Type 0
+WritesVerdict outlet old verdict (Ok ending) new = (ending ≡ ending_of verdict) × WritesAll outlet old (verdict_line verdict) new
+WritesVerdict outlet old verdict (Err (program.Run faults.Write)) new = FailsPartway outlet old (verdict_line verdict) new
+WritesVerdict outlet old verdict (Err _) new = ⊥
 
 -- A script was read: all that a source gives, or the first 65,537 bytes, by which it is seen to be too long.
 abbrev pub ReadsScript : {S : Type 0} → Feed S → S → List ℕ → S → Type 0
-ReadsScript feed old script new = feed.takes old script new × ((length script ≡ 65537) ⊎ ((length script < 65537) × feed.ended new))
+ReadsScript feed old script new = feed.reads old script new × ((length script ≡ 65537) ⊎ ((length script < 65537) × feed.ended new))
 
--- What came of checking the script of a source: it was read, and what is found of it was sent; or a read or a write
--- failed, or there was no memory.
+-- The script of a source was read and the verdict on it was written; or a read or a write failed, or there was no memory.
 abbrev pub ChecksScript : {S K : Type 0} → Feed S → Outlet K → List Registration → S → K → Result Ending Fault → S → K → Type 0
 ChecksScript feed outlet registered s k (Ok ending) s' k' =
-    (script : List ℕ) × ReadsScript feed s script s' × Tells outlet k (judged registered script) (Ok ending) k'
+    (script : List ℕ) × ReadsScript feed s script s' × WritesVerdict outlet k (verdict_on registered script) (Ok ending) k'
 ChecksScript feed outlet registered s k (Err (program.Run faults.Write)) s' k' =
-    (script : List ℕ) × ReadsScript feed s script s' × Stops outlet k (found_line (judged registered script)) k'
+    (script : List ℕ) × ReadsScript feed s script s' × FailsPartway outlet k (verdict_line (verdict_on registered script)) k'
 ChecksScript feed outlet registered s k (Err (program.Run faults.Read)) s' k' =
-    (script : List ℕ) × (length script < 65537) × Faults feed s script reads.Failed s' × (k' ≡ k)
+    (script : List ℕ) × (length script < 65537) × Faults feed s script read_faults.Failed s' × (k' ≡ k)
 ChecksScript feed outlet registered s k (Err (program.Run faults.TooLong)) s' k' =
-    (script : List ℕ) × (length script < 65537) × Faults feed s script reads.TooLong s' × (k' ≡ k)
+    (script : List ℕ) × (length script < 65537) × Faults feed s script read_faults.TooLong s' × (k' ≡ k)
 ChecksScript {S} feed outlet registered s k (Err program.NoMemory) s' k' =
     ((s' ≡ s) ⊎ ((script : List ℕ) × ReadsScript feed s script s' × TakesMemory registered script)) × (k' ≡ k)
 ChecksScript feed outlet registered s k (Err _) s' k' = ⊥
 
--- the script of a file, where its bytes are known: all of them, or the first 65,537
+-- The script of a file, where its bytes are known, is all of them or the first 65,537.
 abbrev pub IsScriptOf : Option (List ℕ) → List ℕ → Type 0
-IsScriptOf file script = IfSome file (λ bytes. script ≡ kept_part bytes)
+IsScriptOf file script = IfSome file (λ bytes. script ≡ source_prefix bytes)
 
--- What came of checking the script of a file, told by bytes alone, where those of the file and the writer are known.
+-- The same of a file and a writer, by their bytes alone, where these are known.
 abbrev pub ChecksFile : List Registration → Option (List ℕ) → Option (List ℕ) → Result Ending Fault → Option (List ℕ) → Type 0
 ChecksFile registered file before (Ok ending) after =
-    (script : List ℕ) × IsScriptOf file script × (ending ≡ ending_of (judged registered script))
-    × Appends before after (found_line (judged registered script))
+    (script : List ℕ) × IsScriptOf file script × (ending ≡ ending_of (verdict_on registered script))
+    × Appends before after (verdict_line (verdict_on registered script))
 ChecksFile registered file before (Err (program.Run faults.Write)) after =
     (script : List ℕ) × IsScriptOf file script
-    × (out : List ℕ) × (lost : List ℕ) × Appends before after out × (found_line (judged registered script) ≡ out ++ lost)
+    × (out : List ℕ) × (lost : List ℕ) × Appends before after out × (verdict_line (verdict_on registered script) ≡ out ++ lost)
 ChecksFile registered file before (Err (program.Run faults.Read)) after = Keeps before after
 ChecksFile registered file before (Err program.NoMemory) after = Keeps before after
 ChecksFile registered file before (Err _) after = ⊥
 
 -- The status that the program ends with once it has written this line: 1 for a refusal.
-abbrev pub found_status : Option Refusal → ℕ
-found_status None = 0
-found_status (Some refusal) = 1
+abbrev pub verdict_status : Option Refusal → ℕ
+verdict_status None = 0
+verdict_status (Some refusal) = 1
 
 -- What a check of a file comes to as a program, by the fault that it writes on standard error, if there is one. With
 -- none, the line for the script is on standard output, and the status is that of the line. A fault has the status 1,
 -- and only where it is one of writing there may be a prefix of the line.
 abbrev pub EndsBy : List Registration → Option (List ℕ) → Option (List ℕ) → ℕ → Option Fault → Option (List ℕ) → Type 0
 EndsBy registered file before status None after =
-    (script : List ℕ) × IsScriptOf file script × (status ≡ found_status (judged registered script))
-    × Appends before after (found_line (judged registered script))
+    (script : List ℕ) × IsScriptOf file script × (status ≡ verdict_status (verdict_on registered script))
+    × Appends before after (verdict_line (verdict_on registered script))
 EndsBy registered file before status (Some (program.Run faults.Write)) after =
     (script : List ℕ) × IsScriptOf file script × (status ≡ 1)
-    × (out : List ℕ) × (lost : List ℕ) × Appends before after out × (found_line (judged registered script) ≡ out ++ lost)
+    × (out : List ℕ) × (lost : List ℕ) × Appends before after out × (verdict_line (verdict_on registered script) ≡ out ++ lost)
 EndsBy registered file before status (Some (program.Run faults.Read)) after = (status ≡ 1) × Keeps before after
 EndsBy registered file before status (Some program.NoMemory) after = (status ≡ 1) × Keeps before after
 EndsBy registered file before status (Some _) after = ⊥

@@ -1,5 +1,6 @@
+pub mod Buffers
 pub mod Serving
-pub mod Blind
+pub mod LongSources
 pub mod Running
 pub mod Program
 pub mod Checking

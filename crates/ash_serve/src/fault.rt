@@ -1,9 +1,8 @@
 // Why a run stopped.
 
-ghost use Rattle.std.specs.Prelude.{◌≡◌};
-ghost use Rattle.ash_serve.specs.Serving.{fault_of};
-
+use ash_lines::sink::WriteFault;
 use ash_lines::source::ReadFault;
+use std::alloc::AllocError;
 use thiserror::Error;
 
 /// Why a run stopped before the end of its input.
@@ -21,17 +20,43 @@ pub enum RunFault {
     /// The writer failed, or took no byte.
     #[error("606 Write")]
     Write,
-    /// There was no memory for the buffers; nothing was read, asked or written.
+    /// There was no memory for the buffers; nothing was read, handled or written.
     #[error("509 NoMemory")]
     NoMemory,
 }
 
-/// A fault of the source as the fault of the run.
-pub(crate) fn run_fault(fault: ReadFault) -> RunFault
-    ensures { result ≡ fault_of fault }
-{
-    match fault {
-        ReadFault::TooLong => RunFault::TooLong,
-        ReadFault::Failed => RunFault::Read,
+impl From<ReadFault> for RunFault {
+    ghost use Rattle.std.specs.Prelude.{◌≡◌};
+    ghost use Rattle.ash_serve.specs.Serving.{fault_of};
+
+    ghost from_gives = { λ read fault. fault ≡ fault_of read };
+
+    fn from(fault: ReadFault) -> Self {
+        match fault {
+            ReadFault::TooLong => RunFault::TooLong,
+            ReadFault::Failed => RunFault::Read,
+        }
+    }
+}
+
+impl From<WriteFault> for RunFault {
+    ghost use Rattle.std.specs.Prelude.{◌≡◌};
+    ghost use Rattle.ash_serve.specs.declared.fault.RunFault.TheVariants as faults;
+
+    ghost from_gives = { λ _ fault. fault ≡ faults.Write };
+
+    fn from(_: WriteFault) -> Self {
+        RunFault::Write
+    }
+}
+
+impl From<AllocError> for RunFault {
+    ghost use Rattle.std.specs.Prelude.{◌≡◌};
+    ghost use Rattle.ash_serve.specs.declared.fault.RunFault.TheVariants as faults;
+
+    ghost from_gives = { λ _ fault. fault ≡ faults.NoMemory };
+
+    fn from(_: AllocError) -> Self {
+        RunFault::NoMemory
     }
 }

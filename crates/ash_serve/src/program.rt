@@ -11,11 +11,11 @@ pub mod task;
 use crate::fault::RunFault;
 use ash_disk::MemoryDisk;
 use ash_durable::Host;
-use check::end_check;
+use check::run_check;
 use ending::{End, Ending};
 use fault::Fault;
 use registrations::registrations;
-use service::{Ended, serve_new, serve_stored};
+use service::{Service, ServiceEnd, serve_new, serve_stored};
 use std::fs::File;
 use std::process::ExitCode;
 use std::rt::{Env, Files};
@@ -23,12 +23,12 @@ use std::{env, io};
 use store::Store;
 use task::{Limits, Task};
 
-/// Runs the program, and gives the status to end with. A fault is told on standard error.
+/// Runs the program. The status to end with. A fault is written on standard error.
 pub fn main<R: Env + Files<File = File> + Input + Print + Eprint + AllocGlobal>(
     rt: &R,
 ) -> ExitCode {
     let done = match words_of(rt) {
-        Ok(words) => carry_out(rt, &words),
+        Ok(words) => perform(rt, &words),
         Err(fault) => Err(fault),
     };
     let end = match done {
@@ -50,9 +50,9 @@ fn words_of<R: Env + AllocGlobal>(rt: &R) -> Result<Vec<String>, Fault> {
     }
 }
 
-/// Does what a command line asks for, and says how the program ends. Faults come in this order: of the words, of the
+/// Does what a command line asks for, and returns how the program ends. Faults come in this order: of the words, of the
 /// files, of what is registered, of the host or of memory, of the run.
-fn carry_out<R: Files<File = File> + Input + Print + AllocGlobal>(
+fn perform<R: Files<File = File> + Input + Print + AllocGlobal>(
     rt: &R,
     words: &[String],
 ) -> Result<End, Fault> {
@@ -67,11 +67,13 @@ fn carry_out<R: Files<File = File> + Input + Print + AllocGlobal>(
 
 /// Serves standard input and output, with the store in memory.
 fn serve_in_memory<R: Input + Print + AllocGlobal>(rt: &R, limits: Limits) -> Result<(), Fault> {
-    let (a, b) = (MemoryDisk::new(rt.alloc()), MemoryDisk::new(rt.alloc()));
-    let registry = registrations(rt.alloc())?;
-    let writer = &mut io::writer(rt);
-    let reader = rt.reader();
-    serve_new(rt.alloc(), a, b, registry, reader, writer, limits.budget).end
+    let service = Service {
+        a: MemoryDisk::new(rt.alloc()),
+        b: MemoryDisk::new(rt.alloc()),
+        registry: registrations(rt.alloc())?,
+        budget: limits.budget,
+    };
+    serve_new(rt.alloc(), service, rt.reader(), &mut io::writer(rt)).end
 }
 
 /// Serves standard input and output, with the store in a folder.
@@ -81,24 +83,24 @@ fn serve<R: Files<File = File> + Input + Print + AllocGlobal>(
     limits: Limits,
 ) -> Result<(), Fault> {
     let Store { a, b, lock } = Store::open(rt, folder)?;
-    let registry = registrations(rt.alloc())?;
-    let writer = &mut io::writer(rt);
-    let reader = rt.reader();
-    let Ended { end, a, b } = serve_stored(
-        rt.alloc(),
+    let service = Service {
         a,
         b,
-        registry,
-        reader,
-        writer,
-        limits.budget,
+        registry: registrations(rt.alloc())?,
+        budget: limits.budget,
+    };
+    let ServiceEnd { end, a, b } = serve_stored(
+        rt.alloc(),
+        service,
+        rt.reader(),
+        &mut io::writer(rt),
     );
     drop((a, b));
     drop(lock);
     end
 }
 
-/// Makes a store in a folder, and says so. A folder that has one keeps it.
+/// Creates a store in a folder, and reports it. A store that is there stays as it is.
 fn create<R: Files<File = File> + Print + AllocGlobal>(rt: &R, folder: &str) -> Result<(), Fault> {
     let Store { a, b, lock } = Store::make(rt, folder)?;
     let registry = registrations(rt.alloc())?;
@@ -110,19 +112,19 @@ fn create<R: Files<File = File> + Print + AllocGlobal>(rt: &R, folder: &str) -> 
     }
 }
 
-/// Checks the script in a file, writes what is found of it, and says how the program ends by that.
+/// Checks the script in a file, writes the verdict, and returns how the program ends by it.
 fn check_path<R: Files<File = File> + Print + AllocGlobal>(
     rt: &R,
     path: &str,
 ) -> Result<End, Fault> {
-    let file = File::open(rt, path).map_err(unread)?;
+    let file = File::open(rt, path).map_err(open_fault)?;
     let registry = registrations(rt.alloc())?;
-    let end = end_check(rt.alloc(), &registry, file, &mut io::writer(rt));
+    let end = run_check(rt.alloc(), &registry, file, &mut io::writer(rt));
     Ok(end)
 }
 
 /// Why a script's file could not be opened.
-fn unread(error: io::Error) -> Fault {
+fn open_fault(error: io::Error) -> Fault {
     match error.kind() {
         io::ErrorKind::OutOfMemory => Fault::NoMemory,
         _ => Fault::Run(RunFault::Read),

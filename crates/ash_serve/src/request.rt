@@ -1,130 +1,99 @@
-// A request is read and carried out.
+// The next request is read, and the host handles it.
 
 ghost use Rattle.std.specs.Prelude.{◌≡◌, ◌≤◌, ℕ, List, length, vec_capacity};
-ghost use Rattle.ash_lines.specs.Lines.{Loads, spelling};
-ghost use Rattle.ash_lines.specs.Reading.{Through};
-ghost use Rattle.ash_serve.specs.Serving.{Taken};
+ghost use Rattle.ash_lines.specs.Lines.{LoadHeader as Header, parse_line};
+ghost use Rattle.ash_lines.specs.Reading.{ReadsWholeLine};
+ghost use Rattle.ash_serve.specs.Buffers.{HasRoom};
+ghost use Rattle.ash_serve.specs.Serving.{HandlesNext, HandlesRequest};
 
-use crate::carrier::Carrier;
-use crate::fault::{RunFault, run_fault};
-use ash_lines::bytes::read_bytes;
-use ash_lines::line::{LineRead, Skipped, read_line, skip_line};
+use crate::buffers::Buffers;
+use crate::fault::RunFault;
+use crate::handler::RequestHandler;
+use ash_lines::bytes::{BytesRead, read_bytes};
+use ash_lines::line::{LineRead, LineRest, read_line, skip_line};
+use ash_lines::reply::LineReply;
+use ash_lines::request_line::{LoadHeader, ParsedLine, parse_line};
 use ash_lines::source::Source;
-use ash_lines::spelled::{Spelled, read_words};
-use ash_meaning::request::{Argument, Reply, Request};
+use ash_meaning::request::Request;
 
-/// What is told of a line.
-#[derive(Drop)]
-pub(crate) enum Told {
-    Replied(Reply),
-    /// The run ends.
-    Left,
-    /// The line is no request.
-    NoRequest,
-    /// The line is too long.
-    LongLine,
-}
-
-/// Reads a request and carries it out. Answers what is to be told, or `None` at the end of the input.
-pub(crate) fn take_request<S: Source, H: Carrier>(
-    source: &mut S,
+/// Reads the next request and has the host handle it. The reply, or `None` at the end of the input.
+pub(crate) fn handle_next<S: Source, H: RequestHandler>(
+    input: &mut S,
     host: &mut H,
     budget: u64,
-    line: &mut Vec<u8>,
-    arguments: &mut Vec<Argument>,
-    kept: &mut Vec<u8>,
-) -> Result<Option<Told>, RunFault>
-    requires line_room { 4096 ≤ vec_capacity line.old }
-    requires arguments_room { 4097 ≤ vec_capacity arguments.old }
-    requires kept_room { 65537 ≤ vec_capacity kept.old }
-    ensures taken { Taken S.feed H.carries budget source.old host.old result source.new host.new }
-    ensures line_room { 4096 ≤ vec_capacity line.new }
-    ensures arguments_room { 4097 ≤ vec_capacity arguments.new }
-    ensures kept_room { 65537 ≤ vec_capacity kept.new }
+    buffers: &mut Buffers,
+) -> Result<Option<LineReply>, RunFault>
+    requires room { HasRoom buffers.old }
+    ensures handled { HandlesNext S.feed H.handles budget input.old host.old result
+        input.new host.new }
+    ensures room { HasRoom buffers.new }
 {
-    match read_line(source, line) {
-        Err(fault) => Err(run_fault(fault)),
-        Ok(LineRead::End) => Ok(None),
-        Ok(LineRead::Cut) => Err(RunFault::Truncated),
-        Ok(LineRead::TooLong) => Ok(Some(Told::LongLine)),
-        Ok(LineRead::Whole) => carry_out(source, host, budget, line.as_slice(), arguments, kept),
+    match read_line(input, &mut buffers.line)? {
+        LineRead::End => Ok(None),
+        LineRead::Cut => Err(RunFault::Truncated),
+        LineRead::TooLong => Ok(Some(LineReply::LineTooLong)),
+        LineRead::Whole => Ok(Some(handle_line(input, host, budget, buffers)?)),
     }
 }
 
-/// Carries out what a line asks, after reading the source that may follow it.
-fn carry_out<S: Source, H: Carrier>(
-    source: &mut S,
+/// Has the host handle the request of the line in the buffers. Of a load the source is read first.
+fn handle_line<S: Source, H: RequestHandler>(
+    input: &mut S,
     host: &mut H,
     budget: u64,
-    line: &[u8],
-    arguments: &mut Vec<Argument>,
-    kept: &mut Vec<u8>,
-) -> Result<Option<Told>, RunFault>
-    requires short { length line.now ≤ 4096 }
-    requires arguments_room { 4097 ≤ vec_capacity arguments.old }
-    requires kept_room { 65537 ≤ vec_capacity kept.old }
-    ensures taken { (start : S) → Through S.feed start line.now source.old → Taken S.feed H.carries budget start host.old result source.new host.new }
-    ensures arguments_room { 4097 ≤ vec_capacity arguments.new }
-    ensures kept_room { 65537 ≤ vec_capacity kept.new }
+    buffers: &mut Buffers,
+) -> Result<LineReply, RunFault>
+    requires room { HasRoom buffers.old }
+    requires short { length buffers.old.line.items ≤ 4096 }
+    ensures handled { (start : S) → ReadsWholeLine S.feed start buffers.old.line.items input.old
+        → HandlesRequest S.feed H.handles budget start host.old result input.new host.new }
+    ensures room { HasRoom buffers.new }
 {
-    match read_words(line, arguments) {
-        Spelled::Load { name, length } => load(source, host, budget, name, length, kept),
-        Spelled::Call { script, function } => {
-            let arguments = arguments.as_slice();
+    match parse_line(buffers.line.as_slice(), &mut buffers.arguments) {
+        ParsedLine::Request(request) => Ok(LineReply::Host(host.handle(&request, budget))),
+        ParsedLine::Call { module, function } => {
             let request = Request::Call {
-                module: script,
+                module,
                 function,
-                arguments,
+                arguments: buffers.arguments.as_slice(),
             };
-            Ok(Some(Told::Replied(host.carry_out(&request, budget))))
+            Ok(LineReply::Host(host.handle(&request, budget)))
         }
-        Spelled::Discard { name } => {
-            let request = Request::Discard { name };
-            Ok(Some(Told::Replied(host.carry_out(&request, budget))))
-        }
-        Spelled::Global { script, name } => {
-            let request = Request::Global {
-                module: script,
-                name,
-            };
-            Ok(Some(Told::Replied(host.carry_out(&request, budget))))
-        }
-        Spelled::Seq => Ok(Some(Told::Replied(host.carry_out(&Request::Seq, budget)))),
-        Spelled::Snapshot => Ok(Some(Told::Replied(host.carry_out(&Request::Snapshot, budget)))),
-        Spelled::Quit => Ok(Some(Told::Left)),
-        Spelled::Bad => Ok(Some(Told::NoRequest)),
+        ParsedLine::Load(header) => handle_load(input, host, budget, header, &mut buffers.prefix),
+        ParsedLine::Quit => Ok(LineReply::Quit),
+        ParsedLine::BadRequest => Ok(LineReply::BadRequest),
     }
 }
 
-/// Reads a source and the end of its line, and loads it. A source that is too long is refused whatever its
-/// bytes, so no more is kept of it than shows that.
-fn load<S: Source, H: Carrier>(
-    source: &mut S,
+/// Reads a source and the end of its line, and has the host load it. A source that is too long is refused whatever its
+/// bytes, so no more is stored of it than shows that.
+fn handle_load<S: Source, H: RequestHandler>(
+    input: &mut S,
     host: &mut H,
     budget: u64,
-    name: &str,
-    count: u32,
-    kept: &mut Vec<u8>,
-) -> Result<Option<Told>, RunFault>
-    requires { 65537 ≤ vec_capacity kept.old }
-    ensures taken { (start : S) (line : List ℕ) → Through S.feed start line source.old → length line ≤ 4096 → spelling line ≡ Loads name.now count → Taken S.feed H.carries budget start host.old result source.new host.new }
-    ensures kept_room { 65537 ≤ vec_capacity kept.new }
+    header: LoadHeader<'_>,
+    prefix: &mut Vec<u8>,
+) -> Result<LineReply, RunFault>
+    requires room { 65537 ≤ vec_capacity prefix.old }
+    ensures handled { (start : S) (line : List ℕ) → ReadsWholeLine S.feed start line input.old
+        → length line ≤ 4096
+        → parse_line line ≡ Header header.entry.name.now header.entry.length
+        → HandlesRequest S.feed H.handles budget start host.old result input.new host.new }
+    ensures room { 65537 ≤ vec_capacity prefix.new }
 {
-    match read_bytes(source, count, kept) {
-        Err(fault) => return Err(run_fault(fault)),
-        Ok(false) => return Err(RunFault::Truncated),
-        Ok(true) => {}
+    match read_bytes(input, header.length, prefix)? {
+        BytesRead::Cut => return Err(RunFault::Truncated),
+        BytesRead::All => {}
     }
-    match skip_line(source) {
-        Err(fault) => Err(run_fault(fault)),
-        Ok(Skipped::Cut) => Err(RunFault::Truncated),
-        Ok(Skipped::Bytes) => Ok(Some(Told::NoRequest)),
-        Ok(Skipped::Nothing) => {
+    match skip_line(input)? {
+        LineRest::Cut => Err(RunFault::Truncated),
+        LineRest::Bytes => Ok(LineReply::BadRequest),
+        LineRest::Empty => {
             let request = Request::Load {
-                name,
-                source: kept.as_slice(),
+                name: header.name,
+                source: prefix.as_slice(),
             };
-            Ok(Some(Told::Replied(host.carry_out(&request, budget))))
+            Ok(LineReply::Host(host.handle(&request, budget)))
         }
     }
 }

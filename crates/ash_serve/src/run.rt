@@ -1,13 +1,13 @@
-// The run over a reader and a writer.
+// The loop over a reader and a writer.
 
 ghost use Rattle.std.specs.Prelude.{List};
 ghost use Rattle.ash_durable.specs.Hosting.{Carries, IsSaved};
 ghost use Rattle.ash_durable.specs.Lives.{LivesOn};
 ghost use Rattle.ash_durable.specs.Running.{RunsToFailure};
 ghost use Rattle.ash_lines.specs.Lines.{Line};
-ghost use Rattle.ash_lines.specs.Replies.{Told};
-ghost use Rattle.ash_serve.specs.Running.{RunEnds, asked, replied};
-ghost use Rattle.ash_serve.specs.Serving.{AnswersAll};
+ghost use Rattle.ash_lines.specs.Replies.{LineReply};
+ghost use Rattle.ash_serve.specs.Running.{RunEnds, host_requests, host_replies};
+ghost use Rattle.ash_serve.specs.Serving.{RepliesToAll};
 
 use crate::fault::RunFault;
 use crate::serve::serve;
@@ -18,17 +18,17 @@ use ash_lines::writer::Writer;
 use std::alloc::Global;
 use std::io::{Read, Write};
 
-/// How many bytes of a reply are held back at the most.
-pub(crate) const ROOM: usize = 8192;
+/// The most bytes of a reply that are buffered.
+pub(crate) const MAX_BUFFERED_BYTES: usize = 8192;
 
-/// Reads requests, has the host carry each out with this budget in ticks, and writes each reply, flushed, before
-/// the next request is read. Ends at the end of the input between two requests, or when `quit` is answered.
+/// Reads requests, has the host handle each with this budget in ticks, and writes each reply, flushed, before the next
+/// request is read. Ends at the end of the input between two requests, or when the reply to `quit` is written.
 ///
 /// `Truncated` where the input ends inside a request, `TooLong` past 2^40 bytes, `Read` and `Write` where the
 /// reader or the writer fails, `NoMemory` where there is none for the buffers; no other memory is taken. However it
-/// ends, the files of a host that runs hold its state afterwards, if they did before, and every life of its store goes on:
-/// each request of which a byte of the answer was written is in every image that a crash may leave.
-#[tactic(auto, using(crate::proofs::DefinedLemmas::answers_run, crate::proofs::DefinedLemmas::answers_live))]
+/// ends, the files of a host that runs hold its state afterwards, if they did before, and every life of its store goes
+/// on: each request of which a byte of the answer was written is in every image that a crash may leave.
+#[tactic(auto, using(crate::proofs::DefinedLemmas::replies_run, crate::proofs::DefinedLemmas::replies_live))]
 pub fn run<D: Disk, R: Read + Drop, W: Write>(
     alloc: Global,
     reader: R,
@@ -39,23 +39,21 @@ pub fn run<D: Disk, R: Read + Drop, W: Write>(
     ensures ends { RunEnds (R.remaining reader) (Carries D.Disk)
         budget host.old (W.contents writer.old) result host.new (W.contents writer.new) }
     // The requests that the host answered are a run of the written steps, up to the first answer that is lost.
-    ensures defined { (lines : List Line) (replies : List Told) → AnswersAll (Carries D.Disk) budget host.old lines replies host.new
-        → RunsToFailure budget host.old (asked lines) (replied replies) host.new }
-    // Every life of the store goes on with the requests that were answered, however the run ends: each of them, written or
-    // not, is acknowledged in it.
-    ensures lives { (lines : List Line) (replies : List Told) → AnswersAll (Carries D.Disk) budget host.old lines replies host.new
-        → LivesOn D.Disk budget host.old (asked lines) (replied replies) host.new }
+    ensures defined { (lines : List Line) (replies : List LineReply)
+        → RepliesToAll (Carries D.Disk) budget host.old lines replies host.new
+        → RunsToFailure budget host.old (host_requests lines) (host_replies replies) host.new }
+    // Every life of the store goes on with the requests that were answered, however the run ends: each of them, written
+    // or not, is acknowledged in it.
+    ensures lives { (lines : List Line) (replies : List LineReply)
+        → RepliesToAll (Carries D.Disk) budget host.old lines replies host.new
+        → LivesOn D.Disk budget host.old (host_requests lines) (host_replies replies) host.new }
     ensures saved { IsSaved D.Disk host.old → IsSaved D.Disk host.new }
 {
-    let Ok(mut source) = Reader::new(alloc, reader) else {
-        return Err(RunFault::NoMemory);
-    };
-    let Ok(buffer) = Vec::with_capacity(alloc, ROOM) else {
-        return Err(RunFault::NoMemory);
-    };
-    let mut sink = Writer::new(writer, buffer);
-    let result = serve(alloc, &mut source, &mut sink, host, budget);
-    let lent = sink.into_writer();
+    let mut input = Reader::new(alloc, reader)?;
+    let buffer = Vec::with_capacity(alloc, MAX_BUFFERED_BYTES)?;
+    let mut output = Writer::new(writer, buffer);
+    let result = serve(alloc, &mut input, &mut output, host, budget);
+    let lent = output.into_writer();
     // No effect at run time: the proof reads from it what the writer holds.
     let _ = &*lent;
     result

@@ -1,53 +1,51 @@
-// The run over a source and a sink.
+// The loop over a source and a sink.
 
 ghost use Rattle.std.specs.Prelude.{◌≡◌, []};
-ghost use Rattle.ash_serve.specs.Serving.{Serves};
+ghost use Rattle.ash_lines.specs.Replies.{line_reply_of};
+ghost use Rattle.ash_serve.specs.Serving.{Serves, ends_run};
 
-use crate::carrier::Carrier;
+use crate::buffers::Buffers;
 use crate::fault::RunFault;
-use crate::turn::{Turn, take_turn};
-use ash_lines::bytes::MOST_KEPT;
-use ash_lines::line::MOST_LINE;
+use crate::handler::RequestHandler;
+use crate::request::handle_next;
+use ash_lines::reply::{LineReply, write_line_reply};
 use ash_lines::sink::Sink;
 use ash_lines::source::Source;
-use ash_lines::spelled::MOST_ARGUMENTS;
 use std::alloc::Global;
 
-/// Reads requests, has the host carry each out with this budget in ticks, and sends each reply before the next
-/// request is read. Ends at the end of the input between two requests, or when `quit` is answered.
-pub fn serve<S: Source, K: Sink, H: Carrier>(
+/// Reads requests, has the host handle each with this budget in ticks, and writes each reply, flushed, before the next
+/// request is read. Ends at the end of the input between two requests, or when the reply to `quit` is written.
+pub fn serve<S: Source, K: Sink, H: RequestHandler>(
     alloc: Global,
-    source: &mut S,
-    sink: &mut K,
+    input: &mut S,
+    output: &mut K,
     host: &mut H,
     budget: u64,
 ) -> Result<(), RunFault>
-    requires { K.outlet.held sink.old ≡ [] }
-    ensures { Serves S.feed K.outlet H.carries budget source.old sink.old host.old result source.new sink.new host.new }
+    requires nothing_buffered { K.outlet.buffered output.old ≡ [] }
+    ensures serves { Serves S.feed K.outlet H.handles budget input.old output.old host.old result
+        input.new output.new host.new }
 {
-    let Ok(mut line) = Vec::with_capacity(alloc, MOST_LINE) else {
-        return Err(RunFault::NoMemory);
-    };
-    let Ok(mut arguments) = Vec::with_capacity(alloc, MOST_ARGUMENTS) else {
-        return Err(RunFault::NoMemory);
-    };
-    let Ok(mut kept) = Vec::with_capacity(alloc, MOST_KEPT) else {
-        return Err(RunFault::NoMemory);
-    };
-    'turns: loop {
-        match take_turn(
-            source,
-            sink,
-            host,
-            budget,
-            &mut line,
-            &mut arguments,
-            &mut kept,
-        ) {
-            Err(fault) => return Err(fault),
-            Ok(Turn::Over) => return Ok(()),
-            Ok(Turn::Left) => return Ok(()),
-            Ok(Turn::On) => {}
+    let mut buffers = Buffers::new(alloc)?;
+    'requests: loop {
+        let Some(reply) = handle_next(input, host, budget, &mut buffers)? else {
+            return Ok(());
+        };
+        write_line_reply(output, &reply)?;
+        let ends = ends_run(&reply);
+        drop(reply);
+        if ends {
+            return Ok(());
         }
+    }
+}
+
+/// Whether the run ends with this reply.
+fn ends_run(reply: &LineReply) -> bool
+    ensures quit { result ≡ ends_run (line_reply_of reply.now) }
+{
+    match reply {
+        LineReply::Quit => true,
+        _ => false,
     }
 }

@@ -1,4 +1,5 @@
-//! Requests and their replies, byte for byte, of a host whose disk fails, and of one that is opened again after a crash.
+//! Requests and their replies, byte for byte, of a host whose disk fails, and of one that is opened again after a
+//! crash.
 
 use crate::hosts::{check, check_text, closed, created, new_host, opened, replies};
 use ash_disk::{FuseDisk, MemoryDisk, Survives};
@@ -18,19 +19,25 @@ fn fused(alloc: Global, first: u64, second: u64) -> Result<Host<FuseDisk<MemoryD
     created(alloc, a, b, Registry::new(alloc))
 }
 
-/// How many calls a disk may have where the other doesn't fail.
-fn fuses(is_first: bool, calls: u64) -> (u64, u64) {
-    if is_first {
-        (calls, u64::MAX)
-    } else {
-        (u64::MAX, calls)
+/// The disk that fails.
+#[derive(Clone, Copy)]
+enum Failing {
+    First,
+    Second,
+}
+
+/// How many calls each disk may have where one of them fails after so many.
+fn fuses(failing: Failing, calls: u64) -> (u64, u64) {
+    match failing {
+        Failing::First => (calls, u64::MAX),
+        Failing::Second => (u64::MAX, calls),
     }
 }
 
 /// How many calls of a disk the making of a store takes.
-fn calls_of_create(alloc: Global, is_first: bool) -> Result<u64, Fail> {
+fn calls_of_create(alloc: Global, failing: Failing) -> Result<u64, Fail> {
     for calls in 0..100 {
-        let (first, second) = fuses(is_first, calls);
+        let (first, second) = fuses(failing, calls);
         match fused(alloc, first, second) {
             Ok(_) => return Ok(calls),
             Err(StoreFault::DeviceFailed) => {}
@@ -74,13 +81,13 @@ fn check_fused(
 fn check_each(
     rt: &impl Abort,
     alloc: Global,
-    is_first: bool,
+    failing: Failing,
     requests: &[u8],
     rows: &[Fused],
 ) -> Result<(), Fail> {
-    let made = calls_of_create(alloc, is_first)?;
+    let made = calls_of_create(alloc, failing)?;
     for calls in 0..12 {
-        let fuses = fuses(is_first, made.saturating_add(calls));
+        let fuses = fuses(failing, made.saturating_add(calls));
         check_fused(rt, alloc, fuses, requests, wanted_of(rows, calls))?;
     }
     Ok(())
@@ -89,10 +96,10 @@ fn check_each(
 #[test]
 fn the_calls_that_make_a_store(rt: HostRuntime) -> Result<(), Fail> {
     // Its length; its length and its first bytes; a write and a sync of its first gate; two of each for the generation.
-    let first = calls_of_create(rt.alloc(), true)?;
+    let first = calls_of_create(rt.alloc(), Failing::First)?;
     check(&rt, &first, &(1 + 2 + 2 + 4), "calls of the first disk");
     // The same without a generation.
-    let second = calls_of_create(rt.alloc(), false)?;
+    let second = calls_of_create(rt.alloc(), Failing::Second)?;
     check(&rt, &second, &(1 + 2 + 2), "calls of the second disk");
     Ok(())
 }
@@ -112,7 +119,7 @@ static CALLS: [Fused; 3] = [
 
 #[test]
 fn each_call_of_the_first_disk_fails_in_turn(rt: HostRuntime) -> Result<(), Fail> {
-    check_each(&rt, rt.alloc(), true, FIRST, &CALLS)
+    check_each(&rt, rt.alloc(), Failing::First, FIRST, &CALLS)
 }
 
 const DISCARD: &[u8] = b"load m 0\n\ndiscard m\ndiscard m\nget m n\nseq\n";
@@ -135,13 +142,13 @@ static DISCARDS: [Fused; 3] = [
 
 #[test]
 fn a_discard_that_is_not_kept(rt: HostRuntime) -> Result<(), Fail> {
-    check_each(&rt, rt.alloc(), true, DISCARD, &DISCARDS)
+    check_each(&rt, rt.alloc(), Failing::First, DISCARD, &DISCARDS)
 }
 
 const SNAPSHOT: &[u8] = b"load m 0\n\nsnapshot\nsnapshot\ndiscard m\nget m n\nseq\n";
 
-/// The same for a snapshot, which is written to the second disk; the one after it is written to the first, and the discard
-/// to that.
+/// The same for a snapshot, which is written to the second disk; the one after it is written to the first, and the
+/// discard to that.
 static SNAPSHOTS: [Fused; 2] = [
     (
         0,
@@ -155,13 +162,13 @@ static SNAPSHOTS: [Fused; 2] = [
 
 #[test]
 fn a_snapshot_that_is_not_kept(rt: HostRuntime) -> Result<(), Fail> {
-    check_each(&rt, rt.alloc(), false, SNAPSHOT, &SNAPSHOTS)
+    check_each(&rt, rt.alloc(), Failing::Second, SNAPSHOT, &SNAPSHOTS)
 }
 
 const SNAPSHOT_ALONE: &[u8] = b"snapshot\nsnapshot\ndiscard m\nseq\n";
 
-/// The second snapshot shuts the gate of the older generation on the first disk, with a write and a sync, and then writes the
-/// new one. No discard is kept, since there is no module.
+/// The second snapshot shuts the gate of the older generation on the first disk, with a write and a sync, and then
+/// writes the new one. No discard is stored, since there is no module.
 static SECOND_SNAPSHOTS: [Fused; 2] = [
     (
         0,
@@ -172,7 +179,13 @@ static SECOND_SNAPSHOTS: [Fused; 2] = [
 
 #[test]
 fn a_second_snapshot_that_is_not_kept(rt: HostRuntime) -> Result<(), Fail> {
-    check_each(&rt, rt.alloc(), true, SNAPSHOT_ALONE, &SECOND_SNAPSHOTS)
+    check_each(
+        &rt,
+        rt.alloc(),
+        Failing::First,
+        SNAPSHOT_ALONE,
+        &SECOND_SNAPSHOTS,
+    )
 }
 
 /// The disks after the first example.
@@ -216,8 +229,8 @@ const BEFORE_THE_CALL: &str = "ok 2\nok 1\nok 3 seq 2\nok 3\nok 2\n";
 
 const AFTER_THE_CALL: &str = "ok 7\nok 2\nok 8 seq 3\nok 8\nok 3\n";
 
-// To make the store are 6 writes and syncs of the first disk, and the load 4. So the call's record is on the device after 12,
-// its gate is written after 13 and on the device after 14.
+// To make the store are 6 writes and syncs of the first disk, and the load 4. So the call's record is on the device
+// after 12, its gate is written after 13 and on the device after 14.
 #[test]
 fn a_crash_after_the_record_is_synced(rt: HostRuntime) -> Result<(), Fail> {
     let disks = first_example(rt.alloc())?;

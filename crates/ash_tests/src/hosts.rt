@@ -1,4 +1,4 @@
-//! Hosts over disks in memory, and what they reply. Each call of a host or a run stands in a function of its own, which
+//! Hosts over disks in memory, and what they reply. Each call of a host or a run is in a function of its own, which
 //! promises nothing: so its contract is seen once, and not in every test.
 
 use ash_disk::{Disk, MemoryDisk};

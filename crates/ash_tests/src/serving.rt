@@ -4,9 +4,9 @@ use crate::hosts::{check, check_text, closed, ending, new_host, opened, replies}
 use ash_disk::{MemoryDisk, Survives};
 use ash_registry::Registry;
 use ash_serve::RunFault;
-use ash_serve::program::check::end_check;
+use ash_serve::program::check::run_check;
 use ash_serve::program::fault::Fault;
-use ash_serve::program::service::{Ended, serve_stored};
+use ash_serve::program::service::{Service, ServiceEnd, serve_stored};
 use std::alloc::Global;
 use std::io;
 use std::io::{ErrorKind, Read, Write};
@@ -63,7 +63,8 @@ const INPUT: &[u8] =
     b"seq\n\nget m n\ncall m f 5 true -7\nload m 3\nabc\nload m 2\nabcd\nobject 1\nseq  \nquit\nseq\n";
 
 const OUTPUT: &str =
-    "ok 0\nrefused 601 BadRequest\nrefused 401 NoModule\nrefused 401 NoModule\nrefused 104 Unexpected 3\nrefused 601 BadRequest\nrefused 601 BadRequest\nrefused 601 BadRequest\nok\n";
+    "ok 0\nrefused 601 BadRequest\nrefused 401 NoModule\nrefused 401 NoModule\nrefused 104 Unexpected 3\n\
+    refused 601 BadRequest\nrefused 601 BadRequest\nrefused 601 BadRequest\nok\n";
 
 /// What is written where the store on two disks is served, and how that ends.
 fn served_stored(
@@ -72,8 +73,14 @@ fn served_stored(
     b: MemoryDisk,
     requests: &[u8],
     written: &mut Vec<u8>,
-) -> Ended<MemoryDisk> {
-    serve_stored(alloc, a, b, Registry::new(alloc), requests, written, 1000)
+) -> ServiceEnd<MemoryDisk> {
+    let service = Service {
+        a,
+        b,
+        registry: Registry::new(alloc),
+        budget: 1000,
+    };
+    serve_stored(alloc, service, requests, written)
 }
 
 /// The disks of a store with a module.
@@ -88,7 +95,13 @@ fn serves_again_from_the_disks_that_it_hands_back(rt: HostRuntime) -> Result<(),
     let alloc = rt.alloc();
     let (a, b) = stored(alloc)?;
     let mut written = Vec::new(alloc);
-    let Ended { end, a, b } = served_stored(alloc, a, b, b"load k 10\nint n = 8;\n", &mut written);
+    let ServiceEnd { end, a, b } = served_stored(
+        alloc,
+        a,
+        b,
+        b"load k 10\nint n = 8;\n",
+        &mut written,
+    );
     end?;
     served_stored(alloc, a, b, b"get m n\nget k n\nseq\n", &mut written).end?;
     let wanted = b"ok seq 2\nok 7\nok 8\nok 2\n".as_slice();
@@ -96,8 +109,8 @@ fn serves_again_from_the_disks_that_it_hands_back(rt: HostRuntime) -> Result<(),
     Ok(())
 }
 
-/// Compares how a run ended after so many reads or writes, and that what was written is a front of the output.
-fn check_front(
+/// Compares how a run ended after so many reads or writes, and that what was written is a prefix of the output.
+fn check_prefix(
     rt: &impl Abort,
     left: usize,
     found: Result<(), RunFault>,
@@ -116,7 +129,7 @@ fn check_reads(rt: &impl Abort, alloc: Global, left: usize) -> Result<(), Fail> 
     let mut written = Vec::new(alloc);
     let reader = Failing { bytes: INPUT, left };
     let found = ending(alloc, reader, &mut written, &mut host, 1000);
-    check_front(rt, left, found, RunFault::Read, &written);
+    check_prefix(rt, left, found, RunFault::Read, &written);
     Ok(())
 }
 
@@ -136,7 +149,7 @@ fn check_writes(rt: &impl Abort, alloc: Global, left: usize) -> Result<(), Fail>
         left,
     };
     let found = ending(alloc, INPUT, &mut writer, &mut host, 1000);
-    check_front(rt, left, found, RunFault::Write, &writer.bytes);
+    check_prefix(rt, left, found, RunFault::Write, &writer.bytes);
     Ok(())
 }
 
@@ -224,7 +237,7 @@ fn a_check_whose_file_or_line_fails(rt: HostRuntime) -> Result<(), Fail> {
         left: 4,
     };
     let mut written = Vec::new(rt.alloc());
-    let end = end_check(rt.alloc(), &registry, unread, &mut written);
+    let end = run_check(rt.alloc(), &registry, unread, &mut written);
     assert!(rt; matches!(end.fault, Some(Fault::Run(RunFault::Read))));
     assert_eq!(rt; end.status, 1);
     assert!(rt; written.is_empty());
@@ -232,7 +245,7 @@ fn a_check_whose_file_or_line_fails(rt: HostRuntime) -> Result<(), Fail> {
         bytes: Vec::new(rt.alloc()),
         left: 2,
     };
-    let end = end_check(
+    let end = run_check(
         rt.alloc(),
         &registry,
         b"int n = 2;".as_slice(),

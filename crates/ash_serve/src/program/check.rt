@@ -1,16 +1,17 @@
-// Checking a script: its bytes are read and judged, and what is found of it is told.
+// Checking a script: its bytes are read and judged, and the verdict is written.
 
 ghost use Rattle.ash_registry.specs.Registered.{registered};
-ghost use Rattle.ash_serve.specs.Checking.{ReadsScript, Judges, found_of, Tells, ChecksScript, ChecksFile, EndsCheck};
+ghost use Rattle.ash_serve.specs.Checking.{EndsCheck, ChecksFile, ChecksScript, ReadsScript};
+ghost use Rattle.ash_serve.specs.Checking.{Judges, WritesVerdict, verdict_of};
 
 use super::ending::{End, Ending};
 use super::fault::Fault;
-use crate::fault::{RunFault, run_fault};
-use crate::run::ROOM;
+use crate::fault::RunFault;
+use crate::run::MAX_BUFFERED_BYTES;
 use ash_durable::check_source;
-use ash_lines::bytes::{MOST_KEPT, read_bytes};
+use ash_lines::bytes::{MAX_PREFIX_BYTES, read_bytes};
 use ash_lines::reader::Reader;
-use ash_lines::reply::{say, say_refusal};
+use ash_lines::reply::{write_line, write_refusal_line};
 use ash_lines::sink::Sink;
 use ash_lines::source::Source;
 use ash_lines::writer::Writer;
@@ -20,73 +21,70 @@ use std::alloc::Global;
 use std::io::{Read, Write};
 
 /// How many bytes are read of a script, at the most: by so many it is seen to be too long.
-const MOST_SCRIPT: u32 = 65_537;
+const MAX_SCRIPT_BYTES: u32 = 65_537;
 
-/// Checks the script that a reader gives, with this registry, and writes a line on a writer, as `check_file`; and says
-/// how the program ends by that: with the status 0 where the line is `ok`, else 1.
-pub fn end_check<R: Read + Drop, W: Write>(
+/// Checks the script that a reader gives, with this registry, and writes a line, as `check_file`; and returns how the
+/// program ends by that: with the status 0 where the line is `ok`, else 1.
+pub fn run_check<R: Read + Drop, W: Write>(
     alloc: Global,
     registry: &Registry,
     reader: R,
     writer: &mut W,
 ) -> End
-    ensures { EndsCheck (registered registry.now) (R.remaining reader) (W.contents writer.old) result (W.contents writer.new) }
+    ensures ends { EndsCheck (registered registry.now) (R.remaining reader)
+        (W.contents writer.old) result (W.contents writer.new) }
 {
     End::by(check_file(alloc, registry, reader, writer))
 }
 
-/// Checks the script that a reader gives, with this registry, and writes a line: `ok`, or its refusal as a `load` is
-/// told it. The first 65,537 bytes are judged.
+/// Checks the script that a reader gives, with this registry, and writes a line: `ok`, or its refusal as the reply to a
+/// `load` has it. The first 65,537 bytes are judged.
 ///
 /// `Run(Read)` where the reader fails among them, `Run(Write)` where the writer fails, `NoMemory` where there is none
-/// for the buffers or for the check. Nothing is written but the line; of that a front where the writer fails.
+/// for the buffers or for the check. Nothing is written but the line; of that a prefix where the writer fails.
 pub fn check_file<R: Read + Drop, W: Write>(
     alloc: Global,
     registry: &Registry,
     reader: R,
     writer: &mut W,
 ) -> Result<Ending, Fault>
-    ensures { ChecksFile (registered registry.now) (R.remaining reader) (W.contents writer.old) result (W.contents writer.new) }
+    ensures checks { ChecksFile (registered registry.now) (R.remaining reader)
+        (W.contents writer.old) result (W.contents writer.new) }
 {
-    let Ok(mut source) = Reader::new(alloc, reader) else {
-        return Err(Fault::NoMemory);
-    };
-    let Ok(buffer) = Vec::with_capacity(alloc, ROOM) else {
-        return Err(Fault::NoMemory);
-    };
-    let mut sink = Writer::new(writer, buffer);
-    let result = check_script(alloc, registry, &mut source, &mut sink);
-    let lent = sink.into_writer();
+    let mut input = Reader::new(alloc, reader)?;
+    let buffer = Vec::with_capacity(alloc, MAX_BUFFERED_BYTES)?;
+    let mut output = Writer::new(writer, buffer);
+    let result = check_script(alloc, registry, &mut input, &mut output);
+    let lent = output.into_writer();
     // No effect at run time: the proof reads from it what the writer holds.
     let _ = &*lent;
     result
 }
 
-/// Checks the script that a source gives, and sends what is found of it as a line. `Run(Read)` is told only where the
+/// Checks the script that a source gives, and writes the verdict as a line. `Run(Read)` is returned only where the
 /// source has failed, and `Run(Write)` only where the sink has.
 pub fn check_script<S: Source, K: Sink>(
     alloc: Global,
     registry: &Registry,
-    source: &mut S,
-    sink: &mut K,
+    input: &mut S,
+    output: &mut K,
 ) -> Result<Ending, Fault>
-    ensures { ChecksScript S.feed K.outlet (registered registry.now) source.old sink.old result source.new sink.new }
+    ensures checks { ChecksScript S.feed K.outlet (registered registry.now) input.old output.old
+        result input.new output.new }
 {
-    let Ok(mut script) = Vec::with_capacity(alloc, MOST_KEPT) else {
-        return Err(Fault::NoMemory);
-    };
-    match read_bytes(source, MOST_SCRIPT, &mut script) {
-        Err(fault) => Err(Fault::Run(run_fault(fault))),
-        Ok(_) => match judge(alloc, registry, script.as_slice()) {
-            Err(fault) => Err(fault),
-            Ok(found) => tell(sink, &found),
-        },
+    let mut script = Vec::with_capacity(alloc, MAX_PREFIX_BYTES)?;
+    match read_bytes(input, MAX_SCRIPT_BYTES, &mut script) {
+        Err(fault) => Err(Fault::Run(RunFault::from(fault))),
+        Ok(_) => {
+            let verdict = judge(alloc, registry, script.as_slice())?;
+            write_verdict(output, &verdict)
+        }
     }
 }
 
 /// Why this source is refused, if it is.
 fn judge(alloc: Global, registry: &Registry, source: &[u8]) -> Result<Option<Refusal>, Fault>
-    ensures { Judges (registered registry.now) source.now result }
+    ensures verdict { Judges (registered registry.now) source.now result }
 {
     match check_source(alloc, registry, source) {
         Ok(()) => Ok(None),
@@ -95,15 +93,15 @@ fn judge(alloc: Global, registry: &Registry, source: &[u8]) -> Result<Option<Ref
     }
 }
 
-/// Sends what is found of a script as a line, and says how the program ends by it.
-fn tell<K: Sink>(sink: &mut K, found: &Option<Refusal>) -> Result<Ending, Fault>
-    ensures { Tells K.outlet sink.old (found_of found.now) result sink.new }
+/// Writes the verdict on a script as a line, and returns how the program ends by it.
+fn write_verdict<K: Sink>(output: &mut K, verdict: &Option<Refusal>) -> Result<Ending, Fault>
+    ensures line { WritesVerdict K.outlet output.old (verdict_of verdict.now) result output.new }
 {
-    let (told, ending) = match found {
-        None => (say(sink, b"ok"), Ending::Well),
-        Some(refusal) => (say_refusal(sink, refusal), Ending::Refused),
+    let (written, ending) = match verdict {
+        None => (write_line(output, b"ok"), Ending::Well),
+        Some(refusal) => (write_refusal_line(output, refusal), Ending::Refused),
     };
-    match told {
+    match written {
         Ok(()) => Ok(ending),
         Err(_) => Err(Fault::Run(RunFault::Write)),
     }

@@ -17,7 +17,7 @@ pub enum Ending {
 impl Ending {
     /// The status that the program ends with: 1 where a script is refused.
     pub fn status(self) -> u8
-        ensures { result ≡ ending_status self }
+        ensures status { result ≡ ending_status self }
     {
         match self {
             Ending::Well => 0,
@@ -36,7 +36,7 @@ pub struct End {
 impl End {
     /// How the program ends by what it did.
     pub fn by(done: Result<Ending, Fault>) -> End
-        ensures { result ≡ end_of done }
+        ensures end { result ≡ end_of done }
     {
         match done {
             Ok(ending) => End {

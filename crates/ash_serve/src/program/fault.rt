@@ -1,4 +1,4 @@
-// Why the program ends with another status than 0, and what it tells of that.
+// Why the program ends with another status than 0, and what it writes of that.
 
 ghost use Rattle.std.specs.Prelude.{◌≡◌};
 ghost use Rattle.ash_serve.specs.Program.{status_of};
@@ -32,7 +32,7 @@ pub enum Fault {
 impl Fault {
     /// The status that the program ends with: 2 for wrong words, 1 for any other fault.
     pub fn status(&self) -> u8
-        ensures { result ≡ status_of self.now }
+        ensures status { result ≡ status_of self.now }
     {
         match self {
             Fault::Usage => 2,
@@ -42,6 +42,10 @@ impl Fault {
 }
 
 impl From<AllocError> for Fault {
+    ghost use Rattle.ash_serve.specs.declared.program.fault.Fault.TheVariants as faults;
+
+    ghost from_gives = { λ _ fault. fault ≡ faults.NoMemory };
+
     fn from(_: AllocError) -> Self {
         Fault::NoMemory
     }

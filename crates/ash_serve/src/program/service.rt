@@ -3,7 +3,7 @@
 ghost use Rattle.std.specs.Prelude.{◌≡◌, Err};
 ghost use Rattle.ash_durable.specs.Store.{Creates, Opens};
 ghost use Rattle.ash_registry.specs.Registered.{registered};
-ghost use Rattle.ash_serve.specs.Service.{ServesBy, ServesFrom};
+ghost use Rattle.ash_serve.specs.Service.{ServesHost, ServesFrom};
 ghost use Rattle.ash_serve.specs.declared.program.fault.Fault.TheVariants as faults;
 
 use super::fault::Fault;
@@ -14,75 +14,98 @@ use ash_registry::Registry;
 use std::alloc::Global;
 use std::io::{Read, Write};
 
+/// What is served: the store on two disks, what is registered with its host, and the ticks that each request may take.
+#[derive(Drop)]
+pub struct Service<D> {
+    pub a: D,
+    pub b: D,
+    pub registry: Registry,
+    pub budget: u64,
+}
+
 /// How serving ended, and the disks as they are left.
 #[derive(Drop)]
-pub struct Ended<D> {
+pub struct ServiceEnd<D> {
     pub end: Result<(), Fault>,
     pub a: D,
     pub b: D,
 }
 
-/// Serves a reader and a writer, with this registry, from the store that is on two disks, and hands these back.
+/// Opens the store that is on the disks, serves a reader and a writer from it, and hands the disks back.
 pub fn serve_stored<D: Disk, R: Read + Drop, W: Write>(
     alloc: Global,
-    a: D,
-    b: D,
-    registry: Registry,
+    service: Service<D>,
     reader: R,
     writer: &mut W,
-    budget: u64,
-) -> Ended<D>
-    ensures { ServesFrom D.Disk (Opens D.Disk (registered registry) a b) (R.remaining reader) budget (W.contents writer.old) result.end result.a result.b (W.contents writer.new) }
+) -> ServiceEnd<D>
+    ensures serves { ServesFrom D.Disk
+        (Opens D.Disk (registered service.registry) service.a service.b)
+        (R.remaining reader) service.budget (W.contents writer.old)
+        result.end result.a result.b (W.contents writer.new) }
 {
+    let Service {
+        a,
+        b,
+        registry,
+        budget,
+    } = service;
     match Host::open(alloc, a, b, registry) {
-        Ok(host) => serve_by(alloc, host, reader, writer, budget),
+        Ok(host) => serve_host(alloc, host, reader, writer, budget),
         Err(refused) => refusal(refused),
     }
 }
 
-/// Makes a store with this registry on two disks, serves a reader and a writer from it, and hands the disks back.
+/// Creates a store on the disks, serves a reader and a writer from it, and hands the disks back.
 pub fn serve_new<D: Disk, R: Read + Drop, W: Write>(
     alloc: Global,
-    a: D,
-    b: D,
-    registry: Registry,
+    service: Service<D>,
     reader: R,
     writer: &mut W,
-    budget: u64,
-) -> Ended<D>
-    ensures { ServesFrom D.Disk (Creates D.Disk (registered registry) a b) (R.remaining reader) budget (W.contents writer.old) result.end result.a result.b (W.contents writer.new) }
+) -> ServiceEnd<D>
+    ensures serves { ServesFrom D.Disk
+        (Creates D.Disk (registered service.registry) service.a service.b)
+        (R.remaining reader) service.budget (W.contents writer.old)
+        result.end result.a result.b (W.contents writer.new) }
 {
+    let Service {
+        a,
+        b,
+        registry,
+        budget,
+    } = service;
     match Host::create(alloc, a, b, registry) {
-        Ok(host) => serve_by(alloc, host, reader, writer, budget),
+        Ok(host) => serve_host(alloc, host, reader, writer, budget),
         Err(refused) => refusal(refused),
     }
 }
 
-fn serve_by<D: Disk, R: Read + Drop, W: Write>(
+/// Serves a reader and a writer from a host, and closes it.
+fn serve_host<D: Disk, R: Read + Drop, W: Write>(
     alloc: Global,
     mut host: Host<D>,
     reader: R,
     writer: &mut W,
     budget: u64,
-) -> Ended<D>
-    ensures { ServesBy D.Disk host (R.remaining reader) budget (W.contents writer.old) result.end result.a result.b (W.contents writer.new) }
+) -> ServiceEnd<D>
+    ensures serves { ServesHost D.Disk host (R.remaining reader) budget (W.contents writer.old)
+        result.end result.a result.b (W.contents writer.new) }
 {
     let end = match run(alloc, reader, writer, &mut host, budget) {
         Ok(()) => Ok(()),
         Err(fault) => Err(Fault::Run(fault)),
     };
     let (a, b) = host.close();
-    Ended { end, a, b }
+    ServiceEnd { end, a, b }
 }
 
 /// Why there is no host, and the disks that it was to have.
-fn refusal<D>(refused: OpenRefused<D>) -> Ended<D>
+fn refusal<D>(refused: OpenRefused<D>) -> ServiceEnd<D>
     ensures end { result.end ≡ Err (faults.Store refused.fault) }
     ensures a { result.a ≡ refused.a }
     ensures b { result.b ≡ refused.b }
 {
     let OpenRefused { fault, a, b } = refused;
-    Ended {
+    ServiceEnd {
         end: Err(Fault::Store(fault)),
         a,
         b,

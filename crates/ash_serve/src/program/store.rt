@@ -8,7 +8,7 @@ use std::fs::{File, Files, OpenOptions, TryLockError};
 use std::io;
 use std::path::{Path, PathBuf};
 
-/// The two files of a store, and what keeps other processes from them: a lock on the first file, which the system
+/// The two files of a store, and what excludes other processes: a lock on the first file, which the system
 /// gives up when this process ends, however it ends.
 #[derive(Drop)]
 pub(super) struct Store {
@@ -24,9 +24,9 @@ impl Store {
         folder: &str,
     ) -> Result<Store, Fault> {
         let (first, second) = paths(rt.alloc(), folder)?;
-        let a = FileDisk::open(rt, first.as_str()).map_err(refusal)?;
-        let b = FileDisk::open(rt, second.as_str()).map_err(refusal)?;
-        match locked(rt, first.as_str())? {
+        let a = FileDisk::open(rt, first.as_str()).map_err(open_fault)?;
+        let b = FileDisk::open(rt, second.as_str()).map_err(open_fault)?;
+        match lock_file(rt, first.as_str())? {
             Some(lock) => Ok(Store { a, b, lock }),
             None => Err(Fault::Store(StoreFault::DeviceFailed)),
         }
@@ -39,9 +39,9 @@ impl Store {
         folder: &str,
     ) -> Result<Store, Fault> {
         let (first, second) = paths(rt.alloc(), folder)?;
-        let a = FileDisk::open_or_make(rt, first.as_str()).map_err(refusal)?;
-        let b = FileDisk::open_or_make(rt, second.as_str()).map_err(refusal)?;
-        match locked(rt, first.as_str())? {
+        let a = FileDisk::open_or_make(rt, first.as_str()).map_err(open_fault)?;
+        let b = FileDisk::open_or_make(rt, second.as_str()).map_err(open_fault)?;
+        match lock_file(rt, first.as_str())? {
             Some(lock) => Ok(Store { a, b, lock }),
             None => Err(Fault::Store(StoreFault::AlreadyThere)),
         }
@@ -55,11 +55,11 @@ fn paths(alloc: Global, folder: &str) -> Result<(PathBuf, PathBuf), AllocError> 
 }
 
 /// The file with a lock on it, or `None` where another process has one. On a file system that knows no locks there
-/// is none, and nothing keeps other processes away.
-fn locked<R: Files<File = File>>(rt: &R, path: &str) -> Result<Option<File>, Fault> {
+/// is none, and no other process is excluded.
+fn lock_file<R: Files<File = File>>(rt: &R, path: &str) -> Result<Option<File>, Fault> {
     let mut options = OpenOptions::new();
     options.read(true).write(true);
-    let file = options.open(rt, path).map_err(refusal)?;
+    let file = options.open(rt, path).map_err(open_fault)?;
     match file.try_lock() {
         Err(TryLockError::WouldBlock) => Ok(None),
         Err(TryLockError::Error(_)) | Ok(()) => Ok(Some(file)),
@@ -67,7 +67,7 @@ fn locked<R: Files<File = File>>(rt: &R, path: &str) -> Result<Option<File>, Fau
 }
 
 /// Why a file could not be opened.
-fn refusal(error: io::Error) -> Fault {
+fn open_fault(error: io::Error) -> Fault {
     match error.kind() {
         io::ErrorKind::OutOfMemory => Fault::NoMemory,
         _ => Fault::Store(StoreFault::DeviceFailed),

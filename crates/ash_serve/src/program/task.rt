@@ -6,10 +6,10 @@ use clap::{Arg, ArgAction, ArgMatches, Command};
 use std::alloc::{AllocError, Global};
 
 /// The most counters that the pool may be given.
-const MOST_COUNTERS: u64 = 4096;
+const MAX_COUNTERS: u64 = 4096;
 
 /// The most digits of an option's number.
-const MOST_DIGITS: usize = 20;
+const MAX_DIGITS: usize = 20;
 
 /// What the words of a command line ask for.
 #[derive(Clone, Copy, Debug)]
@@ -121,7 +121,7 @@ fn file_of<'a>(matches: &ArgMatches<'a>) -> Result<&'a str, Fault> {
 fn limits_of(matches: &ArgMatches) -> Result<Limits, Fault> {
     let budget = number(matches, "budget")?;
     let counters = number(matches, "counters")?;
-    if counters > MOST_COUNTERS {
+    if counters > MAX_COUNTERS {
         return Err(Fault::Usage);
     }
     Ok(Limits { budget, counters })
@@ -130,7 +130,7 @@ fn limits_of(matches: &ArgMatches) -> Result<Limits, Fault> {
 /// The number that an option is given: 1 to 20 digits, below 2^64.
 fn number(matches: &ArgMatches, option: &str) -> Result<u64, Fault> {
     let text = matches.get_str(option).ok_or(Fault::Usage)?;
-    if text.len() > MOST_DIGITS || !text.bytes().all(|byte| byte.is_ascii_digit()) {
+    if text.len() > MAX_DIGITS || !text.bytes().all(|byte| byte.is_ascii_digit()) {
         return Err(Fault::Usage);
     }
     text.parse::<u64>().map_err(|_| Fault::Usage)

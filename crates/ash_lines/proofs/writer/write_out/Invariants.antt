@@ -4,6 +4,6 @@ use Rattle.ash_lines.proofs.writer.write_out.Given as goal
 
 abbrev pub invariant-tries : goal.invariant-tries
 invariant-tries g l = record {
-  within : l.sent ≤ length l.bytes;
-  wrote : Appends (g.W.Write.contents l.initial.writer) (g.W.Write.contents l.writer) (take l.sent l.bytes);
+  within : l.written ≤ length l.bytes;
+  wrote : Appends (g.W.Write.contents l.initial.writer) (g.W.Write.contents l.writer) (take l.written l.bytes);
 }

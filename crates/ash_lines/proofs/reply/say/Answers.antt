@@ -1,9 +1,0 @@
-use Rattle.std.proofs.Common.{◌∷◌, []}
-use Rattle.ash_lines.proofs.SinkLemmas.{stops-more, says-then}
-use Rattle.ash_lines.proofs.reply.say.Goals as goal
-
-pub returns-in-Err : goal.returns-in-Err
-returns-in-Err g c = stops-more g.K.Sink.outlet _ _ c.args.text.now (10 ∷ []) c.in-Err.ensures
-
-pub returns-in-Ok : goal.returns-in-Ok
-returns-in-Ok g c = says-then g.K.Sink.outlet g.met.K.Sink.is_outlet _ _ _ c.args.text.now (10 ∷ []) c.end_line.result c.in-Ok.ensures c.end_line.ensures

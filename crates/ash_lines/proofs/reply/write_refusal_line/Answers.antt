@@ -1,0 +1,16 @@
+use Rattle.std.proofs.Common.{◌∷◌, [], ◌++◌, codes}
+use Rattle.std.proofs.lemmas.Result.{err_from_is_err_and}
+use Rattle.ash_meaning.specs.Refusals.{refusal_of}
+use Rattle.ash_lines.specs.Replies.{refusal_text}
+use Rattle.ash_lines.proofs.SinkLemmas.{fails-more, writes_line-then}
+use Rattle.ash_lines.proofs.reply.write_refusal_line.Goals as goal
+
+pub returns-in_err-write_refusal : goal.returns-in_err-write_refusal
+returns-in_err-write_refusal g c =
+    let p = err_from_is_err_and c.from_residual.result c.from_residual.ensures.1 in
+    record { line = rw p.1 (fails-more g.K.Sink.outlet _ _ (codes "refused " ++ refusal_text (refusal_of c.args.refusal.now)) (10 ∷ []) c.in_err-write_refusal.ensures.text) }
+
+pub returns : goal.returns
+returns g c = record {
+  line = writes_line-then g.K.Sink.outlet g.met.K.Sink.is_outlet _ _ _ (codes "refused " ++ refusal_text (refusal_of c.args.refusal.now)) (10 ∷ []) c.end_line.result c.in_ok-write_refusal.ensures.text c.end_line.ensures.line;
+}

@@ -1,6 +1,0 @@
-use Rattle.std.proofs.Common.{take, drop, refl}
-use Rattle.ash_lines.proofs.WriterLemmas.{split_front}
-use Rattle.ash_lines.proofs.writer.Writer.send.Goals as goal
-
-pub returns-in-Err : goal.returns-in-Err
-returns-in-Err g c = (take c.in-Err.field-0 c.args.self.now.buffer.items, drop c.in-Err.field-0 c.args.self.now.buffer.items, (rw c.as_slice.ensures.value at c.in-Err.ensures, refl, refl), split_front c.in-Err.field-0 c.args.self.now.buffer.items)

@@ -1,0 +1,30 @@
+use Rattle.std.proofs.Common.{◌∙◌, refl, sym, ap}
+use Rattle.ash_meaning.specs.State.{Call, request_of}
+use Rattle.ash_lines.specs.Lines.{HostRequest, Quit, BadRequest, parse_line}
+use Rattle.ash_lines.specs.declared.reply.LineReply.TheVariants as code_replies
+use Rattle.ash_serve.proofs.RequestLemmas.{line_replied}
+use Rattle.ash_serve.proofs.request.handle_line.Goals as goal
+
+pub returns-in-Request-clause-handled : goal.returns-in-Request-clause-handled
+returns-in-Request-clause-handled g c start w =
+    line_replied g.S.Source.feed g.H.RequestHandler.handles c.args.budget start c.args.input.now c.args.host.now c.handle.new.self c.args.buffers.now.line.items (HostRequest (request_of c.in-Request.request)) (code_replies.Host c.handle.result)
+    w c.requires.short (c.in-Request.ensures.parsed ∙ ap parse_line c.as_slice.ensures.value) c.handle.ensures.handled
+
+pub returns-in-Call-clause-handled : goal.returns-in-Call-clause-handled
+returns-in-Call-clause-handled g c start w =
+    line_replied g.S.Source.feed g.H.RequestHandler.handles c.args.budget start c.args.input.now c.args.host.now c.handle-in-Call.new.self c.args.buffers.now.line.items (HostRequest (Call c.in-Call.«module».now c.in-Call.function.now c.parse_line.new.arguments.items)) (code_replies.Host c.handle-in-Call.result)
+    w c.requires.short (c.in-Call.ensures.parsed ∙ ap parse_line c.as_slice.ensures.value) (rw c.as_slice-in-Call.ensures.value at c.handle-in-Call.ensures.handled)
+
+pub returns-in-Load-clause-handled : goal.returns-in-Load-clause-handled
+returns-in-Load-clause-handled g c start w =
+    c.handle_load.ensures.handled start c.args.buffers.now.line.items w c.requires.short (sym (c.in-Load.ensures.parsed ∙ ap parse_line c.as_slice.ensures.value))
+
+pub returns-in-Quit-clause-handled : goal.returns-in-Quit-clause-handled
+returns-in-Quit-clause-handled g c start w =
+    line_replied g.S.Source.feed g.H.RequestHandler.handles c.args.budget start c.args.input.now c.args.host.now c.args.host.now c.args.buffers.now.line.items Quit code_replies.Quit
+    w c.requires.short (c.in-Quit.ensures.parsed ∙ ap parse_line c.as_slice.ensures.value) refl
+
+pub returns-in-BadRequest-clause-handled : goal.returns-in-BadRequest-clause-handled
+returns-in-BadRequest-clause-handled g c start w =
+    line_replied g.S.Source.feed g.H.RequestHandler.handles c.args.budget start c.args.input.now c.args.host.now c.args.host.now c.args.buffers.now.line.items BadRequest code_replies.BadRequest
+    w c.requires.short (c.in-BadRequest.ensures.parsed ∙ ap parse_line c.as_slice.ensures.value) refl

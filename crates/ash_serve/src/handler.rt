@@ -1,0 +1,34 @@
+// What handles requests.
+
+ghost use Rattle.ash_durable.specs.Hosting.{Carries};
+ghost use Rattle.ash_meaning.specs.State.{request_of, reply_of};
+ghost use Rattle.ash_serve.specs.Serving.{RequestRelation, DependsOnPrefix};
+ghost use Rattle.ash_serve.specs.LongSources.{handles_by_prefix};
+
+use ash_disk::Disk;
+use ash_durable::Host;
+use ash_meaning::request::{Reply, Request};
+
+/// A host, as the loop uses it.
+pub trait RequestHandler {
+    /// What the reply to a request may be, and the host after it.
+    ghost handles: { RequestRelation Self };
+
+    /// Handles one request, with a budget in ticks.
+    fn handle(&mut self, request: &Request, budget: u64) -> Reply
+        ensures handled { handles budget (request_of request.now) self.old (reply_of result)
+            self.new };
+
+    /// A source that is too long is refused whatever bytes come after its prefix.
+    ghost depends_on_prefix: { DependsOnPrefix handles };
+}
+
+impl<D: Disk> RequestHandler for Host<D> {
+    ghost handles = { Carries D.Disk };
+
+    ghost depends_on_prefix = { handles_by_prefix _ };
+
+    fn handle(&mut self, request: &Request, budget: u64) -> Reply {
+        Host::carry_out(self, request, budget)
+    }
+}
