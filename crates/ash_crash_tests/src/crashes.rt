@@ -1,46 +1,46 @@
 //! Stops at every call of either disk, and what crashes leave of both, at each moment of the request in progress.
 
 use crate::checks::check;
+use crate::fuses::{Failing, fuses};
 use ash_disk::{FuseDisk, MemoryDisk, Survives};
 use ash_durable::{Host, OpenRefused, StoreFault};
 use ash_meaning::refusal::Refusal;
 use ash_registry::Registry;
-use ash_store_fixtures::full::{AT_THE_LIMIT, full_file};
 use ash_store_fixtures::hosts::{
     SOURCE, State, add, closed, disk, found_state, image_after, inner, load, opened, snapshot,
     state,
 };
-use std::alloc::{AllocError, Global};
+use std::alloc::Global;
 use std::process::Abort;
 use std::test::Fail;
 
 /// What a host is asked for.
 #[derive(Clone, Copy)]
-enum Step {
+pub(crate) enum Step {
     Load,
     Call(i128),
     Snapshot,
 }
 
 /// What was reached: the state, and how many writes and syncs the first disk and the second have had.
-type Reached = (State, usize, usize);
+pub(crate) type Reached = (State, usize, usize);
 
 /// What is done to a store. It is made or opened, and serves; then it is closed and opened again, and serves once more.
-struct Plan {
+pub(crate) struct Plan {
     /// Whether it is made.
-    is_new: bool,
-    steps: &'static [Step],
-    steps_again: &'static [Step],
-    /// What is reached before all of it, and after each part that is acknowledged: the making or the opening, each step,
-    /// the opening again, and each step after that.
-    reached: &'static [Reached],
+    pub(crate) is_new: bool,
+    pub(crate) steps: &'static [Step],
+    pub(crate) steps_again: &'static [Step],
+    /// What is reached before all of it, and after each part that is acknowledged: the making or the opening, each
+    /// step, the opening again, and each step after that.
+    pub(crate) reached: &'static [Reached],
 }
 
 // The first example's requests, two snapshots with a request after each, and a request after it was opened again.
 //
-// To make the store is a write and a sync of the first gate of each disk, and two writes and two syncs of the generation. A
-// request is two writes and two syncs on the current disk, and a snapshot on the other, where the gate of an older generation
-// takes a write and a sync more. An opening syncs both disks.
+// To make the store is a write and a sync of the first gate of each disk, and two writes and two syncs of the
+// generation. A request is two writes and two syncs on the current disk, and a snapshot on the other, where the gate of
+// an older generation takes a write and a sync more. An opening syncs both disks.
 static FROM_NOTHING: Plan = Plan {
     is_new: true,
     steps: &[
@@ -66,24 +66,9 @@ static FROM_NOTHING: Plan = Plan {
     ],
 };
 
-// A store whose next request installs a generation on the second disk, and what is asked of it after that.
-static FROM_A_FULL_FILE: Plan = Plan {
-    is_new: false,
-    steps: &[Step::Call(5), Step::Call(1)],
-    steps_again: &[Step::Call(1)],
-    reached: &[
-        ((17, Some(2)), 0, 0),
-        ((17, Some(2)), 1, 1),
-        ((18, Some(7)), 1, 9),
-        ((19, Some(8)), 1, 13),
-        ((19, Some(8)), 2, 14),
-        ((20, Some(9)), 2, 18),
-    ],
-};
-
 impl Plan {
     /// How many parts it has.
-    fn parts(&self) -> usize {
+    pub(crate) fn parts(&self) -> usize {
         self.reached.len().saturating_sub(1)
     }
 
@@ -107,10 +92,10 @@ type Fused = FuseDisk<MemoryDisk>;
 
 /// Where a plan was stopped: how many parts of it were acknowledged, and the disks.
 #[derive(Drop)]
-struct Stopped {
-    done: usize,
-    first: MemoryDisk,
-    second: MemoryDisk,
+pub(crate) struct Stopped {
+    pub(crate) done: usize,
+    pub(crate) first: MemoryDisk,
+    pub(crate) second: MemoryDisk,
 }
 
 /// Takes a step. Whether it is acknowledged.
@@ -142,8 +127,8 @@ fn found(alloc: Global, a: Fused, b: Fused) -> Result<Host<Fused>, OpenRefused<F
     Host::open(alloc, a, b, Registry::new(alloc))
 }
 
-/// How many parts are acknowledged of a store that is made or opened and then serves, and its disks. Only a failure of a disk
-/// may keep it from that.
+/// How many parts are acknowledged of a store that is made or opened and then serves, and its disks. Only a failure of
+/// a disk may keep it from that.
 fn served(
     begun: Result<Host<Fused>, OpenRefused<Fused>>,
     steps: &[Step],
@@ -161,8 +146,8 @@ fn served(
     }
 }
 
-/// Carries out a plan over two disks, each of which fails after so many calls.
-fn carried_out(
+/// Handles a plan over two disks, each of which fails after so many calls.
+pub(crate) fn handle_plan(
     alloc: Global,
     plan: &Plan,
     disks: (MemoryDisk, MemoryDisk),
@@ -197,7 +182,7 @@ fn state_after(found: State) -> State {
     }
 }
 
-/// Carries out that request.
+/// Handles that request.
 fn go_on(host: &mut Host<MemoryDisk>) -> Result<(), Refusal> {
     match state(host) {
         (_, Some(_)) => add(host, 1),
@@ -208,7 +193,7 @@ fn go_on(host: &mut Host<MemoryDisk>) -> Result<(), Refusal> {
     }
 }
 
-/// Opens what a crash left, carries out one request more, and opens what a second crash leaves: the state that was found
+/// Opens what a crash left, handles one request more, and opens what a second crash leaves: the state that was found
 /// first, and the last.
 fn states_of(
     alloc: Global,
@@ -231,9 +216,9 @@ fn states_of(
     }
 }
 
-/// Whether the images of both disks hold what was acknowledged, or the part in progress more, and go on from there. Before a
-/// store is made there may be none.
-fn is_held(
+/// Whether the images of both disks hold what was acknowledged, or the part in progress more, and go on from there.
+/// Before a store is made there may be none.
+pub(crate) fn is_held(
     alloc: Global,
     plan: &Plan,
     done: usize,
@@ -312,21 +297,17 @@ fn empty_disks(alloc: Global) -> (MemoryDisk, MemoryDisk) {
     (MemoryDisk::new(alloc), MemoryDisk::new(alloc))
 }
 
-/// How many calls a disk may have where the other doesn't fail.
-fn fuses(is_first: bool, calls: u64) -> (u64, u64) {
-    if is_first {
-        (calls, u64::MAX)
-    } else {
-        (u64::MAX, calls)
-    }
-}
-
-/// Stops the plan that makes a store at each call of one disk, and looks at what crashes leave. Gives how many stops there
-/// were until it ran to its end.
-fn count_stops(rt: &impl Abort, alloc: Global, is_first: bool) -> Result<u64, Fail> {
+/// Stops the plan that makes a store at each call of one disk, and looks at what crashes leave. Gives how many stops
+/// there were until it ran to its end.
+fn count_stops(rt: &impl Abort, alloc: Global, failing: Failing) -> Result<u64, Fail> {
     let plan = &FROM_NOTHING;
     for calls in 0..200 {
-        let stopped = carried_out(alloc, plan, empty_disks(alloc), fuses(is_first, calls))?;
+        let stopped = handle_plan(
+            alloc,
+            plan,
+            empty_disks(alloc),
+            fuses(failing, calls, u64::MAX),
+        )?;
         check_moments(rt, alloc, plan, &stopped, 20)?;
         if stopped.done == plan.parts() {
             return Ok(calls);
@@ -337,10 +318,10 @@ fn count_stops(rt: &impl Abort, alloc: Global, is_first: bool) -> Result<u64, Fa
 
 #[test]
 fn the_first_disk_fails(rt: HostRuntime) -> Result<(), Fail> {
-    let stops = count_stops(&rt, rt.alloc(), true)?;
-    // The store is made by 9 calls: a length, a length and the first bytes, 2 for the first gate, 4 for the generation. Two
-    // requests, the second snapshot over an older generation, and a request. The opening syncs, looks twice, and reads the
-    // lengths and the bytes of the image and a record. And a request.
+    let stops = count_stops(&rt, rt.alloc(), Failing::First)?;
+    // The store is made by 9 calls: a length, a length and the first bytes, 2 for the first gate, 4 for the generation.
+    // Two requests, the second snapshot over an older generation, and a request. The opening syncs, looks twice, and
+    // reads the lengths and the bytes of the image and a record. And a request.
     check(
         &rt,
         &stops,
@@ -352,7 +333,7 @@ fn the_first_disk_fails(rt: HostRuntime) -> Result<(), Fail> {
 
 #[test]
 fn the_second_disk_fails(rt: HostRuntime) -> Result<(), Fail> {
-    let stops = count_stops(&rt, rt.alloc(), false)?;
+    let stops = count_stops(&rt, rt.alloc(), Failing::Second)?;
     // To make the store, 1 + 2 and 2 for the first gate; the first snapshot and a request; and the opening looks at it.
     check(&rt, &stops, &(5 + 4 + 4 + 1 + 2), "stops");
     Ok(())
@@ -372,7 +353,8 @@ fn after_parts(stopped: Stopped, done: usize) -> Stopped {
     }
 }
 
-/// Looks at each moment of the part after so many, on disks that have outlived it: what was written later is in no image.
+/// Looks at each moment of the part after so many, on disks that have outlived it: what was written later is in no
+/// image.
 fn check_part(
     rt: &impl Abort,
     alloc: Global,
@@ -402,7 +384,7 @@ fn check_part(
 fn each_moment_of_a_life(rt: HostRuntime) -> Result<(), Fail> {
     let alloc = rt.alloc();
     let plan = &FROM_NOTHING;
-    let mut ended = carried_out(alloc, plan, empty_disks(alloc), (u64::MAX, u64::MAX))?;
+    let mut ended = handle_plan(alloc, plan, empty_disks(alloc), (u64::MAX, u64::MAX))?;
     check(&rt, &ended.done, &plan.parts(), "parts");
     let (_, first, second) = plan.reached_after(plan.parts());
     let calls = (ended.first.calls(), ended.second.calls());
@@ -411,93 +393,5 @@ fn each_moment_of_a_life(rt: HostRuntime) -> Result<(), Fail> {
         ended = after_parts(ended, done);
         check_part(&rt, alloc, plan, &ended, 20)?;
     }
-    Ok(())
-}
-
-/// A disk with the records that fill a generation, and one that is shut.
-fn full_disks(alloc: Global, file: &[u8]) -> Result<(MemoryDisk, MemoryDisk), AllocError> {
-    Ok((disk(alloc, file)?, disk(alloc, &[0])?))
-}
-
-/// What survives of the second disk.
-static SURVIVES: [Survives; 4] = [
-    Survives::Nothing,
-    Survives::Everything,
-    Survives::Part(1),
-    Survives::Part(2),
-];
-
-/// The first crash whose image of the second disk, beside the first as it reads, doesn't hold what it is to hold. An image
-/// that is as the one before it is not opened again.
-fn loss_on_second(alloc: Global, stopped: &Stopped) -> Result<Option<Survives>, Fail> {
-    let mut last = Vec::new(alloc);
-    for survives in &SURVIVES {
-        let second = image_after(&stopped.second, stopped.second.calls(), *survives)?;
-        if second.as_slice() == last.as_slice() {
-            continue;
-        }
-        let first = stopped.first.bytes();
-        if !is_held(alloc, &FROM_A_FULL_FILE, stopped.done, first, &second)? {
-            return Ok(Some(*survives));
-        }
-        last = second;
-    }
-    Ok(None)
-}
-
-/// Looks at what crashes leave of a store whose first disk nothing is written to. Before it is opened, nothing is written to
-/// either.
-fn check_full_stop(
-    rt: &impl Abort,
-    alloc: Global,
-    file: &[u8],
-    stopped: &Stopped,
-) -> Result<(), Fail> {
-    let is_same = stopped.first.bytes() == file;
-    check(rt, &is_same, &true, "the first disk");
-    if stopped.done == 0 {
-        let second = stopped.second.bytes();
-        check(rt, &second, &[0].as_slice(), "the second disk");
-        return Ok(());
-    }
-    let found = (stopped.done, loss_on_second(alloc, stopped)?);
-    check(rt, &found, &(stopped.done, None), "parts, and a loss");
-    Ok(())
-}
-
-/// Stops the plan that installs a generation by size at each call of one disk.
-fn count_full_stops(rt: &impl Abort, alloc: Global, is_first: bool) -> Result<u64, Fail> {
-    let file = full_file(alloc, 1, AT_THE_LIMIT)?;
-    let plan = &FROM_A_FULL_FILE;
-    for calls in 0..200 {
-        let disks = full_disks(alloc, &file)?;
-        let stopped = carried_out(alloc, plan, disks, fuses(is_first, calls))?;
-        check_full_stop(rt, alloc, &file, &stopped)?;
-        if stopped.done == plan.parts() {
-            return Ok(calls);
-        }
-    }
-    Err(Fail::from("no fuse is long enough"))
-}
-
-#[test]
-fn the_first_disk_fails_by_an_installation(rt: HostRuntime) -> Result<(), Fail> {
-    let stops = count_full_stops(&rt, rt.alloc(), true)?;
-    // An opening syncs, looks twice, and reads the lengths and the bytes of the image and 17 records. Opened again it is the
-    // older generation, and only looked at.
-    check(&rt, &stops, &(1 + 2 + 18 * 2 + 1 + 2), "stops");
-    Ok(())
-}
-
-#[test]
-fn the_second_disk_fails_by_an_installation(rt: HostRuntime) -> Result<(), Fail> {
-    let stops = count_full_stops(&rt, rt.alloc(), false)?;
-    // An opening looks at it; a generation and two records are added; then it is current, and read; and a record more.
-    check(
-        &rt,
-        &stops,
-        &(1 + 2 + 4 + 2 * 4 + (1 + 2 + 3 * 2) + 4),
-        "stops",
-    );
     Ok(())
 }

@@ -1,6 +1,7 @@
 //! Stores that are there already or damaged, and disks that fail.
 
 use crate::checks::{check, check_bytes, check_text};
+use crate::fuses::{Failing, fuses};
 use ash_disk::{FuseDisk, MemoryDisk, Survives};
 use ash_durable::{Host, StoreFault};
 use ash_host::Word;
@@ -121,9 +122,9 @@ const REFUSALS: &str =
 /// How many calls of the first disk succeed, and what is the gate of the record, if it is there.
 type FirstWrite = (&'static str, u64, Option<u8>);
 
-// A store is made by nine calls on the first disk: its length; its length once more and its first bytes; a write and a sync of
-// its first gate; two writes and two syncs of the generation. Then the write fails of the first record. Or its sync, or the
-// write of the gate before it, or the sync of that.
+// A store is made by nine calls on the first disk: its length; its length once more and its first bytes; a write and a
+// sync of its first gate; two writes and two syncs of the generation. Then the write fails of the first record. Or its
+// sync, or the write of the gate before it, or the sync of that.
 static FIRST_WRITES: [FirstWrite; 4] = [
     ("the write fails", 9, None),
     ("the sync fails", 10, Some(0)),
@@ -328,18 +329,18 @@ fn wanted_of(rows: &[Reached], calls: u64) -> Option<u64> {
 }
 
 /// Compares how far each store comes where one disk fails after so many calls, from none on.
-fn check_reached(rt: &impl Abort, alloc: Global, is_first: bool, rows: &[Reached]) {
+fn check_reached(rt: &impl Abort, alloc: Global, failing: Failing, rows: &[Reached]) {
     for calls in 0..30 {
-        let fuses = if is_first { (calls, 100) } else { (100, calls) };
+        let fuses = fuses(failing, calls, 100);
         let found = (fuses, reached(rt, alloc, fuses));
         let wanted = (fuses, wanted_of(rows, calls));
         check(rt, &found, &wanted, "calls of the disks, and how far");
     }
 }
 
-// To make a store: its length; its length and its first bytes; write and sync the first gate; write and sync the generation,
-// and then its gate. A request: write and sync the record, and then its gate. To open the store: sync; its length and its
-// first bytes; the length of the image and of each of two records, and the bytes of each.
+// To make a store: its length; its length and its first bytes; write and sync the first gate; write and sync the
+// generation, and then its gate. A request: write and sync the record, and then its gate. To open the store: sync; its
+// length and its first bytes; the length of the image and of each of two records, and the bytes of each.
 static FIRST: [Reached; 5] = [
     (0, None),
     (1 + 2 + 2 + 4, Some(0)),
@@ -350,14 +351,14 @@ static FIRST: [Reached; 5] = [
 
 #[test]
 fn a_fuse_at_each_call_of_the_first_disk(rt: HostRuntime) {
-    check_reached(&rt, rt.alloc(), true, &FIRST)
+    check_reached(&rt, rt.alloc(), Failing::First, &FIRST)
 }
 
-// To make a store: its length; its length and its first bytes; write and sync the first gate. To open it: sync; its length
-// and its first bytes.
+// To make a store: its length; its length and its first bytes; write and sync the first gate. To open it: sync; its
+// length and its first bytes.
 static SECOND: [Reached; 3] = [(0, None), (1 + 2 + 2, Some(2)), (5 + 1 + 2, Some(3))];
 
 #[test]
 fn a_fuse_at_each_call_of_the_second_disk(rt: HostRuntime) {
-    check_reached(&rt, rt.alloc(), false, &SECOND)
+    check_reached(&rt, rt.alloc(), Failing::Second, &SECOND)
 }

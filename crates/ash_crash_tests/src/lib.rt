@@ -1,7 +1,8 @@
-//! Tests of a host whose disks fail, or which crashes, at each moment. It has tests alone, so that the crates with the code
-//! are proved once. The tests of stores on disks that do not fail are in `ash_store_tests`.
+//! Tests of a host whose disks fail, or which crashes, at each moment. It has tests alone, so that the crates with the
+//! code are proved once. The tests of stores on disks that do not fail are in `ash_store_tests`.
 //!
-//! `snapshots` has new generations, `faults` and `crashes` disks that fail, with crashes at each moment.
+//! `snapshots` has new generations, `faults` disks that fail; `crashes` and `full_crashes` disks that fail, with crashes
+//! at each moment, of small stores and of one that is full.
 #![tactic(auto)]
 
 #[cfg(test)]
@@ -10,5 +11,9 @@ mod checks;
 mod crashes;
 #[cfg(test)]
 mod faults;
+#[cfg(test)]
+mod full_crashes;
+#[cfg(test)]
+mod fuses;
 #[cfg(test)]
 mod snapshots;

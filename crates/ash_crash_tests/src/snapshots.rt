@@ -1,5 +1,5 @@
-//! New generations: by a snapshot, and in place of records of 16,777,216 bytes or more. What is asked of a host is data, so
-//! that each call is proved once and not in each test.
+//! New generations: by a snapshot, and in place of records of 16,777,216 bytes or more. What is asked of a host is
+//! data, so that each call is proved once and not in each test.
 
 use crate::checks::{Life, check, check_bytes, check_calls, check_lives, check_text};
 use ash_disk::{MemoryDisk, Survives};
@@ -223,8 +223,9 @@ fn second_file(alloc: Global) -> Result<Vec<u8>, AllocError> {
 
 /// Looks at the disks after a load and a discard have filled a generation.
 fn check_installed(rt: &impl Abort, alloc: Global) -> Result<(), Fail> {
-    // After 510 requests there are 255 * (65,579 + 35) = 16,731,570 bytes of records, and so the load after them is added to
-    // these. With it there are 16,797,149, which is past 16,777,216, and so the discard after it installs first.
+    // After 510 requests there are 255 * (65,579 + 35) = 16,731,570 bytes of records, and so the load after them is
+    // added to these. With it there are 16,797,149, which is past 16,777,216, and so the discard after it installs
+    // first.
     let disks = disks_after(alloc, 512)?;
     let length = 51 + 255 * (LOAD + DISCARD) + LOAD;
     check(rt, &length, &16_797_200, "by hand");
@@ -243,9 +244,9 @@ fn an_installation_by_size(rt: HostRuntime) -> Result<(), Fail> {
     check_installed(&rt, rt.alloc())
 }
 
-/// What is asked of a store that is full but for some bytes, or that has no next generation: what that is called, the number
-/// of its generation, how long the largest source but one is, the steps with what is answered, how many bytes are added to
-/// the first disk, and what is on the second.
+/// What is asked of a store that is full but for some bytes, or that has no next generation: what that is called, the
+/// number of its generation, how long the largest source but one is, the steps with what is answered, how many bytes
+/// are added to the first disk, and what is on the second.
 struct Full {
     what: &'static str,
     number: u64,

@@ -5,9 +5,10 @@ use Rattle.ash_disk.specs.Device.{Device}
 use Rattle.ash_journal.specs.Failures.{CountsFailures}
 use Rattle.ash_meaning.specs.State.{State, Request}
 use Rattle.ash_durable.specs.States.{IsOne, IsEither, SettleSince, HoldsState, GoesOn}
-use Rattle.ash_durable.specs.Keeping.{HasFailedBy}
-use Rattle.ash_durable.specs.Hosting.{Hosted, first, second, IsRunning, IsHonest, IsSaved, Settles, WantsInstall, HasRoom}
-use Rattle.ash_durable.specs.Requests.{KeepsDisks, TriesInstall}
+use Rattle.ash_durable.specs.Saving.{HasFailedBy}
+use Rattle.ash_durable.specs.Hosting.{Hosted, first, second, IsRunning, IsHonest, IsSaved, Settles, WantsInstall}
+use Rattle.ash_durable.specs.Hosting.{HasRoom}
+use Rattle.ash_durable.specs.Requests.{PreservesDisks, TriesInstall}
 use Rattle.ash_durable.proofs.Settling.{settle_on_more, holds_now}
 
 -- ---- states
@@ -23,11 +24,19 @@ stopped_runs host state none runs = let h : None ≡ Some state = sym none ∙ r
 -- ---- disks
 
 module _ {D : Type 0} (device : Device D) where
-  pub honest_before : (old new : Hosted D) → device.honest (first new) ≡ device.honest (first old) → device.honest (second new) ≡ device.honest (second old) → IsHonest device new → IsHonest device old
-  honest_before old new one two honest = record { honest_first = subst IsTrue one honest.honest_first; honest_second = subst IsTrue two honest.honest_second }
+  pub honest_before : (old new : Hosted D) → device.honest (first new) ≡ device.honest (first old)
+      → device.honest (second new) ≡ device.honest (second old) → IsHonest device new → IsHonest device old
+  honest_before old new one two honest = record {
+    honest_first = subst IsTrue one honest.honest_first;
+    honest_second = subst IsTrue two honest.honest_second;
+  }
 
-  pub honest_after : (old new : Hosted D) → device.honest (first new) ≡ device.honest (first old) → device.honest (second new) ≡ device.honest (second old) → IsHonest device old → IsHonest device new
-  honest_after old new one two honest = record { honest_first = subst IsTrue (sym one) honest.honest_first; honest_second = subst IsTrue (sym two) honest.honest_second }
+  pub honest_after : (old new : Hosted D) → device.honest (first new) ≡ device.honest (first old)
+      → device.honest (second new) ≡ device.honest (second old) → IsHonest device old → IsHonest device new
+  honest_after old new one two honest = record {
+    honest_first = subst IsTrue (sym one) honest.honest_first;
+    honest_second = subst IsTrue (sym two) honest.honest_second;
+  }
 
 -- the same failures, said otherwise
 pub counts_as : (F G : Type 0) (a b c d : ℕ) → (F → G) → (G → F) → CountsFailures F a b c d → CountsFailures G a b c d
@@ -48,7 +57,8 @@ counts_none F a b not = record {
 }
 
 -- a call in which no device failed, and then another
-pub counts_then : (F G : Type 0) (a b c d e f : ℕ) → (F → ⊥) → CountsFailures F a b c d → CountsFailures G c d e f → CountsFailures G a b e f
+pub counts_then : (F G : Type 0) (a b c d e f : ℕ) → (F → ⊥) → CountsFailures F a b c d → CountsFailures G c d e f
+    → CountsFailures G a b e f
 counts_then F G a b c d e f not one other =
     let same = one.none not in
     subst (λ (n : ℕ). CountsFailures G n b e f) same.0 (subst (λ (n : ℕ). CountsFailures G c n e f) same.1 other)
@@ -61,17 +71,21 @@ either_same state other either = elim either [ inl is ↦ is | inr is ↦ is ]
 -- ---- the first part
 
 -- A host that runs has room for a request: since the request began its files settle on its state.
-pub record HadRoom {D : Type 0} (device : Device D) (request : Request) (state : State) (old between : Hosted D) : Type 0 where
+pub record HadRoom {D : Type 0} (device : Device D) (request : Request) (state : State)
+    (old between : Hosted D) : Type 0 where
   pub began : IsRunning state old
   pub room : HasRoom device request state old between
   pub running : IsRunning state between
   pub saved : IsSaved device old → IsSaved device between
-  pub settled : IsHonest device old → IsSaved device old → SettleSince device (device.clock (first old)) (device.clock (second old)) (first between) (second between) (IsOne state)
-  pub disks : KeepsDisks {T = Unit {0}} device old (Ok tt) between
+  pub settled : IsHonest device old → IsSaved device old
+      → SettleSince device (device.clock (first old)) (device.clock (second old)) (first between) (second between)
+      (IsOne state)
+  pub disks : PreservesDisks {T = Unit {0}} device old (Ok tt) between
 
 module _ {D : Type 0} (device : Device D) where
   -- no new generation was wanted
-  pub room_as_it_is : (request : Request) (state : State) (host : Hosted D) → (WantsInstall request host → ⊥) → IsRunning state host → HadRoom device request state host host
+  pub room_as_it_is : (request : Request) (state : State) (host : Hosted D) → (WantsInstall request host → ⊥)
+      → IsRunning state host → HadRoom device request state host host
   room_as_it_is request state host not runs = record {
     began = runs;
     room = inl (not, refl);
@@ -79,7 +93,8 @@ module _ {D : Type 0} (device : Device D) where
     saved = λ was. was;
     settled = λ honest was. holds_now device state host.journal (was honest state runs);
     disks = record {
-      failures = counts_none (HasFailedBy {T = Unit {0}} (Ok tt)) (device.failures (first host)) (device.failures (second host)) (λ failed. failed);
+      failures = counts_none (HasFailedBy {T = Unit {0}} (Ok tt)) (device.failures (first host))
+          (device.failures (second host)) (λ failed. failed);
       honesty_first = refl;
       honesty_second = refl;
       registered = refl;
@@ -87,7 +102,8 @@ module _ {D : Type 0} (device : Device D) where
   }
 
   -- one was, and was installed
-  pub room_installed : (request : Request) (state : State) (old between : Hosted D) → WantsInstall request old → IsRunning state old → TriesInstall device old (Ok tt) between → HadRoom device request state old between
+  pub room_installed : (request : Request) (state : State) (old between : Hosted D) → WantsInstall request old
+      → IsRunning state old → TriesInstall device old (Ok tt) between → HadRoom device request state old between
   room_installed request state old between wanted runs tries =
       let installs = tries.installs state runs in
       record {
@@ -95,13 +111,16 @@ module _ {D : Type 0} (device : Device D) where
         room = inr (wanted, installs.0);
         running = installs.0.running;
         saved = installs.0.saved;
-        settled = λ honest was. settle_on_more device (device.clock (first old)) (device.clock (second old)) (first between) (second between) (IsEither state state) (IsOne state) (installs.1 honest was) (λ other either. either_same state other either);
+        settled = λ honest was. settle_on_more device (device.clock (first old)) (device.clock (second old))
+            (first between) (second between) (IsEither state state) (IsOne state) (installs.1 honest was)
+            (λ other either. either_same state other either);
         disks = tries.disks;
       }
 
 -- ---- the second part
 
-module _ {D : Type 0} (device : Device D) (request : Request) (state : State) (old between : Hosted D) (room : HadRoom device request state old between) where
+module _ {D : Type 0} (device : Device D) (request : Request) (state : State) (old between : Hosted D)
+    (room : HadRoom device request state old between) where
   honest_between : IsHonest device old → IsHonest device between
   honest_between honest = honest_after device old between room.disks.honesty_first room.disks.honesty_second honest
 
@@ -112,10 +131,14 @@ module _ {D : Type 0} (device : Device D) (request : Request) (state : State) (o
   -- nothing more was written
   pub settles_as_it_is : Settles device state state old between
   settles_as_it_is = λ honest was.
-      settle_on_more device (device.clock (first old)) (device.clock (second old)) (first between) (second between) (IsOne state) (IsEither state state) (room.settled honest was) (λ other is. inl is)
+      settle_on_more device (device.clock (first old)) (device.clock (second old)) (first between) (second between)
+      (IsOne state) (IsEither state state) (room.settled honest was) (λ other is. inl is)
 
   -- One record more was written, or not. Since the request began the files settle on the state before it, and then on
   -- this or the one after it.
-  pub settles_added : (after : State) (new : Hosted D) → (HoldsState device state between.journal → GoesOn device state after between.journal new.journal) → Settles device state after old new
+  pub settles_added : (after : State) (new : Hosted D)
+      → (HoldsState device state between.journal → GoesOn device state after between.journal new.journal)
+      → Settles device state after old new
   settles_added after new goes_on = λ honest was.
-      goes_on (held_between (honest_between honest) was) (device.clock (first old)) (device.clock (second old)) (room.settled honest was)
+      goes_on (held_between (honest_between honest) was) (device.clock (first old)) (device.clock (second old))
+      (room.settled honest was)

@@ -15,10 +15,11 @@ use Rattle.ash_journal.specs.Runs.{Extends, Nothing}
 use Rattle.ash_journal.proofs.RunLaws.{same_extends}
 use Rattle.ash_meaning.specs.State.{State}
 use Rattle.ash_registry.specs.Calls.{Call}
-use Rattle.ash_durable.specs.Contents.{behind_image, ReadsAs}
+use Rattle.ash_durable.specs.Contents.{after_image, ReadsAs}
 use Rattle.ash_durable.specs.Faults.{opening_fault}
 use Rattle.ash_durable.specs.States.{AreHonest}
-use Rattle.ash_durable.specs.Store.{IsFailed, HandsBack, WereOnlyRead, StoreFaultIs, WasFound, WasNotFound, Finds, contents_of, AreInPlace, HoldsRead, OnlySettled, WasSettled, WasNotSettled, Settled}
+use Rattle.ash_durable.specs.Store.{IsFailed, HandsBack, WereOnlyRead, StoreFaultIs, WasFound, WasNotFound, Finds}
+use Rattle.ash_durable.specs.Store.{contents_of, AreInPlace, HoldsRead, OnlySettled, WasSettled, WasNotSettled, Settled}
 use Rattle.ash_durable.specs.declared.fault.OpenRefused.{OpenRefused}
 use Rattle.ash_durable.specs.declared.fault.StoreFault.{StoreFault}
 use Rattle.ash_durable.specs.declared.fault.StoreFault.TheVariants as faults
@@ -27,13 +28,16 @@ use Rattle.ash_durable.proofs.Faultless.{represent_current}
 use Rattle.ash_durable.proofs.Settling.{extends_on}
 
 -- calls of which the first met no failure
-pub counted_on : (failed : Type 0) (f s f' s' f'' s'' : ℕ) → CountsFailures ⊥ f s f' s' → CountsFailures failed f' s' f'' s'' → CountsFailures failed f s f'' s''
+pub counted_on : (failed : Type 0) (f s f' s' f'' s'' : ℕ) → CountsFailures ⊥ f s f' s'
+    → CountsFailures failed f' s' f'' s'' → CountsFailures failed f s f'' s''
 counted_on failed f s f' s' f'' s'' one two =
     let same = one.none (λ (e : ⊥). e) in
-    subst (λ (n : ℕ). CountsFailures failed n s f'' s'') same.0 (subst (λ (n : ℕ). CountsFailures failed f' n f'' s'') same.1 two)
+    subst (λ (n : ℕ). CountsFailures failed n s f'' s'') same.0
+    (subst (λ (n : ℕ). CountsFailures failed f' n f'' s'') same.1 two)
 
 -- a call that met no failure, by whatever it says of one
-counted_none : (failed : Type 0) (f s f' s' : ℕ) → (failed → ⊥) → CountsFailures failed f s f' s' → CountsFailures ⊥ f s f' s'
+counted_none : (failed : Type 0) (f s f' s' : ℕ) → (failed → ⊥) → CountsFailures failed f s f' s'
+    → CountsFailures ⊥ f s f' s'
 counted_none failed f s f' s' not counts = record {
   first_never_falls = counts.first_never_falls;
   second_never_falls = counts.second_never_falls;
@@ -51,7 +55,8 @@ uncounted failed f s not = record {
 }
 
 -- what is counted for a fault of a journal, for the fault of the store
-opening_counts : (fault : OpenFault) (f s f' s' : ℕ) → CountsFailures (fault ≡ opening.DeviceFailed) f s f' s' → CountsFailures (IsFailed (opening_fault fault)) f s f' s'
+opening_counts : (fault : OpenFault) (f s f' s' : ℕ) → CountsFailures (fault ≡ opening.DeviceFailed) f s f' s'
+    → CountsFailures (IsFailed (opening_fault fault)) f s f' s'
 opening_counts opening.DeviceFailed f s f' s' counts = record {
   first_never_falls = counts.first_never_falls;
   second_never_falls = counts.second_never_falls;
@@ -78,7 +83,8 @@ opening_counts opening.NoMemory f s f' s' counts = record {
 }
 
 -- a fault of a journal is one of the store
-opening_cause : (registered : List Call) (fault : OpenFault) (x y : List ℕ) → FaultIs fault x y → StoreFaultIs registered (opening_fault fault) x y
+opening_cause : (registered : List Call) (fault : OpenFault) (x y : List ℕ) → FaultIs fault x y
+    → StoreFaultIs registered (opening_fault fault) x y
 opening_cause registered opening.DeviceFailed x y cause = cause
 opening_cause registered opening.NoGeneration x y cause = cause
 opening_cause registered opening.NoMemory x y cause = cause
@@ -86,7 +92,9 @@ opening_cause registered (opening.Damaged at) x y (inl unsound) = inl unsound
 opening_cause registered (opening.Damaged at) x y (inr cut) = inr (inl cut)
 
 -- contents that are read as no state
-reading_cause : (registered : List Call) (fault : StoreFault) (contents : Contents) (x y : List ℕ) → Represent contents x y → IsFailed fault ⊎ ReadsAs registered contents (Err fault) → StoreFaultIs registered fault x y
+reading_cause : (registered : List Call) (fault : StoreFault) (contents : Contents) (x y : List ℕ)
+    → Represent contents x y → IsFailed fault ⊎ ReadsAs registered contents (Err fault)
+    → StoreFaultIs registered fault x y
 reading_cause registered faults.DeviceFailed contents x y is reads = tt
 reading_cause registered faults.NoMemory contents x y is reads = represent_current contents x y is
 reading_cause registered (faults.Damaged at) contents x y is (inl failed) = absurd failed
@@ -103,16 +111,23 @@ failed_is faults.DeviceFailed failed = refl
 failed_is _ failed = absurd failed
 
 -- what an image and records are read as, what the journal holds is read as
-pub read_as : {D : Type 0} (opened : Opened D) (registered : List Call) (result : Result State StoreFault) (image : List ℕ) (records : List Record) → image ≡ opened.image.items → records ≡ opened.records.items → (AreAt (behind_image image) records → ReadsAs registered (image, bodies_of records) result) → AreInPlace opened → ReadsAs registered (contents_of opened) result
+pub read_as : {D : Type 0} (opened : Opened D) (registered : List Call) (result : Result State StoreFault)
+    (image : List ℕ) (records : List Record) → image ≡ opened.image.items → records ≡ opened.records.items
+    → (AreAt (after_image image) records → ReadsAs registered (image, bodies_of records) result) → AreInPlace opened
+    → ReadsAs registered (contents_of opened) result
 read_as opened registered result image records image_is records_is reads =
-    subst (λ (i : List ℕ). AreAt (behind_image i) opened.records.items → ReadsAs registered (i, bodies_of opened.records.items) result) image_is
-    (subst (λ (rs : List Record). AreAt (behind_image image) rs → ReadsAs registered (image, bodies_of rs) result) records_is reads)
+    subst (λ (i : List ℕ). AreAt (after_image i) opened.records.items
+    → ReadsAs registered (i, bodies_of opened.records.items) result) image_is
+    (subst (λ (rs : List Record). AreAt (after_image image) rs → ReadsAs registered (image, bodies_of rs) result)
+    records_is reads)
 
 module _ {D : Type 0} (device : Device D) where
   -- disks that are handed on
-  pub handed_on : (failed : Type 0) (a b a' b' a'' b'' : D) → HandsBack device ⊥ a b a' b' → HandsBack device failed a' b' a'' b'' → HandsBack device failed a b a'' b''
+  pub handed_on : (failed : Type 0) (a b a' b' a'' b'' : D) → HandsBack device ⊥ a b a' b'
+      → HandsBack device failed a' b' a'' b'' → HandsBack device failed a b a'' b''
   handed_on failed a b a' b' a'' b'' one two = record {
-    failures = counted_on failed (device.failures a) (device.failures b) (device.failures a') (device.failures b') (device.failures a'') (device.failures b'') one.failures two.failures;
+    failures = counted_on failed (device.failures a) (device.failures b) (device.failures a') (device.failures b')
+        (device.failures a'') (device.failures b'') one.failures two.failures;
     honesty_first = two.honesty_first ∙ one.honesty_first;
     honesty_second = two.honesty_second ∙ one.honesty_second;
   }
@@ -120,12 +135,16 @@ module _ {D : Type 0} (device : Device D) where
   -- ---- what an opened journal holds is read
 
   -- as no state
-  pub not_read : (registered : List Call) (opened : Opened D) (fault : StoreFault) (refused : OpenRefused D) → refused.fault ≡ fault → refused.a ≡ first_disk opened.journal → refused.b ≡ second_disk opened.journal → (fault ≡ faults.DeviceFailed → ⊥) → (AreInPlace opened → ReadsAs registered (contents_of opened) (Err fault)) → WasNotSettled device registered opened refused
+  pub not_read : (registered : List Call) (opened : Opened D) (fault : StoreFault) (refused : OpenRefused D)
+      → refused.fault ≡ fault → refused.a ≡ first_disk opened.journal → refused.b ≡ second_disk opened.journal
+      → (fault ≡ faults.DeviceFailed → ⊥) → (AreInPlace opened → ReadsAs registered (contents_of opened) (Err fault))
+      → WasNotSettled device registered opened refused
   not_read registered opened fault refused fault_is a_is b_is not reads =
       let a = first_disk opened.journal in
       let b = second_disk opened.journal in
       record {
-        cause = λ placed. inr (subst (λ (f : StoreFault). ReadsAs registered (contents_of opened) (Err f)) (sym fault_is) (reads placed));
+        cause = λ placed. inr (subst (λ (f : StoreFault). ReadsAs registered (contents_of opened) (Err f))
+            (sym fault_is) (reads placed));
         read = λ never. (a_is, b_is);
         extends = λ holds.
             subst (λ (x : D). Extends device a b x refused.b Nothing) (sym a_is)
@@ -135,31 +154,58 @@ module _ {D : Type 0} (device : Device D) where
             subst (λ (x : D). HandsBack device (IsFailed refused.fault) a b x refused.b) (sym a_is)
             (subst (λ (y : D). HandsBack device (IsFailed refused.fault) a b a y) (sym b_is)
             (record {
-              failures = uncounted (IsFailed refused.fault) (device.failures a) (device.failures b) (λ failed. not (sym fault_is ∙ failed_is refused.fault failed));
+              failures = uncounted (IsFailed refused.fault) (device.failures a) (device.failures b)
+                  (λ failed. not (sym fault_is ∙ failed_is refused.fault failed));
               honesty_first = refl;
               honesty_second = refl;
             }));
       }
 
   -- as a state, and the gates are written over
-  pub settled_on : (registered : List Call) (opened : Opened D) (state : State) (journal : Journal D) (failed : Type 0) → (failed → ⊥) → state.registered ≡ registered → (AreInPlace opened → ReadsAs registered (contents_of opened) (Ok state)) → ((HasFailed opened.journal → ⊥) → IsReady journal) → OnlySettled device opened.journal journal → (HoldsRead device opened → Holds device journal opened.image.items (bodies_of opened.records.items)) → (HoldsRead device opened → Extends device (first_disk opened.journal) (second_disk opened.journal) (first_disk journal) (second_disk journal) Nothing) → CountsFailures failed (device.failures (first_disk opened.journal)) (device.failures (second_disk opened.journal)) (device.failures (first_disk journal)) (device.failures (second_disk journal)) → device.honest (first_disk journal) ≡ device.honest (first_disk opened.journal) → device.honest (second_disk journal) ≡ device.honest (second_disk opened.journal) → WasSettled device registered opened state journal
-  settled_on registered opened state journal failed not with_it reads ready only holds extends counts honesty_first honesty_second = record {
-    registered_is = with_it;
-    reads = λ placed. (reads placed).1;
-    ready = ready;
-    only = only;
-    holds = holds;
-    extends = extends;
-    disks = record {
-      failures = counted_none failed (device.failures (first_disk opened.journal)) (device.failures (second_disk opened.journal)) (device.failures (first_disk journal)) (device.failures (second_disk journal)) not counts;
-      honesty_first = honesty_first;
-      honesty_second = honesty_second;
-    };
-  }
+  pub settled_on : (registered : List Call) (opened : Opened D) (state : State) (journal : Journal D) (failed : Type 0)
+      → (failed → ⊥) → state.registered ≡ registered
+      → (AreInPlace opened → ReadsAs registered (contents_of opened) (Ok state))
+      → ((HasFailed opened.journal → ⊥) → IsReady journal) → OnlySettled device opened.journal journal
+      → (HoldsRead device opened → Holds device journal opened.image.items (bodies_of opened.records.items))
+      → (HoldsRead device opened → Extends device (first_disk opened.journal) (second_disk opened.journal)
+      (first_disk journal) (second_disk journal) Nothing)
+      → CountsFailures failed (device.failures (first_disk opened.journal))
+      (device.failures (second_disk opened.journal)) (device.failures (first_disk journal))
+      (device.failures (second_disk journal)) → device.honest (first_disk journal)
+      ≡ device.honest (first_disk opened.journal)
+      → device.honest (second_disk journal) ≡ device.honest (second_disk opened.journal)
+      → WasSettled device registered opened state journal
+  settled_on registered opened state journal failed not with_it reads ready only holds extends counts honesty_first
+      honesty_second = record {
+        registered_is = with_it;
+        reads = λ placed. (reads placed).1;
+        ready = ready;
+        only = only;
+        holds = holds;
+        extends = extends;
+        disks = record {
+          failures = counted_none failed (device.failures (first_disk opened.journal))
+              (device.failures (second_disk opened.journal)) (device.failures (first_disk journal))
+              (device.failures (second_disk journal)) not counts;
+          honesty_first = honesty_first;
+          honesty_second = honesty_second;
+        };
+      }
 
   -- as a state, and a device failed then
-  pub not_settled : (registered : List Call) (opened : Opened D) (journal : Journal D) (refused : OpenRefused D) (failed : Type 0) → failed → refused.fault ≡ faults.DeviceFailed → refused.a ≡ first_disk journal → refused.b ≡ second_disk journal → OnlySettled device opened.journal journal → (HoldsRead device opened → Extends device (first_disk opened.journal) (second_disk opened.journal) (first_disk journal) (second_disk journal) Nothing) → CountsFailures failed (device.failures (first_disk opened.journal)) (device.failures (second_disk opened.journal)) (device.failures (first_disk journal)) (device.failures (second_disk journal)) → device.honest (first_disk journal) ≡ device.honest (first_disk opened.journal) → device.honest (second_disk journal) ≡ device.honest (second_disk opened.journal) → WasNotSettled device registered opened refused
-  not_settled registered opened journal refused failed has fault_is a_is b_is only extends counts honesty_first honesty_second =
+  pub not_settled : (registered : List Call) (opened : Opened D) (journal : Journal D) (refused : OpenRefused D)
+      (failed : Type 0) → failed → refused.fault ≡ faults.DeviceFailed → refused.a ≡ first_disk journal
+      → refused.b ≡ second_disk journal → OnlySettled device opened.journal journal
+      → (HoldsRead device opened → Extends device (first_disk opened.journal) (second_disk opened.journal)
+      (first_disk journal) (second_disk journal) Nothing)
+      → CountsFailures failed (device.failures (first_disk opened.journal))
+      (device.failures (second_disk opened.journal)) (device.failures (first_disk journal))
+      (device.failures (second_disk journal)) → device.honest (first_disk journal)
+      ≡ device.honest (first_disk opened.journal)
+      → device.honest (second_disk journal) ≡ device.honest (second_disk opened.journal)
+      → WasNotSettled device registered opened refused
+  not_settled registered opened journal refused failed has fault_is a_is b_is only extends counts honesty_first
+      honesty_second =
       let a = first_disk opened.journal in
       let b = second_disk opened.journal in
       let is_failed : IsFailed refused.fault = subst IsFailed (sym fault_is) tt in
@@ -192,16 +238,25 @@ module _ {D : Type 0} (device : Device D) where
     pub holds : AreHonest device a b → HoldsRead device opened
     pub placed : AreHonest device a b → AreInPlace opened
     pub represents : AreHonest device a b → Represent (contents_of opened) (device.seen a) (device.seen b)
-    pub extends : AreHonest device a b → Extends device a b (first_disk opened.journal) (second_disk opened.journal) Nothing
+    pub extends : AreHonest device a b → Extends device a b (first_disk opened.journal) (second_disk opened.journal)
+        Nothing
     pub sound : HasFailed opened.journal → ⊥
     pub read : WereOnlyRead device a b (first_disk opened.journal) (second_disk opened.journal)
-    pub counts : CountsFailures ⊥ (device.failures a) (device.failures b) (device.failures (first_disk opened.journal)) (device.failures (second_disk opened.journal))
+    pub counts : CountsFailures ⊥ (device.failures a) (device.failures b) (device.failures (first_disk opened.journal))
+        (device.failures (second_disk opened.journal))
 
   -- it hands them on as they are
-  opened_back : (a b : D) (opened : Opened D) → IsOpened a b opened → HandsBack device ⊥ a b (first_disk opened.journal) (second_disk opened.journal)
-  opened_back a b opened is = record { failures = is.counts; honesty_first = is.read.read_first.honesty; honesty_second = is.read.read_second.honesty }
+  opened_back : (a b : D) (opened : Opened D) → IsOpened a b opened
+      → HandsBack device ⊥ a b (first_disk opened.journal) (second_disk opened.journal)
+  opened_back a b opened is = record {
+    failures = is.counts;
+    honesty_first = is.read.read_first.honesty;
+    honesty_second = is.read.read_second.honesty;
+  }
 
-  found : (registered : List Call) (a b : D) (opened : Opened D) (state : State) (journal : Journal D) → IsOpened a b opened → WasSettled device registered opened state journal → WasFound device registered a b state journal
+  found : (registered : List Call) (a b : D) (opened : Opened D) (state : State) (journal : Journal D)
+      → IsOpened a b opened → WasSettled device registered opened state journal
+      → WasFound device registered a b state journal
   found registered a b opened state journal is settled = record {
     registered_is = settled.registered_is;
     ready = settled.ready is.sound;
@@ -209,41 +264,62 @@ module _ {D : Type 0} (device : Device D) where
       contents = contents_of opened;
       represented = is.represents honest;
       holds = settled.holds (is.holds honest);
-      tells = settled.reads (is.placed honest);
+      is_state = settled.reads (is.placed honest);
     };
-    moments = λ honest. extends_on device a b (first_disk opened.journal) (second_disk opened.journal) (first_disk journal) (second_disk journal) (is.extends honest) (settled.extends (is.holds honest));
+    moments = λ honest. extends_on device a b (first_disk opened.journal) (second_disk opened.journal)
+        (first_disk journal) (second_disk journal) (is.extends honest) (settled.extends (is.holds honest));
     repaired = record {
       was = opened.journal;
       read = is.read;
       finds = λ honest. (contents_of opened, is.holds honest);
       only = settled.only;
     };
-    disks = handed_on ⊥ a b (first_disk opened.journal) (second_disk opened.journal) (first_disk journal) (second_disk journal) (opened_back a b opened is) settled.disks;
+    disks = handed_on ⊥ a b (first_disk opened.journal) (second_disk opened.journal) (first_disk journal)
+        (second_disk journal) (opened_back a b opened is) settled.disks;
   }
 
-  not_found : (registered : List Call) (a b : D) (opened : Opened D) (refused : OpenRefused D) → IsOpened a b opened → WasNotSettled device registered opened refused → WasNotFound device registered a b refused
+  not_found : (registered : List Call) (a b : D) (opened : Opened D) (refused : OpenRefused D) → IsOpened a b opened
+      → WasNotSettled device registered opened refused → WasNotFound device registered a b refused
   not_found registered a b opened refused is settled = record {
-    cause = λ honest. reading_cause registered refused.fault (contents_of opened) (device.seen a) (device.seen b) (is.represents honest) (settled.cause (is.placed honest));
+    cause = λ honest. reading_cause registered refused.fault (contents_of opened) (device.seen a) (device.seen b)
+        (is.represents honest) (settled.cause (is.placed honest));
     read = λ not.
         let same = settled.read not in
         record {
           read_first = subst (λ (d : D). IsOnlyRead device a d) (sym same.0) is.read.read_first;
           read_second = subst (λ (d : D). IsOnlyRead device b d) (sym same.1) is.read.read_second;
         };
-    moments = λ honest. extends_on device a b (first_disk opened.journal) (second_disk opened.journal) refused.a refused.b (is.extends honest) (settled.extends (is.holds honest));
+    moments = λ honest. extends_on device a b (first_disk opened.journal) (second_disk opened.journal)
+        refused.a refused.b (is.extends honest) (settled.extends (is.holds honest));
     repaired = λ failed.
         let on = settled.only failed in
-        inr (on.0, record { was = opened.journal; read = is.read; finds = λ honest. (contents_of opened, is.holds honest); only = on.1 }, on.2, on.3);
-    disks = handed_on (IsFailed refused.fault) a b (first_disk opened.journal) (second_disk opened.journal) refused.a refused.b (opened_back a b opened is) settled.disks;
+        inr (
+          on.0,
+          record {
+            was = opened.journal;
+            read = is.read;
+            finds = λ honest. (contents_of opened, is.holds honest);
+            only = on.1;
+          },
+          on.2,
+          on.3,
+        );
+    disks = handed_on (IsFailed refused.fault) a b (first_disk opened.journal) (second_disk opened.journal)
+        refused.a refused.b (opened_back a b opened is) settled.disks;
   }
 
-  pub finds : (registered : List Call) (a b : D) (opened : Opened D) (result : Result (Found D) (OpenRefused D)) → IsOpened a b opened → Settled device registered opened result → Finds device registered a b result
+  pub finds : (registered : List Call) (a b : D) (opened : Opened D) (result : Result (Found D) (OpenRefused D))
+      → IsOpened a b opened → Settled device registered opened result → Finds device registered a b result
   finds registered a b opened (Ok one) is settled = found registered a b opened one.state one.journal is settled
   finds registered a b opened (Err refused) is settled = not_found registered a b opened refused is settled
 
   -- ---- two disks whose journal was not
 
-  pub not_opened : (registered : List Call) (a b a' b' : D) (fault : OpenFault) (reported : StoreFault) → reported ≡ opening_fault fault → (AreHonest device a b → FaultIs fault (device.seen a) (device.seen b)) → (AreHonest device a b → Extends device a b a' b' Nothing) → IsOnlyRead device a a' → IsOnlyRead device b b' → CountsFailures (fault ≡ opening.DeviceFailed) (device.failures a) (device.failures b) (device.failures a') (device.failures b') → WasNotFound device registered a b (record { fault = reported; a = a'; b = b' })
+  pub not_opened : (registered : List Call) (a b a' b' : D) (fault : OpenFault) (reported : StoreFault)
+      → reported ≡ opening_fault fault → (AreHonest device a b → FaultIs fault (device.seen a) (device.seen b))
+      → (AreHonest device a b → Extends device a b a' b' Nothing) → IsOnlyRead device a a' → IsOnlyRead device b b'
+      → CountsFailures (fault ≡ opening.DeviceFailed) (device.failures a) (device.failures b) (device.failures a')
+      (device.failures b') → WasNotFound device registered a b (record { fault = reported; a = a'; b = b' })
   not_opened registered a b a' b' fault reported is cause extends read_first read_second counts =
       subst (λ (f : StoreFault). WasNotFound device registered a b (record { fault = f; a = a'; b = b' })) (sym is)
       (record {
@@ -252,7 +328,8 @@ module _ {D : Type 0} (device : Device D) where
         moments = extends;
         repaired = λ failed. inl (record { read_first = read_first; read_second = read_second });
         disks = record {
-          failures = opening_counts fault (device.failures a) (device.failures b) (device.failures a') (device.failures b') counts;
+          failures = opening_counts fault (device.failures a) (device.failures b) (device.failures a')
+              (device.failures b') counts;
           honesty_first = read_first.honesty;
           honesty_second = read_second.honesty;
         };

@@ -1,5 +1,6 @@
 -- What making a store on two disks comes to.
-use Rattle.std.proofs.Common.{◌≡◌, ◌⊎◌, inl, inr, ℕ, ◌≤◌, ◌↔◌, true, false, List, [], ◌∷◌, length, refl, sym, subst, arith}
+use Rattle.std.proofs.Common.{◌≡◌, ◌⊎◌, inl, inr, ℕ, ◌≤◌, ◌↔◌, true, false, List, [], ◌∷◌, length, refl, sym, subst}
+use Rattle.std.proofs.Common.{arith}
 use Rattle.std.specs.Bool.{IsTrue}
 use Rattle.std.proofs.lemmas.Bool.{cases_eq}
 use Rattle.ash_disk.specs.Device.{Device, EveryMomentSince, IsOnlyRead}
@@ -18,18 +19,20 @@ use Rattle.ash_journal.proofs.ReadLaws.{rested_read}
 use Rattle.ash_journal.proofs.SettleLaws.{settle_more}
 use Rattle.ash_meaning.specs.State.{State}
 use Rattle.ash_durable.specs.Faults.{creating_fault}
-use Rattle.ash_durable.specs.States.{AreHonest, IsImageOf, IsOne, Tells, TellsOne}
-use Rattle.ash_durable.specs.Store.{IsFailed, HandsBack, WereOnlyRead, AreClosed, MakesOrNot, WasMade, NotMadeFor, WasNotMade}
+use Rattle.ash_durable.specs.States.{AreHonest, IsImageOf, IsOne, IsStateOf, HaveState}
+use Rattle.ash_durable.specs.Store.{IsFailed, HandsBack, WereOnlyRead, AreClosed, MakesOrNot, WasMade, NotMadeFor}
+use Rattle.ash_durable.specs.Store.{WasNotMade}
 use Rattle.ash_durable.specs.declared.fault.StoreFault.{StoreFault}
 use Rattle.ash_durable.proofs.Finding.{handed_on}
-use Rattle.ash_durable.proofs.Telling.{tells_alone}
+use Rattle.ash_durable.proofs.ContentsStates.{state_of_alone}
 
 -- ---- files that are closed
 
 closed_or_not : (bytes : List ℕ) → IsClosed bytes ⊎ (IsClosed bytes → ⊥)
 closed_or_not [] = inl tt
 closed_or_not (gate ∷ []) = inl tt
-closed_or_not (gate ∷ second ∷ rest) = elim (cases_eq gate 1) [ inl one ↦ inr (λ closed. closed one) | inr shut ↦ inl shut ]
+closed_or_not (gate ∷ second ∷ rest) = elim (cases_eq gate 1)
+    [ inl one ↦ inr (λ closed. closed one) | inr shut ↦ inl shut ]
 
 -- a file that is not found open is closed
 pub closed_when : (bytes : List ℕ) → IsTrue false ↔ (IsClosed bytes → ⊥) → IsClosed bytes
@@ -54,7 +57,8 @@ idle_closed images (inr shut) image left = shut_closed image (shut image left)
 
 -- ---- what is counted and reported
 
-creating_counts : (fault : CreateFault) (f s f' s' : ℕ) → CountsFailures (fault ≡ creating.DeviceFailed) f s f' s' → CountsFailures (IsFailed (creating_fault fault)) f s f' s'
+creating_counts : (fault : CreateFault) (f s f' s' : ℕ) → CountsFailures (fault ≡ creating.DeviceFailed) f s f' s'
+    → CountsFailures (IsFailed (creating_fault fault)) f s f' s'
 creating_counts creating.DeviceFailed f s f' s' counts = record {
   first_never_falls = counts.first_never_falls;
   second_never_falls = counts.second_never_falls;
@@ -87,20 +91,38 @@ module _ {D : Type 0} (device : Device D) where
   read_makes state a b a' b' read p q honest rested_a rested_b s t x y from_p to_a from_q to_b left_x left_y =
       let one = rested_read device p a a' honest.honest_first read.read_first rested_a in
       let two = rested_read device q b b' honest.honest_second read.read_second rested_b in
-      inl (idle_closed (device.leaves a' s) (one.idle s from_p to_a) x left_x, idle_closed (device.leaves b' t) (two.idle t from_q to_b) y left_y)
+      inl (
+        idle_closed (device.leaves a' s) (one.idle s from_p to_a) x left_x,
+        idle_closed (device.leaves b' t) (two.idle t from_q to_b) y left_y,
+      )
 
   -- and then a journal was created, or it was not
-  module _ (state : State) (image : List ℕ) (depicts : IsImageOf image state) (a b one two : D) (read : WereOnlyRead device a b one two) (back : HandsBack device ⊥ a b one two) (closed : AreHonest device a b → AreClosed device a b) where
-    creates : (a' b' : D) → ((p q : ℕ) → IsTrue (device.honest one) → IsTrue (device.honest two) → HasRested device p one → HasRested device q two → EveryMomentSince device p q a' b' (IsCreatedOrClosed image)) → MakesOrNot device state a b a' b'
+  module _ (state : State) (image : List ℕ) (depicts : IsImageOf image state) (a b one two : D)
+      (read : WereOnlyRead device a b one two) (back : HandsBack device ⊥ a b one two)
+      (closed : AreHonest device a b → AreClosed device a b) where
+    creates : (a' b' : D) → ((p q : ℕ) → IsTrue (device.honest one) → IsTrue (device.honest two)
+        → HasRested device p one → HasRested device q two → EveryMomentSince device p q a' b' (IsCreatedOrClosed image))
+        → MakesOrNot device state a b a' b'
     creates a' b' moments p q honest rested_a rested_b s t x y from_p to_a from_q to_b left_x left_y =
         let is = honest_read a b one two read honest in
-        let made = moments p q is.honest_first is.honest_second (rested_read device p a one honest.honest_first read.read_first rested_a) (rested_read device q b two honest.honest_second read.read_second rested_b) s t x y from_p to_a from_q to_b left_x left_y in
+        let made = moments p q is.honest_first is.honest_second
+        (rested_read device p a one honest.honest_first read.read_first rested_a)
+        (rested_read device q b two honest.honest_second read.read_second rested_b)
+        s t x y from_p to_a from_q to_b left_x left_y in
         elim made [
           | inl none ↦ inl none
-          | inr settle ↦ inr (settle_more (Is (image, [])) (TellsOne (IsOne state)) (λ contents same. (state, refl, subst (Tells state) (sym same) (tells_alone state image depicts))) x y settle)
+          | inr settle ↦ inr (settle_more (Is (image, [])) (HaveState (IsOne state))
+              (λ contents same. (state, refl, subst (IsStateOf state) (sym same) (state_of_alone state image depicts)))
+              x y settle)
         ]
 
-    pub made : (journal : Journal D) → IsReady journal → current_disk journal ≡ first_disk journal → generation journal ≡ 1 → record_bytes journal ≡ 0 → (IsTrue (device.honest one) → IsTrue (device.honest two) → Holds device journal image []) → ((p q : ℕ) → IsTrue (device.honest one) → IsTrue (device.honest two) → HasRested device p one → HasRested device q two → EveryMomentSince device p q (first_disk journal) (second_disk journal) (IsCreatedOrClosed image)) → HandsBack device ⊥ one two (first_disk journal) (second_disk journal) → WasMade device state a b journal
+    pub made : (journal : Journal D) → IsReady journal → current_disk journal ≡ first_disk journal
+        → generation journal ≡ 1 → record_bytes journal ≡ 0
+        → (IsTrue (device.honest one) → IsTrue (device.honest two) → Holds device journal image [])
+        → ((p q : ℕ) → IsTrue (device.honest one) → IsTrue (device.honest two) → HasRested device p one
+        → HasRested device q two → EveryMomentSince device p q (first_disk journal) (second_disk journal)
+        (IsCreatedOrClosed image)) → HandsBack device ⊥ one two (first_disk journal) (second_disk journal)
+        → WasMade device state a b journal
     made journal ready in_first number emptied holds moments disks = record {
       ready = ready;
       in_first = in_first;
@@ -109,36 +131,62 @@ module _ {D : Type 0} (device : Device D) where
       closed = closed;
       holds = λ honest.
           let is = honest_read a b one two read honest in
-          record { contents = (image, []); holds = holds is.honest_first is.honest_second; tells = tells_alone state image depicts };
+          record {
+            contents = (image, []);
+            holds = holds is.honest_first is.honest_second;
+            is_state = state_of_alone state image depicts;
+          };
       moments = creates (first_disk journal) (second_disk journal) moments;
       disks = handed_on device ⊥ a b one two (first_disk journal) (second_disk journal) back disks;
     }
 
     -- why it was not
-    cause : (fault : CreateFault) (a' b' : D) → (IsTrue (device.honest one) → IsTrue (device.honest two) → CreateFaultIs fault (device.seen one) (device.seen two) (IsOnlyRead device one a' × IsOnlyRead device two b')) → NotMadeFor device a b (creating_fault fault) a' b'
+    cause : (fault : CreateFault) (a' b' : D)
+        → (IsTrue (device.honest one) → IsTrue (device.honest two)
+        → CreateFaultIs fault (device.seen one) (device.seen two) (IsOnlyRead device one a' × IsOnlyRead device two b'))
+        → NotMadeFor device a b (creating_fault fault) a' b'
     cause creating.DeviceFailed a' b' is = λ honest. inl (closed honest)
     cause creating.AlreadyThere a' b' is = λ honest.
         let still = honest_read a b one two read honest in
         let found = is still.honest_first still.honest_second in (
-          record { read_first = read_on device a one a' read.read_first found.1.0; read_second = read_on device b two b' read.read_second found.1.1 },
+          record {
+            read_first = read_on device a one a' read.read_first found.1.0;
+            read_second = read_on device b two b' read.read_second found.1.1;
+          },
           λ shut. elim found.0 [
-            | inl is_open ↦ open_closed (device.seen one) is_open (subst IsClosed (sym (read.read_first.seen honest.honest_first)) shut.closed_first)
-            | inr is_open ↦ open_closed (device.seen two) is_open (subst IsClosed (sym (read.read_second.seen honest.honest_second)) shut.closed_second)
+            | inl is_open ↦ open_closed (device.seen one) is_open
+                (subst IsClosed (sym (read.read_first.seen honest.honest_first)) shut.closed_first)
+            | inr is_open ↦ open_closed (device.seen two) is_open
+                (subst IsClosed (sym (read.read_second.seen honest.honest_second)) shut.closed_second)
           ],
         )
     cause creating.NoMemory a' b' is = λ honest.
         let still = honest_read a b one two read honest in
-        let found = is still.honest_first still.honest_second in
-        (record { read_first = read_on device a one a' read.read_first found.1.0; read_second = read_on device b two b' read.read_second found.1.1 }, closed honest)
+        let found = is still.honest_first still.honest_second in (
+          record {
+            read_first = read_on device a one a' read.read_first found.1.0;
+            read_second = read_on device b two b' read.read_second found.1.1;
+          },
+          closed honest,
+        )
 
-    pub not_made : (fault : CreateFault) (reported : StoreFault) (a' b' : D) → reported ≡ creating_fault fault → (IsTrue (device.honest one) → IsTrue (device.honest two) → CreateFaultIs fault (device.seen one) (device.seen two) (IsOnlyRead device one a' × IsOnlyRead device two b')) → ((p q : ℕ) → IsTrue (device.honest one) → IsTrue (device.honest two) → HasRested device p one → HasRested device q two → EveryMomentSince device p q a' b' (IsCreatedOrClosed image)) → device.honest a' ≡ device.honest one → device.honest b' ≡ device.honest two → CountsFailures (fault ≡ creating.DeviceFailed) (device.failures one) (device.failures two) (device.failures a') (device.failures b') → WasNotMade device state a b (record { fault = reported; a = a'; b = b' })
+    pub not_made : (fault : CreateFault) (reported : StoreFault) (a' b' : D) → reported ≡ creating_fault fault
+        → (IsTrue (device.honest one) → IsTrue (device.honest two)
+        → CreateFaultIs fault (device.seen one) (device.seen two) (IsOnlyRead device one a' × IsOnlyRead device two b'))
+        → ((p q : ℕ) → IsTrue (device.honest one) → IsTrue (device.honest two) → HasRested device p one
+        → HasRested device q two → EveryMomentSince device p q a' b' (IsCreatedOrClosed image))
+        → device.honest a' ≡ device.honest one → device.honest b' ≡ device.honest two
+        → CountsFailures (fault ≡ creating.DeviceFailed) (device.failures one) (device.failures two)
+        (device.failures a') (device.failures b')
+        → WasNotMade device state a b (record { fault = reported; a = a'; b = b' })
     not_made fault reported a' b' is why moments honesty_first honesty_second counts =
         subst (λ (f : StoreFault). WasNotMade device state a b (record { fault = f; a = a'; b = b' })) (sym is)
         (record {
           cause = cause fault a' b' why;
           moments = creates a' b' moments;
           disks = handed_on device (IsFailed (creating_fault fault)) a b one two a' b' back (record {
-            failures = creating_counts fault (device.failures one) (device.failures two) (device.failures a') (device.failures b') counts;
+            failures = creating_counts fault (device.failures one) (device.failures two) (device.failures a')
+                (device.failures b') counts;
             honesty_first = honesty_first;
             honesty_second = honesty_second;
           });

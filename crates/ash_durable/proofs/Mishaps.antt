@@ -1,11 +1,11 @@
--- Files that represent contents of a state are refused for want of memory or a failure alone.
+-- Files that represent contents of a state are refused because memory ran out or a device failed, and for nothing else.
 use Rattle.std.proofs.Common.{◌≡◌, inl, inr, ℕ, List, Err, subst}
 use Rattle.ash_journal.specs.Current.{Contents, Represent}
 use Rattle.ash_journal.proofs.SettleLaws.{represent_once}
 use Rattle.ash_meaning.specs.State.{State}
 use Rattle.ash_registry.specs.Calls.{Call}
 use Rattle.ash_durable.specs.Contents.{ReadsAs}
-use Rattle.ash_durable.specs.States.{Tells}
+use Rattle.ash_durable.specs.States.{IsStateOf}
 use Rattle.ash_durable.specs.Store.{StoreFaultIs, IsMishap}
 use Rattle.ash_durable.specs.declared.fault.StoreFault.{StoreFault}
 use Rattle.ash_durable.specs.declared.fault.StoreFault.TheVariants as faults
@@ -13,21 +13,31 @@ use Rattle.ash_durable.proofs.Faultless.{represent_open, represent_sound, repres
 use Rattle.ash_durable.proofs.Reading.{only_memory}
 
 -- contents of a state that were read as a fault, where the files represent others
-misread : (registered : List Call) (state : State) (contents other : Contents) (fault : StoreFault) (x y : List ℕ) → state.registered ≡ registered → Represent contents x y → Tells state contents → Represent other x y → ReadsAs registered other (Err fault) → fault ≡ faults.NoMemory
-misread registered state contents other fault x y with_it is tells other_is reads =
-    only_memory registered contents state fault with_it tells
+misread : (registered : List Call) (state : State) (contents other : Contents) (fault : StoreFault) (x y : List ℕ)
+    → state.registered ≡ registered → Represent contents x y → IsStateOf state contents → Represent other x y
+    → ReadsAs registered other (Err fault) → fault ≡ faults.NoMemory
+misread registered state contents other fault x y with_it is is_state other_is reads =
+    only_memory registered contents state fault with_it is_state
     (subst (λ (c : Contents). ReadsAs registered c (Err fault)) (represent_once other contents x y other_is is) reads)
 
-pub only_mishaps : (registered : List Call) (state : State) (contents : Contents) (fault : StoreFault) (x y : List ℕ) → state.registered ≡ registered → Represent contents x y → Tells state contents → StoreFaultIs registered fault x y → IsMishap fault
-only_mishaps registered state contents faults.NoMemory x y with_it is tells cause = tt
-only_mishaps registered state contents faults.DeviceFailed x y with_it is tells cause = tt
-only_mishaps registered state contents faults.NoGeneration x y with_it is tells cause = absurd (represent_open contents x y is cause)
-only_mishaps registered state contents (faults.Damaged at) x y with_it is tells (inl unsound) = absurd (represent_sound contents x y is unsound.0)
-only_mishaps registered state contents (faults.Damaged at) x y with_it is tells (inr (inl cut)) = absurd (represent_whole contents x y at is cut)
-only_mishaps registered state contents (faults.Damaged at) x y with_it is tells (inr (inr (other, other_is, wrong))) =
-    let same : faults.Damaged at ≡ faults.NoMemory = misread registered state contents other (faults.Damaged at) x y with_it is tells other_is wrong in
+pub only_mishaps : (registered : List Call) (state : State) (contents : Contents) (fault : StoreFault) (x y : List ℕ)
+    → state.registered ≡ registered → Represent contents x y → IsStateOf state contents
+    → StoreFaultIs registered fault x y → IsMishap fault
+only_mishaps registered state contents faults.NoMemory x y with_it is is_state cause = tt
+only_mishaps registered state contents faults.DeviceFailed x y with_it is is_state cause = tt
+only_mishaps registered state contents faults.NoGeneration x y with_it is is_state cause =
+    absurd (represent_open contents x y is cause)
+only_mishaps registered state contents (faults.Damaged at) x y with_it is is_state (inl unsound) =
+    absurd (represent_sound contents x y is unsound.0)
+only_mishaps registered state contents (faults.Damaged at) x y with_it is is_state (inr (inl cut)) =
+    absurd (represent_whole contents x y at is cut)
+only_mishaps registered state contents (faults.Damaged at) x y with_it is is_state
+    (inr (inr (other, other_is, wrong))) =
+    let same : faults.Damaged at ≡ faults.NoMemory =
+    misread registered state contents other (faults.Damaged at) x y with_it is is_state other_is wrong in
     absurd (cc)
-only_mishaps registered state contents faults.OtherInterface x y with_it is tells (other, other_is, others) =
-    let same : faults.OtherInterface ≡ faults.NoMemory = misread registered state contents other faults.OtherInterface x y with_it is tells other_is others in
+only_mishaps registered state contents faults.OtherInterface x y with_it is is_state (other, other_is, others) =
+    let same : faults.OtherInterface ≡ faults.NoMemory =
+    misread registered state contents other faults.OtherInterface x y with_it is is_state other_is others in
     absurd (cc)
-only_mishaps registered state contents faults.AlreadyThere x y with_it is tells cause = absurd cause
+only_mishaps registered state contents faults.AlreadyThere x y with_it is is_state cause = absurd cause

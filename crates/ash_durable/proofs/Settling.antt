@@ -9,50 +9,64 @@ use Rattle.ash_journal.specs.Runs.{Run, Extends, Nothing}
 use Rattle.ash_journal.proofs.RunLaws.{run_extends, represented}
 use Rattle.ash_journal.proofs.SettleLaws.{Said, Follow, settle_more, further}
 use Rattle.ash_meaning.specs.State.{State}
-use Rattle.ash_durable.specs.States.{IsImageOf, Leads, Tells, TellsOne, IsOne, IsEither, SettleSince, SettleNow, HoldsState, GoesOn, BeginsAnew}
-use Rattle.ash_durable.proofs.Telling.{tells_one, tells_alone, tells_push}
+use Rattle.ash_durable.specs.States.{IsImageOf, Leads, IsStateOf, HaveState, IsOne, IsEither, SettleSince, SettleNow}
+use Rattle.ash_durable.specs.States.{HoldsState, GoesOn, BeginsAnew}
+use Rattle.ash_durable.proofs.ContentsStates.{state_of_one, state_of_alone, state_of_push}
 
 -- files that come to nothing new, after files that come to nothing new
-further_on : (u v x y p q : List ℕ) → SettleFurther Nothing u v x y → SettleFurther Nothing x y p q → SettleFurther Nothing u v p q
+further_on : (u v x y p q : List ℕ) → SettleFurther Nothing u v x y → SettleFurther Nothing x y p q
+    → SettleFurther Nothing u v p q
 further_on u v x y p q one two settle =
     let may = MaySettleOn u v in
-    further may Nothing x y p q two (settle_more (Either Nothing may) may (λ contents is. elim is [ inl new ↦ absurd new | inr was ↦ was ]) x y (one settle))
+    further may Nothing x y p q two (settle_more (Either Nothing may) may
+    (λ contents is. elim is [ inl new ↦ absurd new | inr was ↦ was ]) x y (one settle))
 
 module _ {D : Type 0} (device : Device D) where
   -- what a run says of contents may be said in a weaker way
-  pub run_more : (a b : ℕ) (first second : D) (P Q : Said) → Run device a b first second P → Follow P Q → Run device a b first second Q
+  pub run_more : (a b : ℕ) (first second : D) (P Q : Said) → Run device a b first second P → Follow P Q
+      → Run device a b first second Q
   run_more a b first second P Q run more = record {
     first_began = run.first_began;
     second_began = run.second_began;
-    moments = λ s t x y from_a s_end from_b t_end left_x left_y. settle_more P Q more x y (run.moments s t x y from_a s_end from_b t_end left_x left_y);
+    moments = λ s t x y from_a s_end from_b t_end left_x left_y. settle_more P Q more x y
+        (run.moments s t x y from_a s_end from_b t_end left_x left_y);
   }
 
   -- and what files settle on
-  pub settle_on_more : (a b : ℕ) (first second : D) (P Q : State → Type 0) → SettleSince device a b first second P → ((s : State) → P s → Q s) → SettleSince device a b first second Q
+  pub settle_on_more : (a b : ℕ) (first second : D) (P Q : State → Type 0) → SettleSince device a b first second P
+      → ((s : State) → P s → Q s) → SettleSince device a b first second Q
   settle_on_more a b first second P Q run more =
-      run_more a b first second (TellsOne P) (TellsOne Q) run (λ contents one. (one.0, more one.0 one.1, one.2))
+      run_more a b first second (HaveState P) (HaveState Q) run (λ contents one. (one.0, more one.0 one.1, one.2))
 
   -- what files settle on since two times, they settle on since later ones
-  pub settle_later : (a b c d : ℕ) (first second : D) (P : State → Type 0) → a ≤ c → b ≤ d → c ≤ device.clock first → d ≤ device.clock second → SettleSince device a b first second P → SettleSince device c d first second P
+  pub settle_later : (a b c d : ℕ) (first second : D) (P : State → Type 0) → a ≤ c → b ≤ d → c ≤ device.clock first
+      → d ≤ device.clock second → SettleSince device a b first second P → SettleSince device c d first second P
   settle_later a b c d first second P a_c b_d first_began second_began run = record {
     first_began = first_began;
     second_began = second_began;
-    moments = λ s t x y from_c s_end from_d t_end left_x left_y. run.moments s t x y (omega (arith, a_c, from_c)) s_end (omega (arith, b_d, from_d)) t_end left_x left_y;
+    moments = λ s t x y from_c s_end from_d t_end left_x left_y. run.moments s t x y (omega (arith, a_c, from_c)) s_end
+        (omega (arith, b_d, from_d)) t_end left_x left_y;
   }
 
   -- and now
-  pub settle_now : (a b : ℕ) (first second : D) (P : State → Type 0) → SettleSince device a b first second P → SettleNow device first second P
+  pub settle_now : (a b : ℕ) (first second : D) (P : State → Type 0) → SettleSince device a b first second P
+      → SettleNow device first second P
   settle_now a b first second P run =
-      settle_later a b (device.clock first) (device.clock second) first second P run.first_began run.second_began (omega arith) (omega arith) run
+      settle_later a b (device.clock first) (device.clock second) first second P run.first_began run.second_began
+      (omega arith) (omega arith) run
 
   -- what files settle on, they settle on after calls that add no new contents
-  pub settle_still : (a b : ℕ) (first second first' second' : D) (P : State → Type 0) → Extends device first second first' second' Nothing → SettleSince device a b first second P → SettleSince device a b first' second' P
+  pub settle_still : (a b : ℕ) (first second first' second' : D) (P : State → Type 0)
+      → Extends device first second first' second' Nothing → SettleSince device a b first second P
+      → SettleSince device a b first' second' P
   settle_still a b first second first' second' P call run =
-      run_more a b first' second' (Either Nothing (TellsOne P)) (TellsOne P) (run_extends device a b first second first' second' (TellsOne P) Nothing run call)
+      run_more a b first' second' (Either Nothing (HaveState P)) (HaveState P)
+      (run_extends device a b first second first' second' (HaveState P) Nothing run call)
       (λ contents one. elim one [ inl new ↦ absurd new | inr was ↦ was ])
 
   -- calls that add no new contents, after calls that add none
-  pub extends_on : (a b a' b' a'' b'' : D) → Extends device a b a' b' Nothing → Extends device a' b' a'' b'' Nothing → Extends device a b a'' b'' Nothing
+  pub extends_on : (a b a' b' a'' b'' : D) → Extends device a b a' b' Nothing → Extends device a' b' a'' b'' Nothing
+      → Extends device a b a'' b'' Nothing
   extends_on a b a' b' a'' b'' one two = record {
     first_later = omega (arith, one.first_later, two.first_later);
     second_later = omega (arith, one.second_later, two.second_later);
@@ -60,7 +74,8 @@ module _ {D : Type 0} (device : Device D) where
         let later = two.moments s t x y s_end t_end left_x left_y in
         let s' = min s (device.clock a') in
         let t' = min t (device.clock b') in
-        let was = one.moments s' t' later.0 later.1 (omega arith) (omega arith) later.2.first_left later.2.second_left in
+        let was = one.moments s' t' later.0 later.1 (omega arith) (omega arith)
+        later.2.first_left later.2.second_left in
         let s_is : min s' (device.clock a) ≡ min s (device.clock a) = omega (arith, one.first_later) in
         let t_is : min t' (device.clock b) ≡ min t (device.clock b) = omega (arith, one.second_later) in (
           was.0,
@@ -74,57 +89,83 @@ module _ {D : Type 0} (device : Device D) where
   }
 
   -- files that settle on states with P, and represent a state as they read: it has P
-  pub settled_state : (a b : ℕ) (first second : D) (P : State → Type 0) (contents : Contents) (state : State) (x y : List ℕ) → device.leaves first (device.clock first) x → device.leaves second (device.clock second) y → SettleSince device a b first second P → Represent contents x y → Tells state contents → ((s : State) → P s → s.registered ≡ state.registered) → P state
-  settled_state a b first second P contents state x y left_x left_y run is tells alike =
-      let one = represented device a b first second (TellsOne P) contents x y left_x left_y run is in
-      subst P (tells_one one.0 state contents (alike one.0 one.1) one.2 tells) one.1
+  pub settled_state : (a b : ℕ) (first second : D) (P : State → Type 0) (contents : Contents) (state : State)
+      (x y : List ℕ) → device.leaves first (device.clock first) x → device.leaves second (device.clock second) y
+      → SettleSince device a b first second P → Represent contents x y → IsStateOf state contents
+      → ((s : State) → P s → s.registered ≡ state.registered) → P state
+  settled_state a b first second P contents state x y left_x left_y run is is_state alike =
+      let one = represented device a b first second (HaveState P) contents x y left_x left_y run is in
+      subst P (state_of_one one.0 state contents (alike one.0 one.1) one.2 is_state) one.1
 
   -- a journal that holds a state settles on it alone
-  pub holds_now : (state : State) (journal : Journal D) → HoldsState device state journal → SettleNow device (first_disk journal) (second_disk journal) (IsOne state)
+  pub holds_now : (state : State) (journal : Journal D) → HoldsState device state journal
+      → SettleNow device (first_disk journal) (second_disk journal) (IsOne state)
   holds_now state journal holds =
-      run_more (device.clock (first_disk journal)) (device.clock (second_disk journal)) (first_disk journal) (second_disk journal) (Is holds.contents) (TellsOne (IsOne state)) holds.holds.run
-      (λ contents is. (state, refl, subst (Tells state) (sym is) holds.tells))
+      run_more (device.clock (first_disk journal)) (device.clock (second_disk journal)) (first_disk journal)
+      (second_disk journal) (Is holds.contents) (HaveState (IsOne state)) holds.holds.run
+      (λ contents is. (state, refl, subst (IsStateOf state) (sym is) holds.is_state))
 
   -- a journal that was not touched goes on
   pub still_goes_on : (before after : State) (journal : Journal D) → GoesOn device before after journal journal
   still_goes_on before after journal a b run =
-      settle_on_more a b (first_disk journal) (second_disk journal) (IsOne before) (IsEither before after) run (λ s is. inl is)
+      settle_on_more a b (first_disk journal) (second_disk journal) (IsOne before) (IsEither before after) run
+      (λ s is. inl is)
 
   -- a record more, that leads from one state to the next, takes a journal from the one to the other
-  pub record_goes_on : (before after : State) (image body : List ℕ) (bodies : List (List ℕ)) (old new : Journal D) → Tells before (image, bodies) → Leads body before after → Extends device (first_disk old) (second_disk old) (first_disk new) (second_disk new) (Is (image, bodies ++ body ∷ [])) → GoesOn device before after old new
-  record_goes_on before after image body bodies old new tells leads call a b run =
-      run_more a b (first_disk new) (second_disk new) (Either (Is (image, bodies ++ body ∷ [])) (TellsOne (IsOne before))) (TellsOne (IsEither before after))
-      (run_extends device a b (first_disk old) (second_disk old) (first_disk new) (second_disk new) (TellsOne (IsOne before)) (Is (image, bodies ++ body ∷ [])) run call)
+  pub record_goes_on : (before after : State) (image body : List ℕ) (bodies : List (List ℕ)) (old new : Journal D)
+      → IsStateOf before (image, bodies) → Leads body before after
+      → Extends device (first_disk old) (second_disk old) (first_disk new) (second_disk new)
+      (Is (image, bodies ++ body ∷ [])) → GoesOn device before after old new
+  record_goes_on before after image body bodies old new is_state leads call a b run =
+      run_more a b (first_disk new) (second_disk new)
+      (Either (Is (image, bodies ++ body ∷ [])) (HaveState (IsOne before))) (HaveState (IsEither before after))
+      (run_extends device a b (first_disk old) (second_disk old) (first_disk new) (second_disk new)
+      (HaveState (IsOne before)) (Is (image, bodies ++ body ∷ [])) run call)
       (λ contents one. elim one [
-        | inl is ↦ (after, inr refl, subst (Tells after) (sym is) (tells_push before after image bodies body tells leads))
+        | inl is ↦ (
+          after,
+          inr refl,
+          subst (IsStateOf after) (sym is)
+              (state_of_push before after image bodies body is_state leads),
+        )
         | inr was ↦ (was.0, inl was.1, was.2)
       ])
 
   -- what goes on from a journal that holds a state begins anew there
-  pub goes_on_anew : (before after : State) (old new : Journal D) → HoldsState device before old → GoesOn device before after old new → BeginsAnew device before after old new
+  pub goes_on_anew : (before after : State) (old new : Journal D) → HoldsState device before old
+      → GoesOn device before after old new → BeginsAnew device before after old new
   goes_on_anew before after old new holds goes =
       goes (device.clock (first_disk old)) (device.clock (second_disk old)) (holds_now before old holds)
 
   -- a journal that was not touched begins anew
-  pub still_begins_anew : (before after : State) (journal : Journal D) → HoldsState device before journal → BeginsAnew device before after journal journal
-  still_begins_anew before after journal holds = goes_on_anew before after journal journal holds (still_goes_on before after journal)
+  pub still_begins_anew : (before after : State) (journal : Journal D) → HoldsState device before journal
+      → BeginsAnew device before after journal journal
+  still_begins_anew before after journal holds =
+      goes_on_anew before after journal journal holds (still_goes_on before after journal)
 
   -- an image of the state that the journal holds, in place of what it holds
-  pub image_begins_anew : (state : State) (image was : List ℕ) (bodies : List (List ℕ)) (old new : Journal D) → Tells state (was, bodies) → IsImageOf image state → Run device (device.clock (first_disk old)) (device.clock (second_disk old)) (first_disk new) (second_disk new) (Either (Is (image, [])) (Is (was, bodies))) → BeginsAnew device state state old new
-  image_begins_anew state image was bodies old new tells depicts run =
-      run_more (device.clock (first_disk old)) (device.clock (second_disk old)) (first_disk new) (second_disk new) (Either (Is (image, [])) (Is (was, bodies))) (TellsOne (IsEither state state)) run
+  pub image_begins_anew : (state : State) (image was : List ℕ) (bodies : List (List ℕ)) (old new : Journal D)
+      → IsStateOf state (was, bodies) → IsImageOf image state
+      → Run device (device.clock (first_disk old)) (device.clock (second_disk old)) (first_disk new) (second_disk new)
+      (Either (Is (image, [])) (Is (was, bodies))) → BeginsAnew device state state old new
+  image_begins_anew state image was bodies old new is_state depicts run =
+      run_more (device.clock (first_disk old)) (device.clock (second_disk old)) (first_disk new) (second_disk new)
+      (Either (Is (image, [])) (Is (was, bodies))) (HaveState (IsEither state state)) run
       (λ contents one. elim one [
-        | inl is ↦ (state, inl refl, subst (Tells state) (sym is) (tells_alone state image depicts))
-        | inr is ↦ (state, inl refl, subst (Tells state) (sym is) tells)
+        | inl is ↦ (state, inl refl, subst (IsStateOf state) (sym is) (state_of_alone state image depicts))
+        | inr is ↦ (state, inl refl, subst (IsStateOf state) (sym is) is_state)
       ])
 
   -- a new generation of a state, and then calls that go on from there
-  pub anew_goes_on : (before after : State) (old between new : Journal D) → BeginsAnew device before before old between → GoesOn device before after between new → BeginsAnew device before after old new
+  pub anew_goes_on : (before after : State) (old between new : Journal D) → BeginsAnew device before before old between
+      → GoesOn device before after between new → BeginsAnew device before after old new
   anew_goes_on before after old between new anew goes =
       let a = device.clock (first_disk old) in
       let b = device.clock (second_disk old) in
-      goes a b (settle_on_more a b (first_disk between) (second_disk between) (IsEither before before) (IsOne before) anew (λ s either. elim either [ inl is ↦ is | inr is ↦ is ]))
+      goes a b (settle_on_more a b (first_disk between) (second_disk between) (IsEither before before) (IsOne before)
+      anew (λ s either. elim either [ inl is ↦ is | inr is ↦ is ]))
 
-  -- while a state was put into a journal anew, two states are one of them
-  pub anew_either : (before after : State) (old new : Journal D) → BeginsAnew device before before old new → BeginsAnew device before after old new
+  -- while a state was written into a journal anew, two states are one of them
+  pub anew_either : (before after : State) (old new : Journal D) → BeginsAnew device before before old new
+      → BeginsAnew device before after old new
   anew_either before after old new anew = anew_goes_on before after old new new anew (still_goes_on before after new)

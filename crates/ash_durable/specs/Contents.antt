@@ -1,16 +1,16 @@
 -- Which state an image and records are read as, and what is wrong with those that are read as none.
 use Rattle.std.specs.Prelude.{◌≡◌, ◌⊎◌, ℕ, ◌+◌, List, [], ◌∷◌, length, Result, Ok, Err, MatchResult}
 use Rattle.std.specs.List.{AllByRecursion}
-use Rattle.ash_image.specs.declared.image.Stored.{Stored}
+use Rattle.ash_image.specs.declared.image.StoredState.{StoredState}
 use Rattle.ash_image.specs.Image.{Snapshot, Depicts, IsBody, snapshot_read}
 use Rattle.ash_journal.specs.declared.record.Record.{Record}
 use Rattle.ash_journal.specs.Current.{Contents}
 use Rattle.ash_journal.specs.Reading.{bodies_of}
-use Rattle.ash_meaning.specs.Kept.{Admits}
+use Rattle.ash_meaning.specs.StoredModules.{Admits}
 use Rattle.ash_meaning.specs.State.{State}
 use Rattle.ash_registry.specs.Calls.{Call}
 use Rattle.ash_registry.specs.Text.{text_of}
-use Rattle.ash_durable.specs.States.{IsImageOf, LeadAll, Tells, snapshot_of}
+use Rattle.ash_durable.specs.States.{IsImageOf, LeadAll, IsStateOf, snapshot_of}
 use Rattle.ash_durable.specs.declared.fault.StoreFault.{StoreFault}
 use Rattle.ash_durable.specs.declared.fault.StoreFault.TheVariants as faults
 
@@ -27,37 +27,41 @@ abbrev pub AreShaped : List ℕ → Contents → Type 0
 AreShaped text contents = IsImageWith text contents.0 × AllByRecursion (IsBodyWith text) contents.1
 
 -- the image of a state that a host with this registered may keep
-abbrev pub IsKeptImage : List Call → List ℕ → Type 0
-IsKeptImage registered image = (state : State) × (state.registered ≡ registered) × IsImageOf image state
+abbrev pub IsAdmittedImage : List Call → List ℕ → Type 0
+IsAdmittedImage registered image = (state : State) × (state.registered ≡ registered) × IsImageOf image state
 
 -- the body of a record that leads to a state that a host with this registered may keep
-abbrev pub IsKeptBody : List Call → List ℕ → Type 0
-IsKeptBody registered body = (state : State) × (state.registered ≡ registered) × IsBody body (snapshot_of state) × Admits state
+abbrev pub IsAdmittedBody : List Call → List ℕ → Type 0
+IsAdmittedBody registered body = (state : State) × (state.registered ≡ registered) × IsBody body (snapshot_of state)
+    × Admits state
 
--- the first of the records, of which the gate before the first stands at an offset, whose body is not P: the gate
--- before it stands there
+-- the first of the records, of which the gate before the first is at an offset, whose body is not P: the gate
+-- before it is there
 abbrev pub FirstWithout : (List ℕ → Type 0) → ℕ → List (List ℕ) → ℕ → Type 0
 FirstWithout P offset [] at = ⊥
 FirstWithout P offset (body ∷ bodies) at =
     ((P body → ⊥) × (at ≡ offset)) ⊎ (P body × FirstWithout P (offset + 5 + length body) bodies at)
 
--- the offset of the gate behind an image: before it stand a gate, the magic, a number and the image's length
-abbrev pub behind_image : List ℕ → ℕ
-behind_image image = 21 + length image
+-- the offset of the gate after an image: before it are a gate, the magic, a number and the image's length
+abbrev pub after_image : List ℕ → ℕ
+after_image image = 21 + length image
 
--- The bytes at an offset have not the shape of an image, or of a record beside that image. The offset of a record is that
+-- The bytes at an offset have not the shape of an image, or of a record beside that image. The offset of a record is
+-- that
 -- of the gate before it, and the image's is 0.
 abbrev pub IsMisshapen : Contents → ℕ → Type 0
 IsMisshapen contents at =
     (((s : Snapshot) → Depicts contents.0 s → ⊥) × (at ≡ 0))
-    ⊎ ((text : List ℕ) × IsImageWith text contents.0 × FirstWithout (IsBodyWith text) (behind_image contents.0) contents.1 at)
+    ⊎ ((text : List ℕ) × IsImageWith text contents.0
+    × FirstWithout (IsBodyWith text) (after_image contents.0) contents.1 at)
 
 -- All have their shape, and a host with this registered may not keep the state at an offset.
 abbrev pub IsNotAdmitted : List Call → Contents → ℕ → Type 0
 IsNotAdmitted registered contents at =
     AreShaped (text_of registered) contents
-    × (((IsKeptImage registered contents.0 → ⊥) × (at ≡ 0))
-    ⊎ (IsKeptImage registered contents.0 × FirstWithout (IsKeptBody registered) (behind_image contents.0) contents.1 at))
+    × (((IsAdmittedImage registered contents.0 → ⊥) × (at ≡ 0))
+    ⊎ (IsAdmittedImage registered contents.0 × FirstWithout (IsAdmittedBody registered) (after_image contents.0)
+    contents.1 at))
 
 -- all have their shape, and the text of what was registered is another
 abbrev pub AreOfOthers : List Call → Contents → Type 0
@@ -66,7 +70,7 @@ AreOfOthers registered contents = (text : List ℕ) × AreShaped text contents �
 -- What contents are read as, with this registered: a state; or the first fault, all shapes before the text of what was
 -- registered, and this before sources and values.
 abbrev pub ReadsAs : List Call → Contents → Result State StoreFault → Type 0
-ReadsAs registered contents (Ok state) = (state.registered ≡ registered) × Tells state contents
+ReadsAs registered contents (Ok state) = (state.registered ≡ registered) × IsStateOf state contents
 ReadsAs registered contents (Err (faults.Damaged at)) = IsMisshapen contents at ⊎ IsNotAdmitted registered contents at
 ReadsAs registered contents (Err faults.OtherInterface) = AreOfOthers registered contents
 ReadsAs registered contents (Err faults.NoMemory) = Unit {0}
@@ -81,11 +85,12 @@ ReportsDamage P faults.NoMemory = Unit {0}
 ReportsDamage P _ = ⊥
 
 -- an image is read as what it depicts, or it depicts nothing
-abbrev pub ReadsImage : List ℕ → Result Stored StoreFault → Type 0
+abbrev pub ReadsImage : List ℕ → Result StoredState StoreFault → Type 0
 ReadsImage image result =
-    MatchResult result (λ stored. Depicts image (snapshot_read stored)) (ReportsDamage (λ at. ((s : Snapshot) → Depicts image s → ⊥) × (at ≡ 0)))
+    MatchResult result (λ stored. Depicts image (snapshot_read stored))
+    (ReportsDamage (λ at. ((s : Snapshot) → Depicts image s → ⊥) × (at ≡ 0)))
 
--- the first of the records whose body is not P: the gate before it stands at this offset
+-- the first of the records whose body is not P: the gate before it is at this offset
 abbrev pub FirstRecordWithout : (List ℕ → Type 0) → List Record → ℕ → Type 0
 FirstRecordWithout P [] at = ⊥
 FirstRecordWithout P (r ∷ records) at =
@@ -94,7 +99,8 @@ FirstRecordWithout P (r ∷ records) at =
 -- all records have this text of what was registered, or the first that has not is reported
 abbrev pub ChecksShapes : List ℕ → List Record → Result (Unit {0}) StoreFault → Type 0
 ChecksShapes text records result =
-    MatchResult result (λ u. AllByRecursion (IsBodyWith text) (bodies_of records)) (ReportsDamage (FirstRecordWithout (IsBodyWith text) records))
+    MatchResult result (λ u. AllByRecursion (IsBodyWith text) (bodies_of records))
+    (ReportsDamage (FirstRecordWithout (IsBodyWith text) records))
 
 -- the state that was stored, in a host with this registered
 abbrev pub stored_state : List Call → Snapshot → State
@@ -114,7 +120,7 @@ abbrev pub LeadsOn : List Call → List ℕ → ℕ → Result State StoreFault 
 LeadsOn registered body gate result =
     MatchResult result
     (λ state. (state.registered ≡ registered) × IsBody body (snapshot_of state) × Admits state)
-    (ReportsDamage (λ at. (IsKeptBody registered body → ⊥) × (at ≡ gate)))
+    (ReportsDamage (λ at. (IsAdmittedBody registered body → ⊥) × (at ≡ gate)))
 
 -- Records lead from a state to the given one; or the first of them is reported that leads to none which a host with the
 -- same registered may keep.
@@ -122,4 +128,4 @@ abbrev pub LeadsThrough : State → List Record → Result State StoreFault → 
 LeadsThrough before records result =
     MatchResult result
     (λ after. LeadAll (bodies_of records) before after)
-    (ReportsDamage (FirstRecordWithout (IsKeptBody before.registered) records))
+    (ReportsDamage (FirstRecordWithout (IsAdmittedBody before.registered) records))

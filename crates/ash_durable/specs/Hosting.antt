@@ -8,11 +8,12 @@ use Rattle.ash_journal.specs.Journal.{first_disk, second_disk, generation, recor
 use Rattle.ash_registry.specs.Calls.{Call as Registration}
 use Rattle.ash_meaning.specs.Refusals.{Refusal as Cause}
 use Rattle.ash_meaning.specs.Refusals as refusals
-use Rattle.ash_meaning.specs.Checking.{TakesToTell}
-use Rattle.ash_meaning.specs.State.{State, Request, Load, Call, Discard, Global, Seq, Snapshot, Reply, Answered, Number, Refused}
+use Rattle.ash_meaning.specs.Checking.{TakesMemoryToRefuse}
+use Rattle.ash_meaning.specs.State.{State, Request, Load, Call, Discard, Global, Seq, Snapshot, Reply, Answered, Number}
+use Rattle.ash_meaning.specs.State.{Refused}
 use Rattle.ash_meaning.specs.Step.{Demand, Initialize, Run, Remove, RanOut, task_of, first_refusal, step}
 use Rattle.ash_durable.specs.States.{AreHonest, HoldsState, BeginsAnew, snapshot_of}
-use Rattle.ash_durable.specs.Keeping.{last_generation}
+use Rattle.ash_durable.specs.Saving.{last_generation}
 
 -- A host: what is registered; its state, or none where it must be reopened; the number after the last request that was
 -- answered; the journal that keeps its states on two disks.
@@ -30,7 +31,7 @@ first host = first_disk host.journal
 abbrev pub second : {D : Type 0} → Hosted D → D
 second host = second_disk host.journal
 
--- the state of a host: none where it must be reopened, of which the number after the last answer is kept
+-- the state of a host: none where it must be reopened, of which the number after the last answer is known
 abbrev pub state_unless : Option ℕ → State → Option State
 state_unless None state = Some state
 state_unless (Some seq) state = None
@@ -52,31 +53,33 @@ IsHonest device host = AreHonest device (first host) (second host)
 
 -- Where a host runs on honest disks, its files hold its state, and settle on it alone, whatever a crash now does.
 abbrev pub IsSaved : {D : Type 0} → Device D → Hosted D → Type 0
-IsSaved device host = IsHonest device host → (state : State) → IsRunning state host → HoldsState device state host.journal
+IsSaved device host = IsHonest device host → (state : State) → IsRunning state host
+    → HoldsState device state host.journal
 
--- While a request was carried out, at every moment since it began, what a crash may leave settled on one of two states,
+-- While a request was handled, at every moment since it began, what a crash may leave settled on one of two states,
 -- where the files held the first of them before.
 abbrev pub Settles : {D : Type 0} → Device D → State → State → Hosted D → Hosted D → Type 0
-Settles device before after old new = IsHonest device old → IsSaved device old → BeginsAnew device before after old.journal new.journal
+Settles device before after old new = IsHonest device old → IsSaved device old
+    → BeginsAnew device before after old.journal new.journal
 
 -- ---- room
 
--- the most bytes of records behind which one more is added
-abbrev pub full_size : ℕ
-full_size = 2 ^ 24
+-- the most bytes of records after which one more is added
+abbrev pub full_record_bytes : ℕ
+full_record_bytes = 2 ^ 24
 
 -- the records of the current generation have 16,777,216 bytes or more
 abbrev pub IsFull : {D : Type 0} → Hosted D → Type 0
-IsFull host = full_size ≤ record_bytes host.journal
+IsFull host = full_record_bytes ≤ record_bytes host.journal
 
 -- A request before which the state is installed as a new generation: each snapshot, and where the records are long
 -- enough each request that may add one more.
 abbrev pub WantsInstall : {D : Type 0} → Request → Hosted D → Type 0
 WantsInstall Snapshot host = Unit {0}
 WantsInstall (Load name source) host = IsFull host
-WantsInstall (Call script function arguments) host = IsFull host
+WantsInstall (Call module_name function arguments) host = IsFull host
 WantsInstall (Discard name) host = IsFull host
-WantsInstall (Global script name) host = ⊥
+WantsInstall (Global module_name name) host = ⊥
 WantsInstall Seq host = ⊥
 
 -- The state of a host became a new generation without records, and nothing else of the host has changed.
@@ -89,7 +92,8 @@ pub record WasInstalled {D : Type 0} (device : Device D) (state : State) (old ne
 -- the host that a request is served by: where one is wanted, a new generation is installed first
 abbrev pub HasRoom : {D : Type 0} → Device D → Request → State → Hosted D → Hosted D → Type 0
 HasRoom device request state old between =
-    ((WantsInstall request old → ⊥) × (between ≡ old)) ⊎ (WantsInstall request old × WasInstalled device state old between)
+    ((WantsInstall request old → ⊥) × (between ≡ old))
+    ⊎ (WantsInstall request old × WasInstalled device state old between)
 
 -- A host must be reopened from now on. Its number is that of the last request that was answered.
 pub record HasStopped {D : Type 0} (old new : Hosted D) : Type 0 where
@@ -101,7 +105,8 @@ pub record HasStopped {D : Type 0} (old new : Hosted D) : Type 0 where
 abbrev pub InstallRefused : {D : Type 0} → Hosted D → Reply → Hosted D → Type 0
 InstallRefused old (Refused refusals.GenerationSpent) new = (generation old.journal ≡ last_generation) × (new ≡ old)
 InstallRefused old (Refused refusals.NoMemory) new = (generation old.journal ≡ last_generation → ⊥) × (new ≡ old)
-InstallRefused old (Refused refusals.DeviceFailed) new = (generation old.journal ≡ last_generation → ⊥) × HasStopped old new
+InstallRefused old (Refused refusals.DeviceFailed) new = (generation old.journal ≡ last_generation → ⊥)
+    × HasStopped old new
 InstallRefused old _ new = ⊥
 
 -- ---- what came of a request
@@ -125,7 +130,7 @@ WasLost old _ new = ⊥
 -- The request is not refused, and its task is one that is answered: the answer is to be kept on the disks.
 abbrev pub Commits : Demand → Type 0
 Commits (Ok (Initialize name source tree)) = Unit {0}
-Commits (Ok (Run script function words)) = Unit {0}
+Commits (Ok (Run loaded function words)) = Unit {0}
 Commits (Ok (Remove name)) = Unit {0}
 Commits _ = ⊥
 
@@ -135,18 +140,20 @@ pub record HasOneMore {D : Type 0} (state : State) (old new : Journal D) : Type 
   pub longer : record_bytes new ≡ record_bytes old + 5 + length (body_of (snapshot_of state))
 
 -- The step of a request was taken, and an answer is in one record more. What is not an answer touches no disk.
-pub record WasTaken {D : Type 0} (device : Device D) (budget : ℕ) (request : Request) (state : State) (old : Hosted D) (reply : Reply) (new : Hosted D) : Type 0 where
+pub record TookStep {D : Type 0} (device : Device D) (budget : ℕ) (request : Request) (state : State) (old : Hosted D)
+    (reply : Reply) (new : Hosted D) : Type 0 where
   pub between : Hosted D
   pub room : HasRoom device request state old between
   pub after : State
-  pub taken : step budget request state ≡ (reply, after)
+  pub stepped : step budget request state ≡ (reply, after)
   pub running : IsRunning after new
   pub added : IsAnswer reply → HasOneMore after between.journal new.journal
   pub untouched : (IsAnswer reply → ⊥) → new ≡ between
   pub settles : Settles device state after old new
 
 -- Memory was refused where the request takes it, and the host is as it was once it had room.
-pub record WasOutOfMemory {D : Type 0} (device : Device D) (request : Request) (state : State) (old : Hosted D) (reply : Reply) (new : Hosted D) : Type 0 where
+pub record WasOutOfMemory {D : Type 0} (device : Device D) (request : Request) (state : State) (old : Hosted D)
+    (reply : Reply) (new : Hosted D) : Type 0 where
   pub room : HasRoom device request state old new
   pub ran_out : RanOut request state reply state
   pub running : IsRunning state new
@@ -154,19 +161,21 @@ pub record WasOutOfMemory {D : Type 0} (device : Device D) (request : Request) (
 
 -- A request that is not refused had an answer, and it could not be kept: the files settle on the state before it or
 -- after it until the host is reopened.
-pub record WasNotKept {D : Type 0} (device : Device D) (budget : ℕ) (request : Request) (state : State) (old : Hosted D) (reply : Reply) (new : Hosted D) : Type 0 where
+pub record WasNotCommitted {D : Type 0} (device : Device D) (budget : ℕ) (request : Request) (state : State)
+    (old : Hosted D) (reply : Reply) (new : Hosted D) : Type 0 where
   pub between : Hosted D
   pub room : HasRoom device request state old between
   pub commits : Commits (task_of request state)
   pub answer : Reply
   pub after : State
-  pub taken : step budget request state ≡ (answer, after)
+  pub stepped : step budget request state ≡ (answer, after)
   pub lost : WasLost between.journal reply new.journal
   pub stopped : HasStopped old new
   pub settles : Settles device state after old new
 
 -- A new generation was wanted before the request, and was not installed: the request was not served.
-pub record HadNoRoom {D : Type 0} (device : Device D) (request : Request) (state : State) (old : Hosted D) (reply : Reply) (new : Hosted D) : Type 0 where
+pub record HadNoRoom {D : Type 0} (device : Device D) (request : Request) (state : State) (old : Hosted D)
+    (reply : Reply) (new : Hosted D) : Type 0 where
   pub wanted : WantsInstall request old
   pub refused : InstallRefused old reply new
   pub settles : Settles device state state old new
@@ -179,35 +188,39 @@ reply_stopped _ seq = Refused refusals.Reopen
 -- What a request is replied, and what it leaves.
 abbrev pub Replies : {D : Type 0} → Device D → ℕ → Request → Option State → Hosted D → Reply → Hosted D → Type 0
 Replies device budget request (Some state) old reply new =
-    WasTaken device budget request state old reply new
+    TookStep device budget request state old reply new
     ⊎ (WasOutOfMemory device request state old reply new
-    ⊎ (WasNotKept device budget request state old reply new
+    ⊎ (WasNotCommitted device budget request state old reply new
     ⊎ HadNoRoom device request state old reply new))
 Replies device budget request None old reply new = (reply ≡ reply_stopped request old.seq) × (new ≡ old)
 
--- One request of a host. Where it is answered, the new state is in the journal before the reply is given, and whatever a
+-- One request of a host. Where it is answered, the new state is in the journal before the reply is given, and whatever
+-- a
 -- crash does afterwards leaves it there.
-pub record Carries {D : Type 0} (device : Device D) (budget : ℕ) (request : Request) (old : Hosted D) (reply : Reply) (new : Hosted D) : Type 0 where
+pub record Handles {D : Type 0} (device : Device D) (budget : ℕ) (request : Request) (old : Hosted D) (reply : Reply)
+    (new : Hosted D) : Type 0 where
   pub replies : Replies device budget request old.state old reply new
   pub saved : IsSaved device old → IsSaved device new
-  pub failures : CountsFailures (IsDeviceFailed reply) (device.failures (first old)) (device.failures (second old)) (device.failures (first new)) (device.failures (second new))
+  pub failures : CountsFailures (IsDeviceFailed reply) (device.failures (first old)) (device.failures (second old))
+      (device.failures (first new)) (device.failures (second new))
   pub honesty_first : device.honest (first new) ≡ device.honest (first old)
   pub honesty_second : device.honest (second new) ≡ device.honest (second old)
   pub registered : new.registered ≡ old.registered
 
--- Requests in order: each is carried out by the host that the one before it left.
-abbrev pub CarriesAll : {D : Type 0} → Device D → ℕ → Hosted D → List Request → List Reply → Hosted D → Type 0
-CarriesAll device budget old [] [] new = new ≡ old
-CarriesAll {D} device budget old (request ∷ requests) (reply ∷ replies) new =
-    (next : Hosted D) × Carries device budget request old reply next × CarriesAll device budget next requests replies new
-CarriesAll device budget old _ _ new = ⊥
+-- Requests in order: each is handled by the host that the one before it left.
+abbrev pub HandlesAll : {D : Type 0} → Device D → ℕ → Hosted D → List Request → List Reply → Hosted D → Type 0
+HandlesAll device budget old [] [] new = new ≡ old
+HandlesAll {D} device budget old (request ∷ requests) (reply ∷ replies) new =
+    (next : Hosted D) × Handles device budget request old reply next
+    × HandlesAll device budget next requests replies new
+HandlesAll device budget old _ _ new = ⊥
 
 -- ---- refusals
 
 -- A request is refused for this cause, or because memory was refused where its source was read, and nothing of the host
 -- changes.
 pub record Refuses {D : Type 0} (cause : Cause) (old : Hosted D) (reply : Reply) (new : Hosted D) : Type 0 where
-  pub reply_is : (reply ≡ Refused cause) ⊎ ((reply ≡ Refused refusals.NoMemory) × TakesToTell cause)
+  pub reply_is : (reply ≡ Refused cause) ⊎ ((reply ≡ Refused refusals.NoMemory) × TakesMemoryToRefuse cause)
   pub unchanged : new ≡ old
 
 -- A host that runs, and installs nothing before it, refuses each request for which there is a cause, and for the first

@@ -1,9 +1,9 @@
 pub mod Contents
 pub mod Faults
 pub mod Hosting
-pub mod Keeping
 pub mod Lives
 pub mod Requests
 pub mod Running
+pub mod Saving
 pub mod States
 pub mod Store

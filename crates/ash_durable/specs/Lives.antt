@@ -9,7 +9,7 @@ use Rattle.ash_subset.specs.Meaning.{End}
 use Rattle.ash_meaning.specs.State.{State, Request, Reply, Answered, empty}
 use Rattle.ash_meaning.specs.Step.{Steps}
 use Rattle.ash_registry.specs.Calls.{Call as Registration}
-use Rattle.ash_durable.specs.Hosting.{Hosted, first, second, IsRunning, IsSaved, IsAnswer, Carries}
+use Rattle.ash_durable.specs.Hosting.{Hosted, first, second, IsRunning, IsSaved, IsAnswer, Handles}
 use Rattle.ash_durable.specs.Running.{IsFailure}
 use Rattle.ash_durable.specs.States.{AreHonest, SettleNow, IsOne, IsEither}
 use Rattle.ash_durable.specs.Store.{WereOnlyRead, WasCreated, WasNotMade, WasOpened, WasNotFound, Creates, Opens}
@@ -17,7 +17,8 @@ use Rattle.ash_durable.specs.declared.fault.OpenRefused.{OpenRefused}
 
 -- ---- events
 
--- What is known of a store by those who use it: a request was answered; a request is in doubt, carried out or not; a host
+-- What is known of a store by those who use it: a request was answered; a request is in doubt, handled or not; a
+-- host
 -- was opened, in this state.
 pub data Event : Type 0 where
   Acknowledged : (budget : ℕ) → (request : Request) → (end : End) → (seq : ℕ) → Event
@@ -28,7 +29,8 @@ pub data Event : Type 0 where
 -- doubt has taken it, or nothing has changed; where a host was opened the state is the one that it had.
 abbrev pub Takes : Event → State → State → Type 0
 Takes (Acknowledged budget request end seq) before after = Steps budget request before (Answered end seq) after
-Takes (InDoubt budget request) before after = (after ≡ before) ⊎ ((reply : Reply) × Steps budget request before reply after)
+Takes (InDoubt budget request) before after = (after ≡ before)
+    ⊎ ((reply : Reply) × Steps budget request before reply after)
 Takes (Found state) before after = (before ≡ state) × (after ≡ state)
 
 -- events, the newest first, lead from a state to another
@@ -42,7 +44,7 @@ pub record LeadBy (later : List Event) (event : Event) (earlier : List Event) (s
   pub before : State
   pub after : State
   pub led : LeadTo earlier start before
-  pub taken : Takes event before after
+  pub stepped : Takes event before after
   pub leads_on : LeadTo later after state
 
 -- the newest event is not in doubt, or there is none
@@ -52,13 +54,17 @@ IsCertain _ = Unit {0}
 
 -- ---- crashes
 
--- Two honest disks take the place of two others after a crash: each image that they may leave now is one that the others
--- might have left at a moment since two earlier times. After a power failure they may leave one image alone; after the end
+-- Two honest disks take the place of two others after a crash: each image that they may leave now is one that the
+-- others
+-- might have left at a moment since two earlier times. After a power failure they may leave one image alone; after the
+-- end
 -- of the process, any that might be left at that moment.
 pub record Crashed {D : Type 0} (device : Device D) (a b : ℕ) (one other one' other' : D) : Type 0 where
   pub honest : AreHonest device one' other'
-  pub left_first : (image : List ℕ) → device.leaves one' (device.clock one') image → LeftSince (device.clock one) (device.leaves one) a image
-  pub left_second : (image : List ℕ) → device.leaves other' (device.clock other') image → LeftSince (device.clock other) (device.leaves other) b image
+  pub left_first : (image : List ℕ) → device.leaves one' (device.clock one') image
+      → LeftSince (device.clock one) (device.leaves one) a image
+  pub left_second : (image : List ℕ) → device.leaves other' (device.clock other') image
+      → LeftSince (device.clock other) (device.leaves other) b image
 
 -- two images that a power failure may have left of two disks, at two moments since two earlier times
 pub record AreLeft {D : Type 0} (device : Device D) (a b : ℕ) (one other : D) (x y : List ℕ) : Type 0 where
@@ -80,7 +86,8 @@ pub record AreFresh {D : Type 0} (device : Device D) (one other : D) : Type 0 wh
 -- whatever a crash now leaves of two disks, a file is open
 abbrev pub IsOneOpen : {D : Type 0} → Device D → D → D → Type 0
 IsOneOpen device one other =
-    (x y : List ℕ) → device.leaves one (device.clock one) x → device.leaves other (device.clock other) y → IsOpen x ⊎ IsOpen y
+    (x y : List ℕ) → device.leaves one (device.clock one) x → device.leaves other (device.clock other) y → IsOpen x
+    ⊎ IsOpen y
 
 -- the disks that are left of creating a host, or opening one, be it refused
 abbrev pub first_of : {D : Type 0} → Result (Hosted D) (OpenRefused D) → D
@@ -95,61 +102,99 @@ second_of (Err refused) = refused.b
 
 -- where a store is: under a host, or on two disks that no host has
 pub data Place (D : Type 0) : Type 0 where
-  Under : (host : Hosted D) → Place D
-  On : (one other : D) → Place D
+  UnderHost : (host : Hosted D) → Place D
+  OnDisks : (one other : D) → Place D
 
 -- the disks on which a store is
 abbrev pub first_at : {D : Type 0} → Place D → D
-first_at (Under host) = first host
-first_at (On one other) = one
+first_at (UnderHost host) = first host
+first_at (OnDisks one other) = one
 
 abbrev pub second_at : {D : Type 0} → Place D → D
-second_at (Under host) = second host
-second_at (On one other) = other
+second_at (UnderHost host) = second host
+second_at (OnDisks one other) = other
 
--- A life of a store that has this registered, with its events, the newest first. Each way to go on is what the contract of
+-- A life of a store that has this registered, with its events, the newest first. Each way to go on is what the contract
+-- of
 -- a public call says, or a crash at any moment of one. It begins where a host is created, or where a crash on the way
 -- there leaves the store; a crash that leaves no file open leaves no store.
 pub data Life {D : Type 0} (device : Device D) (registered : List Registration) : List Event → Place D → Type 0 where
   -- a host is created
-  Created : (a b : D) (host : Hosted D) → AreHonest device a b → WasCreated device registered a b host → Life device registered [] (Under host)
+  Created : (a b : D) (host : Hosted D) → AreHonest device a b → WasCreated device registered a b host
+      → Life device registered [] (UnderHost host)
   -- a crash while it is, or after that was refused, leaves a file open
-  CrashedCreating : (a b : D) (result : Result (Hosted D) (OpenRefused D)) (a' b' : D) → AreFresh device a b → Creates device registered a b result → Crashed device (device.clock a) (device.clock b) (first_of result) (second_of result) a' b' → IsOneOpen device a' b' → Life device registered [] (On a' b')
+  CrashedCreating : (a b : D) (result : Result (Hosted D) (OpenRefused D)) (a' b' : D) → AreFresh device a b
+      → Creates device registered a b result → Crashed device (device.clock a) (device.clock b) (first_of result)
+      (second_of result) a' b' → IsOneOpen device a' b' → Life device registered [] (OnDisks a' b')
   -- after such a crash, or a refusal, a host is opened at once
-  OpenedCreating : (a b : D) (result : Result (Hosted D) (OpenRefused D)) (a' b' : D) (host : Hosted D) → AreFresh device a b → Creates device registered a b result → Crashed device (device.clock a) (device.clock b) (first_of result) (second_of result) a' b' → (opened : WasOpened device registered a' b' host) → Life device registered (Found opened.state ∷ []) (Under host)
+  OpenedCreating : (a b : D) (result : Result (Hosted D) (OpenRefused D)) (a' b' : D) (host : Hosted D)
+      → AreFresh device a b → Creates device registered a b result
+      → Crashed device (device.clock a) (device.clock b) (first_of result) (second_of result) a' b'
+      → (opened : WasOpened device registered a' b' host)
+      → Life device registered (Found opened.state ∷ []) (UnderHost host)
   -- a request is answered
-  Replied : (events : List Event) (budget : ℕ) (request : Request) (old : Hosted D) (end : End) (seq : ℕ) (new : Hosted D) → Life device registered events (Under old) → Carries device budget request old (Answered end seq) new → Life device registered (Acknowledged budget request end seq ∷ events) (Under new)
+  Replied : (events : List Event) (budget : ℕ) (request : Request) (old : Hosted D) (end : End) (seq : ℕ)
+      (new : Hosted D) → Life device registered events (UnderHost old)
+      → Handles device budget request old (Answered end seq) new
+      → Life device registered (Acknowledged budget request end seq ∷ events) (UnderHost new)
   -- a request has another reply, and the host runs on, or has to be reopened as before
-  Kept : (events : List Event) (budget : ℕ) (request : Request) (old : Hosted D) (reply : Reply) (new : Hosted D) → Life device registered events (Under old) → Carries device budget request old reply new → (IsAnswer reply → ⊥) → (new.state ≡ None → old.state ≡ None) → Life device registered events (Under new)
+  Unanswered : (events : List Event) (budget : ℕ) (request : Request) (old : Hosted D) (reply : Reply) (new : Hosted D)
+      → Life device registered events (UnderHost old) → Handles device budget request old reply new
+      → (IsAnswer reply → ⊥) → (new.state ≡ None → old.state ≡ None) → Life device registered events (UnderHost new)
   -- a request has another reply, and the host has to be reopened from now on
-  Failed : (events : List Event) (budget : ℕ) (request : Request) (old : Hosted D) (reply : Reply) (new : Hosted D) → Life device registered events (Under old) → Carries device budget request old reply new → (IsAnswer reply → ⊥) → (old.state ≡ None → ⊥) → new.state ≡ None → Life device registered (InDoubt budget request ∷ events) (Under new)
-  -- a crash while a request is carried out, at any moment from its beginning to its reply
-  CrashedCarrying : (events : List Event) (budget : ℕ) (request : Request) (old : Hosted D) (reply : Reply) (new : Hosted D) (a b : D) → Life device registered events (Under old) → Carries device budget request old reply new → Crashed device (device.clock (first old)) (device.clock (second old)) (first new) (second new) a b → Life device registered (InDoubt budget request ∷ events) (On a b)
+  Failed : (events : List Event) (budget : ℕ) (request : Request) (old : Hosted D) (reply : Reply) (new : Hosted D)
+      → Life device registered events (UnderHost old) → Handles device budget request old reply new
+      → (IsAnswer reply → ⊥) → (old.state ≡ None → ⊥) → new.state ≡ None
+      → Life device registered (InDoubt budget request ∷ events) (UnderHost new)
+  -- a crash while a request is handled, at any moment from its beginning to its reply
+  CrashedHandling : (events : List Event) (budget : ℕ) (request : Request) (old : Hosted D) (reply : Reply)
+      (new : Hosted D) (a b : D) → Life device registered events (UnderHost old)
+      → Handles device budget request old reply new
+      → Crashed device (device.clock (first old)) (device.clock (second old)) (first new) (second new) a b
+      → Life device registered (InDoubt budget request ∷ events) (OnDisks a b)
   -- a host is closed
-  Closed : (events : List Event) (host : Hosted D) → Life device registered events (Under host) → Life device registered events (On (first host) (second host))
+  Closed : (events : List Event) (host : Hosted D) → Life device registered events (UnderHost host)
+      → Life device registered events (OnDisks (first host) (second host))
   -- a crash between two calls
-  CrashedBetween : (events : List Event) (place : Place D) (a b : D) → Life device registered events place → Crashed device (device.clock (first_at place)) (device.clock (second_at place)) (first_at place) (second_at place) a b → Life device registered events (On a b)
+  CrashedBetween : (events : List Event) (place : Place D) (a b : D) → Life device registered events place
+      → Crashed device (device.clock (first_at place)) (device.clock (second_at place)) (first_at place)
+      (second_at place) a b → Life device registered events (OnDisks a b)
   -- a host is opened
-  Opened : (events : List Event) (a b : D) (host : Hosted D) → Life device registered events (On a b) → (opened : WasOpened device registered a b host) → Life device registered (Found opened.state ∷ events) (Under host)
+  Opened : (events : List Event) (a b : D) (host : Hosted D) → Life device registered events (OnDisks a b)
+      → (opened : WasOpened device registered a b host)
+      → Life device registered (Found opened.state ∷ events) (UnderHost host)
   -- that is refused, whatever is registered with the host
-  Refused : (events : List Event) (others : List Registration) (a b : D) (refused : OpenRefused D) → Life device registered events (On a b) → WasNotFound device others a b refused → Life device registered events (On refused.a refused.b)
+  Refused : (events : List Event) (others : List Registration) (a b : D) (refused : OpenRefused D)
+      → Life device registered events (OnDisks a b) → WasNotFound device others a b refused
+      → Life device registered events (OnDisks refused.a refused.b)
   -- a crash while a host is opened, be it refused
-  CrashedOpening : (events : List Event) (others : List Registration) (a b : D) (result : Result (Hosted D) (OpenRefused D)) (a' b' : D) → Life device registered events (On a b) → Opens device others a b result → Crashed device (device.clock a) (device.clock b) (first_of result) (second_of result) a' b' → Life device registered events (On a' b')
+  CrashedOpening : (events : List Event) (others : List Registration) (a b : D)
+      (result : Result (Hosted D) (OpenRefused D)) (a' b' : D) → Life device registered events (OnDisks a b)
+      → Opens device others a b result → Crashed device (device.clock a) (device.clock b) (first_of result)
+      (second_of result) a' b' → Life device registered events (OnDisks a' b')
   -- a host is to be created where the store is, and is refused
-  NotCreated : (events : List Event) (others : List Registration) (a b : D) (refused : OpenRefused D) → Life device registered events (On a b) → WasNotMade device (empty others) a b refused → Life device registered events (On refused.a refused.b)
+  NotCreated : (events : List Event) (others : List Registration) (a b : D) (refused : OpenRefused D)
+      → Life device registered events (OnDisks a b) → WasNotMade device (empty others) a b refused
+      → Life device registered events (OnDisks refused.a refused.b)
   -- a crash while a host is to be created there
-  CrashedNotCreating : (events : List Event) (others : List Registration) (a b : D) (result : Result (Hosted D) (OpenRefused D)) (a' b' : D) → Life device registered events (On a b) → Creates device others a b result → Crashed device (device.clock a) (device.clock b) (first_of result) (second_of result) a' b' → Life device registered events (On a' b')
+  CrashedNotCreating : (events : List Event) (others : List Registration) (a b : D)
+      (result : Result (Hosted D) (OpenRefused D)) (a' b' : D) → Life device registered events (OnDisks a b)
+      → Creates device others a b result → Crashed device (device.clock a) (device.clock b) (first_of result)
+      (second_of result) a' b' → Life device registered events (OnDisks a' b')
   -- the disks are read or synced by somebody else
-  Looked : (events : List Event) (a b a' b' : D) → Life device registered events (On a b) → WereOnlyRead device a b a' b' → Life device registered events (On a' b')
+  WasRead : (events : List Event) (a b a' b' : D) → Life device registered events (OnDisks a b)
+      → WereOnlyRead device a b a' b' → Life device registered events (OnDisks a' b')
   -- the disks are handed over the other way round
-  Turned : (events : List Event) (a b : D) → Life device registered events (On a b) → Life device registered events (On b a)
+  Swapped : (events : List Event) (a b : D) → Life device registered events (OnDisks a b)
+      → Life device registered events (OnDisks b a)
 
 -- ---- what is left
 
 -- Whatever a crash now does, the files settle on one of two states to which the events lead from the one before any
 -- request, and on one alone where the newest event is not in doubt. So each acknowledged request is in every image, in
 -- its order, and each other once at the most, at its place.
-pub record IsWhole {D : Type 0} (device : Device D) (registered : List Registration) (events : List Event) (a b : D) : Type 0 where
+pub record IsWhole {D : Type 0} (device : Device D) (registered : List Registration) (events : List Event)
+    (a b : D) : Type 0 where
   pub s : State
   pub t : State
   pub s_led : LeadTo events (empty registered) s
@@ -159,7 +204,8 @@ pub record IsWhole {D : Type 0} (device : Device D) (registered : List Registrat
 
 -- A host has what the store was created with. Where it runs, it is in a state to which the events lead; its files hold
 -- that state, and settle on it alone, whatever a crash now does.
-pub record RunsOn {D : Type 0} (device : Device D) (registered : List Registration) (events : List Event) (host : Hosted D) : Type 0 where
+pub record RunsOn {D : Type 0} (device : Device D) (registered : List Registration) (events : List Event)
+    (host : Hosted D) : Type 0 where
   pub registered_is : host.registered ≡ registered
   pub running : (state : State) → host.state ≡ Some state → IsRunning state host
   pub led : (state : State) → IsRunning state host → LeadTo events (empty registered) state
@@ -168,16 +214,17 @@ pub record RunsOn {D : Type 0} (device : Device D) (registered : List Registrati
 
 -- where the store is under a host, that host runs on
 abbrev pub RunsAt : {D : Type 0} → Device D → List Registration → List Event → Place D → Type 0
-RunsAt device registered events (Under host) = RunsOn device registered events host
-RunsAt device registered events (On one other) = Unit {0}
+RunsAt device registered events (UnderHost host) = RunsOn device registered events host
+RunsAt device registered events (OnDisks one other) = Unit {0}
 
 -- What holds in each life.
-pub record Outlives {D : Type 0} (device : Device D) (registered : List Registration) (events : List Event) (place : Place D) : Type 0 where
+pub record Outlives {D : Type 0} (device : Device D) (registered : List Registration) (events : List Event)
+    (place : Place D) : Type 0 where
   pub honest : AreHonest device (first_at place) (second_at place)
   pub whole : IsWhole device registered events (first_at place) (second_at place)
   pub runs : RunsAt device registered events place
 
--- ---- what carrying out requests makes of a life
+-- ---- what handling requests makes of a life
 
 -- The events of a request by its reply: an answer is acknowledged; a request whose answer was lost, or before which a
 -- device failed, is in doubt; another reply is no event.
@@ -189,7 +236,8 @@ Records budget request reply events = (events ≡ []) ⊎ (IsFailure reply × (e
 abbrev pub RecordAll : ℕ → List Request → List Reply → List Event → Type 0
 RecordAll budget [] [] events = events ≡ []
 RecordAll budget (request ∷ requests) (reply ∷ replies) events =
-    (later : List Event) × (one : List Event) × Records budget request reply one × RecordAll budget requests replies later
+    (later : List Event) × (one : List Event) × Records budget request reply one
+    × RecordAll budget requests replies later
     × (events ≡ later ++ one)
 RecordAll budget _ _ events = ⊥
 
@@ -197,5 +245,6 @@ RecordAll budget _ _ events = ⊥
 -- were given, in order.
 abbrev pub LivesOn : {D : Type 0} → Device D → ℕ → Hosted D → List Request → List Reply → Hosted D → Type 0
 LivesOn device budget old requests replies new =
-    (registered : List Registration) (events : List Event) → Life device registered events (Under old)
-    → (later : List Event) × Life device registered (later ++ events) (Under new) × RecordAll budget requests replies later
+    (registered : List Registration) (events : List Event) → Life device registered events (UnderHost old)
+    → (later : List Event) × Life device registered (later ++ events) (UnderHost new)
+    × RecordAll budget requests replies later

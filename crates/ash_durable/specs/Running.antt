@@ -7,7 +7,7 @@ use Rattle.ash_durable.specs.Hosting.{Hosted, IsRunning, Commits, reply_stopped}
 
 -- a request before which a new generation may be installed
 abbrev pub MayInstall : Request → Type 0
-MayInstall (Global script name) = ⊥
+MayInstall (Global module_name name) = ⊥
 MayInstall Seq = ⊥
 MayInstall _ = Unit {0}
 
@@ -22,7 +22,7 @@ pub record WasPutOff (request : Request) (old : State) (reply : Reply) (new : St
 abbrev pub HostSteps : ℕ → Request → State → Reply → State → Type 0
 HostSteps budget request old reply new = Steps budget request old reply new ⊎ WasPutOff request old reply new
 
--- each request is carried out from the state that the one before it left
+-- each request is handled from the state that the one before it left
 abbrev pub HostRuns : ℕ → State → List Request → List Reply → State → Type 0
 HostRuns budget old [] [] new = new ≡ old
 HostRuns budget old (request ∷ requests) (reply ∷ replies) new =
@@ -40,7 +40,8 @@ IsFailure (Refused refusals.NoMemory) = Unit {0}
 IsFailure _ = ⊥
 
 -- The requests are a run of the definition, and the host runs in the state that this run leads to.
-pub record RunsThrough {D : Type 0} (budget : ℕ) (state : State) (requests : List Request) (replies : List Reply) (new : Hosted D) : Type 0 where
+pub record RunsThrough {D : Type 0} (budget : ℕ) (state : State) (requests : List Request) (replies : List Reply)
+    (new : Hosted D) : Type 0 where
   pub last : State
   pub run : HostRuns budget state requests replies last
   pub running : IsRunning last new
@@ -48,7 +49,8 @@ pub record RunsThrough {D : Type 0} (budget : ℕ) (state : State) (requests : L
 -- The requests before one are a run of the definition. That one is not refused in the state that the run leads to, and
 -- its answer was lost; or a device failed while a new generation was installed before it. From then on the host must be
 -- reopened: its number is that of the run's last state, and each later reply is that of such a host.
-pub record RunsUntilFailure {D : Type 0} (budget : ℕ) (state : State) (requests : List Request) (replies : List Reply) (new : Hosted D) : Type 0 where
+pub record RunsUntilFailure {D : Type 0} (budget : ℕ) (state : State) (requests : List Request) (replies : List Reply)
+    (new : Hosted D) : Type 0 where
   pub before : List Request
   pub failed : Request
   pub later : List Request
@@ -65,6 +67,8 @@ pub record RunsUntilFailure {D : Type 0} (budget : ℕ) (state : State) (request
 
 -- A host handled these requests. Where it was running, they are a run of the definition up to the first failure, if
 -- there is one. Where it had to be reopened, it still has to be, and nothing changed.
-pub record RunsToFailure {D : Type 0} (budget : ℕ) (old : Hosted D) (requests : List Request) (replies : List Reply) (new : Hosted D) : Type 0 where
-  pub running : (state : State) → IsRunning state old → RunsThrough budget state requests replies new ⊎ RunsUntilFailure budget state requests replies new
+pub record RunsToFailure {D : Type 0} (budget : ℕ) (old : Hosted D) (requests : List Request) (replies : List Reply)
+    (new : Hosted D) : Type 0 where
+  pub running : (state : State) → IsRunning state old → RunsThrough budget state requests replies new
+      ⊎ RunsUntilFailure budget state requests replies new
   pub stopped : old.state ≡ None → (replies ≡ replies_until_reopened requests old.seq) × (new ≡ old)

@@ -7,7 +7,7 @@ use Rattle.ash_journal.specs.declared.journal.Journal.{Journal}
 use Rattle.ash_journal.specs.Current.{Contents}
 use Rattle.ash_journal.specs.Journal.{first_disk, second_disk, Holds}
 use Rattle.ash_journal.specs.Runs.{Run}
-use Rattle.ash_meaning.specs.Kept.{Admits}
+use Rattle.ash_meaning.specs.StoredModules.{Admits}
 use Rattle.ash_meaning.specs.State.{State}
 use Rattle.ash_registry.specs.Text.{text_of}
 
@@ -20,7 +20,8 @@ pub record IsImageOf (image : List ℕ) (state : State) : Type 0 where
   pub depicts : Depicts image (snapshot_of state)
   pub admitted : Admits state
 
--- A record leads from a state to the next: its body is that of the next, which a host with the same registered may keep.
+-- A record leads from a state to the next: its body is that of the next, which a host with the same registered may
+-- keep.
 pub record Leads (body : List ℕ) (before after : State) : Type 0 where
   pub registered : after.registered ≡ before.registered
   pub is_body : IsBody body (snapshot_of after)
@@ -32,15 +33,15 @@ LeadAll [] before after = after ≡ before
 LeadAll (body ∷ bodies) before after = (next : State) × Leads body before next × LeadAll bodies next after
 
 -- a generation's image is that of a state, and its records lead from there to this one
-pub record Tells (state : State) (contents : Contents) : Type 0 where
+pub record IsStateOf (state : State) (contents : Contents) : Type 0 where
   pub first : State
   pub registered : first.registered ≡ state.registered
   pub image : IsImageOf contents.0 first
   pub records : LeadAll contents.1 first state
 
 -- contents of a state with P
-abbrev pub TellsOne : (State → Type 0) → Contents → Type 0
-TellsOne P contents = (state : State) × P state × Tells state contents
+abbrev pub HaveState : (State → Type 0) → Contents → Type 0
+HaveState P contents = (state : State) × P state × IsStateOf state contents
 
 -- this state and no other
 abbrev pub IsOne : State → State → Type 0
@@ -57,7 +58,7 @@ pub record AreHonest {D : Type 0} (device : Device D) (first second : D) : Type 
 
 -- At every two moments of two disks, from two earlier times up to now, what a crash may leave settles on states with P.
 abbrev pub SettleSince : {D : Type 0} → Device D → ℕ → ℕ → D → D → (State → Type 0) → Type 0
-SettleSince device a b first second P = Run device a b first second (TellsOne P)
+SettleSince device a b first second P = Run device a b first second (HaveState P)
 
 -- what a crash now may leave of two disks settles on states with P
 abbrev pub SettleNow : {D : Type 0} → Device D → D → D → (State → Type 0) → Type 0
@@ -67,7 +68,7 @@ SettleNow device first second P = SettleSince device (device.clock first) (devic
 pub record HoldsState {D : Type 0} (device : Device D) (state : State) (journal : Journal D) : Type 0 where
   pub contents : Contents
   pub holds : Holds device journal contents.0 contents.1
-  pub tells : Tells state contents
+  pub is_state : IsStateOf state contents
 
 -- Calls took a journal from old to new, and at every moment of them, since two earlier times, the files settle on one
 -- of two states, where they settled on the first of them until then.
@@ -79,4 +80,5 @@ GoesOn device before after old new =
 -- The same since the calls began.
 abbrev pub BeginsAnew : {D : Type 0} → Device D → State → State → Journal D → Journal D → Type 0
 BeginsAnew device before after old new =
-    SettleSince device (device.clock (first_disk old)) (device.clock (second_disk old)) (first_disk new) (second_disk new) (IsEither before after)
+    SettleSince device (device.clock (first_disk old)) (device.clock (second_disk old)) (first_disk new)
+    (second_disk new) (IsEither before after)

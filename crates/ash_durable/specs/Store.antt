@@ -6,7 +6,8 @@ use Rattle.ash_journal.specs.declared.journal.Journal.{Journal}
 use Rattle.ash_journal.specs.declared.journal.Opened.{Opened}
 use Rattle.ash_journal.specs.Current.{Contents, Represent, SettleOn}
 use Rattle.ash_journal.specs.Failures.{CountsFailures}
-use Rattle.ash_journal.specs.Journal.{first_disk, second_disk, current_disk, generation, record_bytes, HasFailed, IsReady, Holds, KeepsUnowed, WritesGates, Finds as FindsIn}
+use Rattle.ash_journal.specs.Journal.{first_disk, second_disk, current_disk, generation, record_bytes, HasFailed}
+use Rattle.ash_journal.specs.Journal.{IsReady, Holds, KeepsUnowed, WritesGates, Finds as FindsIn}
 use Rattle.ash_journal.specs.Layout.{IsClosed}
 use Rattle.ash_journal.specs.Opening.{IsUnsound, IsCutCurrent, HasCurrent}
 use Rattle.ash_journal.specs.Reading.{AreAt, bodies_of}
@@ -14,26 +15,27 @@ use Rattle.ash_journal.specs.Runs.{Extends, Nothing}
 use Rattle.ash_journal.specs.Writes.{HasRested}
 use Rattle.ash_meaning.specs.State.{State, empty}
 use Rattle.ash_registry.specs.Calls.{Call as Registration}
-use Rattle.ash_durable.specs.Contents.{behind_image, ReadsAs, IsMisshapen, IsNotAdmitted, AreOfOthers}
+use Rattle.ash_durable.specs.Contents.{after_image, ReadsAs, IsMisshapen, IsNotAdmitted, AreOfOthers}
 use Rattle.ash_durable.specs.Hosting.{Hosted, IsRunning, IsSaved, IsHonest}
-use Rattle.ash_durable.specs.States.{AreHonest, HoldsState, IsImageOf, SettleNow, IsOne, IsEither, Tells, TellsOne}
+use Rattle.ash_durable.specs.States.{AreHonest, HoldsState, IsImageOf, SettleNow, IsOne, IsEither, IsStateOf, HaveState}
 use Rattle.ash_durable.specs.declared.fault.OpenRefused.{OpenRefused}
 use Rattle.ash_durable.specs.declared.fault.StoreFault.{StoreFault}
 use Rattle.ash_durable.specs.declared.fault.StoreFault.TheVariants as faults
-use Rattle.ash_durable.specs.declared.front.Front.{Front}
+use Rattle.ash_durable.specs.declared.header.Header.{Header}
 use Rattle.ash_durable.specs.declared.store.Found.{Found}
 
 -- how a file begins: its length, and its first byte, which is 0 where there is none
-pub record IsFront (front : Front) (bytes : List ℕ) : Type 0 where
-  pub length_is : front.length ≡ length bytes
-  pub gate_is : front.gate ≡ slice_index bytes 0
+pub record IsHeader (header : Header) (bytes : List ℕ) : Type 0 where
+  pub length_is : header.length ≡ length bytes
+  pub gate_is : header.gate ≡ slice_index bytes 0
 
 -- a device failed
 abbrev pub IsFailed : StoreFault → Type 0
 IsFailed faults.DeviceFailed = Unit {0}
 IsFailed _ = ⊥
 
--- Two disks are handed back: no count of failures fell, and one rose exactly where a failure is told; they are as honest
+-- Two disks are handed back: no count of failures fell, and one rose exactly where a failure is reported; they are as
+-- honest
 -- as they were.
 pub record HandsBack {D : Type 0} (device : Device D) (failed : Type 0) (a b a' b' : D) : Type 0 where
   pub failures : CountsFailures failed (device.failures a) (device.failures b) (device.failures a') (device.failures b')
@@ -53,15 +55,15 @@ pub record AreClosed {D : Type 0} (device : Device D) (a b : D) : Type 0 where
 -- ---- making a store
 
 -- no file is open, or they settle on one state
-abbrev pub IsClosedOrTells : State → List ℕ → List ℕ → Type 0
-IsClosedOrTells state x y = (IsClosed x × IsClosed y) ⊎ SettleOn (TellsOne (IsOne state)) x y
+abbrev pub IsClosedOrHasState : State → List ℕ → List ℕ → Type 0
+IsClosedOrHasState state x y = (IsClosed x × IsClosed y) ⊎ SettleOn (HaveState (IsOne state)) x y
 
 -- While a store was made, at every moment since two earlier times from which on each file had rested, a crash left no
 -- file open, or the store of this state.
 abbrev pub MakesOrNot : {D : Type 0} → Device D → State → D → D → D → D → Type 0
 MakesOrNot device state a b a' b' =
     (p q : ℕ) → AreHonest device a b → HasRested device p a → HasRested device q b
-    → EveryMomentSince device p q a' b' (IsClosedOrTells state)
+    → EveryMomentSince device p q a' b' (IsClosedOrHasState state)
 
 -- A store was made on two disks whose files were closed: its first generation is on the first of them.
 pub record WasMade {D : Type 0} (device : Device D) (state : State) (a b : D) (journal : Journal D) : Type 0 where
@@ -76,14 +78,17 @@ pub record WasMade {D : Type 0} (device : Device D) (state : State) (a b : D) (j
 
 -- Why no store was made. Where a file was open, both disks are only read, and so they are but where a device failed.
 abbrev pub NotMadeFor : {D : Type 0} → Device D → D → D → StoreFault → D → D → Type 0
-NotMadeFor device a b faults.DeviceFailed a' b' = AreHonest device a b → AreClosed device a b ⊎ WereOnlyRead device a b a' b'
+NotMadeFor device a b faults.DeviceFailed a' b' = AreHonest device a b → AreClosed device a b
+    ⊎ WereOnlyRead device a b a' b'
 NotMadeFor device a b faults.AlreadyThere a' b' =
     AreHonest device a b → WereOnlyRead device a b a' b' × (AreClosed device a b → ⊥)
-NotMadeFor device a b faults.NoMemory a' b' = AreHonest device a b → WereOnlyRead device a b a' b' × AreClosed device a b
+NotMadeFor device a b faults.NoMemory a' b' = AreHonest device a b → WereOnlyRead device a b a' b'
+    × AreClosed device a b
 NotMadeFor device a b _ a' b' = ⊥
 
 -- No store was made, and both disks are handed back.
-pub record WasNotMade {D : Type 0} (device : Device D) (state : State) (a b : D) (refused : OpenRefused D) : Type 0 where
+pub record WasNotMade {D : Type 0} (device : Device D) (state : State) (a b : D)
+    (refused : OpenRefused D) : Type 0 where
   pub cause : NotMadeFor device a b refused.fault refused.a refused.b
   pub moments : MakesOrNot device state a b refused.a refused.b
   pub disks : HandsBack device (IsFailed refused.fault) a b refused.a refused.b
@@ -94,7 +99,8 @@ Makes device state a b (Ok journal) = WasMade device state a b journal
 Makes device state a b (Err refused) = WasNotMade device state a b refused
 
 -- A host was made with this registered: it runs in the state before any request, which its disks keep.
-pub record WasCreated {D : Type 0} (device : Device D) (registered : List Registration) (a b : D) (host : Hosted D) : Type 0 where
+pub record WasCreated {D : Type 0} (device : Device D) (registered : List Registration) (a b : D)
+    (host : Hosted D) : Type 0 where
   pub running : IsRunning (empty registered) host
   pub made : WasMade device (empty registered) a b host.journal
   pub saved : IsSaved device host
@@ -116,7 +122,8 @@ LooksWith device state a b (Ok image) a' b' =
 LooksWith device state a b (Err fault) a' b' = NotMadeFor device a b fault a' b'
 
 -- Two disks are looked at, and only read, for the first image of a state.
-pub record LooksFor {D : Type 0} (device : Device D) (state : State) (a b : D) (result : Result (Vec ℕ Global) StoreFault) (a' b' : D) : Type 0 where
+pub record LooksFor {D : Type 0} (device : Device D) (state : State) (a b : D)
+    (result : Result (Vec ℕ Global) StoreFault) (a' b' : D) : Type 0 where
   pub looks : LooksWith device state a b result a' b'
   pub read : WereOnlyRead device a b a' b'
   pub disks : HandsBack device (HasFailedWith result) a b a' b'
@@ -128,29 +135,33 @@ abbrev pub StoreFaultIs : List Registration → StoreFault → List ℕ → List
 StoreFaultIs registered faults.NoGeneration x y = IsClosed x × IsClosed y
 StoreFaultIs registered (faults.Damaged at) x y =
     (IsUnsound x y × (at ≡ 0)) ⊎ ((IsCutCurrent at x y ⊎ IsCutCurrent at y x)
-    ⊎ ((contents : Contents) × Represent contents x y × (IsMisshapen contents at ⊎ IsNotAdmitted registered contents at)))
-StoreFaultIs registered faults.OtherInterface x y = (contents : Contents) × Represent contents x y × AreOfOthers registered contents
+    ⊎ ((contents : Contents) × Represent contents x y
+    × (IsMisshapen contents at ⊎ IsNotAdmitted registered contents at)))
+StoreFaultIs registered faults.OtherInterface x y = (contents : Contents) × Represent contents x y
+    × AreOfOthers registered contents
 StoreFaultIs registered faults.NoMemory x y = HasCurrent x y
 StoreFaultIs registered faults.DeviceFailed x y = Unit {0}
 StoreFaultIs registered faults.AlreadyThere x y = ⊥
 
--- Calls add nothing to two files: at every moment of them a crash leaves the contents that it might have left before they
+-- Calls add nothing to two files: at every moment of them a crash leaves the contents that it might have left before
+-- they
 -- began, and no others.
 abbrev pub AddNothing : {D : Type 0} → Device D → D → D → D → D → Type 0
 AddNothing device a b a' b' = AreHonest device a b → Extends device a b a' b' Nothing
 
--- A journal holds the image and the records that two files, as they read, held before, no record more and none less, and
+-- A journal holds the image and the records that two files, as they read, held before, no record more and none less,
+-- and
 -- they are those of this state.
 pub record HoldsAsRead {D : Type 0} (device : Device D) (a b : D) (state : State) (journal : Journal D) : Type 0 where
   pub contents : Contents
   pub represented : Represent contents (device.seen a) (device.seen b)
   pub holds : Holds device journal contents.0 contents.1
-  pub tells : Tells state contents
+  pub is_state : IsStateOf state contents
 
 -- A journal was settled, or was begun to be: of its disks, one on which no gate was to be written over is as it was, to
--- another nothing was written but that gate, and the generation keeps its number and the size of its records.
+-- another nothing was written but that gate, and the generation has the same number and the size of its records.
 pub record OnlySettled {D : Type 0} (device : Device D) (was journal : Journal D) : Type 0 where
-  pub only_owed : KeepsUnowed was journal
+  pub only_pending : KeepsUnowed was journal
   pub only_gates : (contents : Contents) → FindsIn device was contents.0 contents.1 → WritesGates device was journal
   pub number_same : generation journal ≡ generation was
   pub size_same : record_bytes journal ≡ record_bytes was
@@ -164,26 +175,32 @@ pub record WasRepaired {D : Type 0} (device : Device D) (a b : D) (journal : Jou
 
 -- two disks are those of a journal that was found on them and was begun to be settled
 abbrev pub AreOfRepaired : {D : Type 0} → Device D → D → D → D → D → Type 0
-AreOfRepaired {D} device a b a' b' = (journal : Journal D) × WasRepaired device a b journal × (a' ≡ first_disk journal) × (b' ≡ second_disk journal)
+AreOfRepaired {D} device a b a' b' = (journal : Journal D) × WasRepaired device a b journal × (a' ≡ first_disk journal)
+    × (b' ≡ second_disk journal)
 
--- A state was found: the files, as they read, are those of it, and the journal holds these very files and no other state.
-pub record WasFound {D : Type 0} (device : Device D) (registered : List Registration) (a b : D) (state : State) (journal : Journal D) : Type 0 where
+-- A state was found: the files, as they read, are those of it, and the journal holds these very files and no other
+-- state.
+pub record WasFound {D : Type 0} (device : Device D) (registered : List Registration) (a b : D) (state : State)
+    (journal : Journal D) : Type 0 where
   pub registered_is : state.registered ≡ registered
   pub ready : IsReady journal
   -- the files hold the records that they held before, no more and no fewer
   pub holds : AreHonest device a b → HoldsAsRead device a b state journal
   -- nor does a crash on the way leave any other
   pub moments : AddNothing device a b (first_disk journal) (second_disk journal)
-  -- the generation is the one that was read, and on each disk nothing was written but a gate that was to be written over
+  -- the generation is the one that was read, and on each disk nothing was written but a gate that was to be written
+  -- over
   pub repaired : WasRepaired device a b journal
   pub disks : HandsBack device ⊥ a b (first_disk journal) (second_disk journal)
 
 -- No state was found, or a device failed once it was.
-pub record WasNotFound {D : Type 0} (device : Device D) (registered : List Registration) (a b : D) (refused : OpenRefused D) : Type 0 where
+pub record WasNotFound {D : Type 0} (device : Device D) (registered : List Registration) (a b : D)
+    (refused : OpenRefused D) : Type 0 where
   pub cause : AreHonest device a b → StoreFaultIs registered refused.fault (device.seen a) (device.seen b)
   pub read : (IsFailed refused.fault → ⊥) → WereOnlyRead device a b refused.a refused.b
   pub moments : AddNothing device a b refused.a refused.b
-  pub repaired : IsFailed refused.fault → WereOnlyRead device a b refused.a refused.b ⊎ AreOfRepaired device a b refused.a refused.b
+  pub repaired : IsFailed refused.fault → WereOnlyRead device a b refused.a refused.b
+      ⊎ AreOfRepaired device a b refused.a refused.b
   pub disks : HandsBack device (IsFailed refused.fault) a b refused.a refused.b
 
 -- The state of a store is found on two disks, or both are handed back.
@@ -195,31 +212,39 @@ Finds device registered a b (Err refused) = WasNotFound device registered a b re
 abbrev pub contents_of : {D : Type 0} → Opened D → Contents
 contents_of opened = (opened.image.items, bodies_of opened.records.items)
 
--- the gates before its records stand where the records say
+-- the gates before its records are where the records say
 abbrev pub AreInPlace : {D : Type 0} → Opened D → Type 0
-AreInPlace opened = AreAt (behind_image opened.image.items) opened.records.items
+AreInPlace opened = AreAt (after_image opened.image.items) opened.records.items
 
 -- the files hold what was read of them
 abbrev pub HoldsRead : {D : Type 0} → Device D → Opened D → Type 0
 HoldsRead device opened = FindsIn device opened.journal opened.image.items (bodies_of opened.records.items)
 
 -- The state of a journal that was opened was read, and the gates are written over that a crash left.
-pub record WasSettled {D : Type 0} (device : Device D) (registered : List Registration) (opened : Opened D) (state : State) (journal : Journal D) : Type 0 where
+pub record WasSettled {D : Type 0} (device : Device D) (registered : List Registration) (opened : Opened D)
+    (state : State) (journal : Journal D) : Type 0 where
   pub registered_is : state.registered ≡ registered
-  pub reads : AreInPlace opened → Tells state (contents_of opened)
+  pub reads : AreInPlace opened → IsStateOf state (contents_of opened)
   pub ready : (HasFailed opened.journal → ⊥) → IsReady journal
   pub only : OnlySettled device opened.journal journal
   pub holds : HoldsRead device opened → Holds device journal opened.image.items (bodies_of opened.records.items)
-  pub extends : HoldsRead device opened → Extends device (first_disk opened.journal) (second_disk opened.journal) (first_disk journal) (second_disk journal) Nothing
-  pub disks : HandsBack device ⊥ (first_disk opened.journal) (second_disk opened.journal) (first_disk journal) (second_disk journal)
+  pub extends : HoldsRead device opened → Extends device (first_disk opened.journal) (second_disk opened.journal)
+      (first_disk journal) (second_disk journal) Nothing
+  pub disks : HandsBack device ⊥ (first_disk opened.journal) (second_disk opened.journal) (first_disk journal)
+      (second_disk journal)
 
 -- No state was read, and nothing is written; or a device failed once it was.
-pub record WasNotSettled {D : Type 0} (device : Device D) (registered : List Registration) (opened : Opened D) (refused : OpenRefused D) : Type 0 where
+pub record WasNotSettled {D : Type 0} (device : Device D) (registered : List Registration) (opened : Opened D)
+    (refused : OpenRefused D) : Type 0 where
   pub cause : AreInPlace opened → IsFailed refused.fault ⊎ ReadsAs registered (contents_of opened) (Err refused.fault)
-  pub read : (IsFailed refused.fault → ⊥) → (refused.a ≡ first_disk opened.journal) × (refused.b ≡ second_disk opened.journal)
-  pub extends : HoldsRead device opened → Extends device (first_disk opened.journal) (second_disk opened.journal) refused.a refused.b Nothing
-  pub only : IsFailed refused.fault → (journal : Journal D) × OnlySettled device opened.journal journal × (refused.a ≡ first_disk journal) × (refused.b ≡ second_disk journal)
-  pub disks : HandsBack device (IsFailed refused.fault) (first_disk opened.journal) (second_disk opened.journal) refused.a refused.b
+  pub read : (IsFailed refused.fault → ⊥) → (refused.a ≡ first_disk opened.journal)
+      × (refused.b ≡ second_disk opened.journal)
+  pub extends : HoldsRead device opened → Extends device (first_disk opened.journal) (second_disk opened.journal)
+      refused.a refused.b Nothing
+  pub only : IsFailed refused.fault → (journal : Journal D) × OnlySettled device opened.journal journal
+      × (refused.a ≡ first_disk journal) × (refused.b ≡ second_disk journal)
+  pub disks : HandsBack device (IsFailed refused.fault) (first_disk opened.journal) (second_disk opened.journal)
+      refused.a refused.b
 
 -- A journal that was opened holds a state, or its disks are handed back.
 abbrev pub Settled : {D : Type 0} → Device D → List Registration → Opened D → Result (Found D) (OpenRefused D) → Type 0
@@ -228,11 +253,13 @@ Settled device registered opened (Err refused) = WasNotSettled device registered
 
 -- A host was opened with this registered: it runs in the state that the files, as they read, are of. Where they settled
 -- on two states before, it is one of them, and they settle on it alone.
-pub record WasOpened {D : Type 0} (device : Device D) (registered : List Registration) (a b : D) (host : Hosted D) : Type 0 where
+pub record WasOpened {D : Type 0} (device : Device D) (registered : List Registration) (a b : D)
+    (host : Hosted D) : Type 0 where
   pub state : State
   pub running : IsRunning state host
   pub found : WasFound device registered a b state host.journal
-  pub same : (s t : State) → AreHonest device a b → s.registered ≡ registered → t.registered ≡ registered → SettleNow device a b (IsEither s t) → IsEither s t state
+  pub same : (s t : State) → AreHonest device a b → s.registered ≡ registered → t.registered ≡ registered
+      → SettleNow device a b (IsEither s t) → IsEither s t state
   pub saved : AreHonest device a b → IsSaved device host
 
 -- A host is opened on two disks, or both are handed back.
@@ -242,7 +269,7 @@ Opens device registered a b (Err refused) = WasNotFound device registered a b re
 
 -- ---- closing it and opening it again
 
--- a refusal for want of memory, or because a disk failed
+-- a refusal because memory ran out or a disk failed
 abbrev pub IsMishap : StoreFault → Type 0
 IsMishap faults.NoMemory = Unit {0}
 IsMishap faults.DeviceFailed = Unit {0}
@@ -253,5 +280,7 @@ IsMishap _ = ⊥
 abbrev pub OpensAgain : {D : Type 0} → Device D → Hosted D → Result (Hosted D) (OpenRefused D) → Type 0
 OpensAgain device host (Ok opened) =
     (opened.registered ≡ host.registered)
-    × ((state : State) → IsHonest device host → IsRunning state host → IsSaved device host → IsRunning state opened × IsSaved device opened)
-OpensAgain device host (Err refused) = (state : State) → IsHonest device host → IsRunning state host → IsSaved device host → IsMishap refused.fault
+    × ((state : State) → IsHonest device host → IsRunning state host → IsSaved device host → IsRunning state opened
+    × IsSaved device opened)
+OpensAgain device host (Err refused) = (state : State) → IsHonest device host → IsRunning state host
+    → IsSaved device host → IsMishap refused.fault

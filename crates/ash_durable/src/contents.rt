@@ -6,18 +6,18 @@ ghost use Rattle.ash_image.specs.Image.{snapshot_read};
 ghost use Rattle.ash_journal.specs.Reading.{AreAt, bodies_of};
 ghost use Rattle.ash_registry.specs.Registered.{registered};
 ghost use Rattle.ash_registry.specs.Text.{text_of};
-ghost use Rattle.ash_durable.specs.Contents.{behind_image, IsBodyWith, ReadsAs};
+ghost use Rattle.ash_durable.specs.Contents.{after_image, IsBodyWith, ReadsAs};
 ghost use Rattle.ash_durable.specs.Contents.{ReadsImage, ChecksShapes, Restores, LeadsOn, LeadsThrough};
 
 use crate::fault::StoreFault;
-use ash_image::image::{Stored, read_body, read_image};
+use ash_image::image::{StoredState, read_body, read_image};
 use ash_journal::Record;
 use ash_meaning::plain::PlainState;
 use ash_registry::Registry;
 use std::alloc::{AllocError, Global};
 
 /// A generation's image, before it is known whether the registry admits it.
-fn stored_image(alloc: Global, image: &[u8]) -> Result<Stored, StoreFault>
+fn stored_image(alloc: Global, image: &[u8]) -> Result<StoredState, StoreFault>
     ensures { ReadsImage image.now result }
 {
     match read_image(alloc, image)? {
@@ -49,15 +49,15 @@ fn check_shapes(alloc: Global, registered: &str, records: &[Record]) -> Result<(
 }
 
 /// The state that was stored, where this registry admits it; else damage at this offset.
-fn restored(
+fn restore(
     alloc: Global,
     registry: Registry,
-    stored: Stored,
+    stored: StoredState,
     offset: u64,
 ) -> Result<PlainState, StoreFault>
     ensures { Restores (registered registry) (snapshot_read stored) offset result }
 {
-    match PlainState::restored(alloc, registry, stored.seq, stored.modules)? {
+    match PlainState::restore(alloc, registry, stored.seq, stored.modules)? {
         Some(state) => Ok(state),
         None => Err(StoreFault::Damaged(offset)),
     }
@@ -74,7 +74,7 @@ fn next_state(
     ensures { LeadsOn (registered registry) body.now gate result }
 {
     match read_body(alloc, body)? {
-        Some(stored) => restored(alloc, registry, stored, gate),
+        Some(stored) => restore(alloc, registry, stored, gate),
         None => Err(StoreFault::Damaged(gate)),
     }
 }
@@ -109,7 +109,7 @@ pub fn state_in(
 ) -> Result<PlainState, StoreFault>
     ensures registered { IfOk result (λ state. state.registered ≡ registered registry) }
     ensures cause { IfErr result (λ fault. fault ≡ StoreFault.DeviceFailed → ⊥) }
-    ensures reads { AreAt (behind_image image.now) records.now
+    ensures reads { AreAt (after_image image.now) records.now
         → ReadsAs (registered registry) (image.now, bodies_of records.now) result }
 {
     let first = stored_image(alloc, image)?;
@@ -117,6 +117,6 @@ pub fn state_in(
     if first.registered.as_str() != registry.text() {
         return Err(StoreFault::OtherInterface);
     }
-    let state = restored(alloc, registry, first, 0)?;
+    let state = restore(alloc, registry, first, 0)?;
     last_state(alloc, state, records)
 }

@@ -14,8 +14,8 @@ pub enum StoreFault {
     /// A file of the store is open already.
     #[error("502 AlreadyThere")]
     AlreadyThere,
-    /// The bytes are not those of a store. The offset, in bytes, is that of the gate before the record that is damaged, or
-    /// 0 for what stands before the first record.
+    /// The bytes are not those of a store. The offset, in bytes, is that of the gate before the record that is damaged,
+    /// or 0 for what is before the first record.
     #[error("503 Damaged")]
     Damaged(u64),
     /// The store was made with another registration.

@@ -1,7 +1,8 @@
 //! The life of a store, as a theorem.
 
 ghost use Rattle.std.specs.Prelude.{ℕ, List, ◌∷◌, ◌++◌};
-ghost use Rattle.ash_durable.specs.Lives.{AreLeft, BeginWith, Crashed, Event, LeadBy, Life, On, Outlives, Place, first_at, second_at};
+ghost use Rattle.ash_durable.specs.Lives.{AreLeft, BeginWith, Crashed, Event, LeadBy, Life, OnDisks, Outlives, Place};
+ghost use Rattle.ash_durable.specs.Lives.{first_at, second_at};
 ghost use Rattle.ash_durable.specs.States.{AreHonest, SettleNow};
 ghost use Rattle.ash_durable.specs.Store.{IsMishap, WasNotFound};
 ghost use Rattle.ash_durable.specs.declared.fault.OpenRefused.{OpenRefused};
@@ -11,26 +12,30 @@ ghost use Rattle.ash_registry.specs.Calls.{Call};
 use ash_disk::Disk;
 
 /// In every life of a store on honest disks, whatever happens to it and as often as it does (requests, failures of the
-/// devices, want of memory, snapshots, closing and opening, refused openings and creations, the end of the process or of
+/// devices, out of memory, snapshots, closing and opening, refused openings and creations, the end of the process or of
 /// the power at any moment of any of these), the following holds.
 ///
 /// `whole`: all that a crash may leave of the disks settles on states to which the events lead: every request that was
-/// answered, in order and with its answer, and each that is in doubt at its place once or not at all, as it was found at
-/// the next opening. Where the newest event is not in doubt there is one such state. A host that runs is in one.
+/// answered, in order and with its answer, and each that is in doubt at its place once or not at all, as it was found
+/// at the next opening. Where the newest event is not in doubt there is one such state. A host that runs is in one.
 ///
 /// `each`: so each event that ever came is in every such state, at its place among the others.
 ///
-/// `opens`: a store is never refused to a host with the same registry, but for want of memory or because a disk failed.
+/// `opens`: a store is never refused to a host with the same registry, but because memory ran out or because a disk
+/// failed.
 ///
 /// It does nothing: the clauses are the theorem. Each step of a life is what the contract of a public call says.
 pub fn nothing_acknowledged_is_lost<D: Disk>()
     ensures whole { (registered : List Call) (events : List Event) (place : Place D)
         → Life D.Disk registered events place → Outlives D.Disk registered events place }
-    ensures each { (registered : List Call) (later : List Event) (event : Event) (earlier : List Event) (place : Place D)
+    ensures each { (registered : List Call) (later : List Event) (event : Event)
+        (earlier : List Event) (place : Place D)
         → Life D.Disk registered (later ++ event ∷ earlier) place
-        → SettleNow D.Disk (first_at place) (second_at place) (LeadBy later event earlier (empty registered)) }
-    ensures opens { (registered : List Call) (events : List Event) (a b : D) (refused : OpenRefused D)
-        → Life D.Disk registered events (On a b) → WasNotFound D.Disk registered a b refused
+        → SettleNow D.Disk (first_at place) (second_at place)
+        (LeadBy later event earlier (empty registered)) }
+    ensures opens { (registered : List Call) (events : List Event) (a b : D)
+        (refused : OpenRefused D)
+        → Life D.Disk registered events (OnDisks a b) → WasNotFound D.Disk registered a b refused
         → IsMishap refused.fault }
 {}
 

@@ -7,8 +7,8 @@ ghost use Rattle.ash_registry.specs.Registered.{registered};
 
 use crate::contents::state_in;
 use crate::fault::{OpenRefused, StoreFault};
-use crate::front::front_of;
-use crate::keeping::image_of;
+use crate::header::read_header;
+use crate::saving::image_of;
 use ash_disk::Disk;
 use ash_journal::{Journal, Opened};
 use ash_meaning::plain::PlainState;
@@ -24,8 +24,8 @@ fn first_image<D: Disk>(
 ) -> Result<Vec<u8>, StoreFault>
     ensures { LooksFor D.Disk state.now a.old b.old result a.new b.new }
 {
-    let first = front_of(a)?;
-    let second = front_of(b)?;
+    let first = read_header(a)?;
+    let second = read_header(b)?;
     if first.is_open() || second.is_open() {
         return Err(StoreFault::AlreadyThere);
     }

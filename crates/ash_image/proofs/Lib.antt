@@ -1,9 +1,9 @@
-pub mod Numbers
-pub mod Field_laws
-pub mod Names
-pub mod Texts
-pub mod Item_loop
-pub mod Image_laws
-pub mod Body_laws
 pub mod Appended
+pub mod BodyLaws
+pub mod FieldLaws
+pub mod ImageLaws
+pub mod ItemLoop
 pub mod Limits
+pub mod Names
+pub mod Numbers
+pub mod Texts

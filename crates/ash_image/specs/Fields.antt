@@ -1,9 +1,10 @@
--- Fields of a format: how each is spelled, and how it is read from the front of bytes.
-use Rattle.std.specs.Prelude.{◌≡◌, ℕ, zero, suc, ◌==◌, nat_lt, Bool, if◌then◌else◌, List, [], ◌∷◌, ◌++◌, length, take, drop, Option, Some, None, Result, Ok, Err}
+-- Fields of a format: how each is spelled, and how it is read from a prefix of bytes.
+use Rattle.std.specs.Prelude.{◌≡◌, ℕ, zero, suc, ◌==◌, nat_lt, Bool, if◌then◌else◌, List, [], ◌∷◌, ◌++◌, length, take}
+use Rattle.std.specs.Prelude.{drop, Option, Some, None, Result, Ok, Err}
 use Rattle.std.specs.List.{flat_map}
 use Rattle.byteorder.specs.Endian.{little_bytes, little_number}
-use Rattle.ash_image.specs.declared.image.fields.Unread.{Unread}
-use Rattle.ash_image.specs.declared.image.fields.Unread.TheVariants as reasons
+use Rattle.ash_image.specs.declared.image.fields.ReadError.{ReadError}
+use Rattle.ash_image.specs.declared.image.fields.ReadError.TheVariants as reasons
 
 -- ---- spelling
 
@@ -19,7 +20,7 @@ text size bytes = number size (length bytes) ++ bytes
 abbrev pub items : {A : Type 0} → ℕ → (A → List ℕ) → List A → List ℕ
 items size spell values = number size (length values) ++ flat_map spell values
 
--- ---- reading: what stands at the front, and the bytes after it
+-- ---- reading: a prefix, and the bytes after it
 
 -- what follows a step that gave something
 infixl 10 ◌>>=◌
@@ -36,40 +37,44 @@ abbrev pub checked_at : {A : Type 0} → (A → Bool) → (List ℕ → Option (
 checked_at test read bytes = read bytes >>= λ x. if test x.0 then Some x else None
 
 -- one thing after the other
-abbrev pub pair_at : {A B : Type 0} → (List ℕ → Option (A × List ℕ)) → (List ℕ → Option (B × List ℕ)) → List ℕ → Option ((A × B) × List ℕ)
+abbrev pub pair_at : {A B : Type 0} → (List ℕ → Option (A × List ℕ)) → (List ℕ → Option (B × List ℕ)) → List ℕ
+    → Option ((A × B) × List ℕ)
 pair_at first second bytes = first bytes >>= λ x. second x.1 >>= λ y. Some ((x.0, y.0), y.1)
 
 -- a number in so many bytes
 abbrev pub number_at : ℕ → List ℕ → Option (ℕ × List ℕ)
-number_at size bytes = if nat_lt (length bytes) size then None else Some (little_number size (take size bytes), drop size bytes)
+number_at size bytes = if nat_lt (length bytes)
+    size then None else Some (little_number size (take size bytes), drop size bytes)
 
 -- so many bytes
-abbrev pub front_at : ℕ → List ℕ → Option (List ℕ × List ℕ)
-front_at count bytes = if nat_lt (length bytes) count then None else Some (take count bytes, drop count bytes)
+abbrev pub prefix_at : ℕ → List ℕ → Option (List ℕ × List ℕ)
+prefix_at count bytes = if nat_lt (length bytes) count then None else Some (take count bytes, drop count bytes)
 
 -- a length in so many bytes, and that many bytes
 abbrev pub text_at : ℕ → List ℕ → Option (List ℕ × List ℕ)
-text_at size bytes = number_at size bytes >>= λ count. front_at count.0 count.1
+text_at size bytes = number_at size bytes >>= λ count. prefix_at count.0 count.1
 
 -- the bytes after a number that is always this one
 abbrev pub past_number : ℕ → ℕ → List ℕ → Option (List ℕ)
 past_number size value bytes = number_at size bytes >>= λ x. if x.0 == value then Some x.1 else None
 
--- what stands behind a number that is always this one
+-- what is after a number that is always this one
 abbrev pub after_number : {A : Type 0} → ℕ → ℕ → (List ℕ → Option (A × List ℕ)) → List ℕ → Option (A × List ℕ)
 after_number size value read bytes = past_number size value bytes >>= λ rest. read rest
 
--- what stands before a number that is always this one
+-- what is before a number that is always this one
 abbrev pub before_number : {A : Type 0} → ℕ → ℕ → (List ℕ → Option (A × List ℕ)) → List ℕ → Option (A × List ℕ)
 before_number size value read bytes = read bytes >>= λ x. past_number size value x.1 >>= λ rest. Some (x.0, rest)
 
 -- so many items, one after the other
 unfoldable pub times_at : {A : Type 0} → (List ℕ → Option (A × List ℕ)) → ℕ → List ℕ → Option (List A × List ℕ)
 times_at read zero bytes = Some ([], bytes)
-times_at read (suc count) bytes = read bytes >>= λ first. times_at read count first.1 >>= λ others. Some (first.0 ∷ others.0, others.1)
+times_at read (suc count) bytes = read bytes >>= λ first. times_at read count first.1 >>= λ others.
+    Some (first.0 ∷ others.0, others.1)
 
 -- a count, read in some way, and that many items
-abbrev pub items_at : {A : Type 0} → (List ℕ → Option (ℕ × List ℕ)) → (List ℕ → Option (A × List ℕ)) → List ℕ → Option (List A × List ℕ)
+abbrev pub items_at : {A : Type 0} → (List ℕ → Option (ℕ × List ℕ)) → (List ℕ → Option (A × List ℕ)) → List ℕ
+    → Option (List A × List ℕ)
 items_at count read bytes = count bytes >>= λ x. times_at read x.0 x.1
 
 -- what the whole of the bytes is
@@ -78,12 +83,12 @@ whole read bytes = read bytes >>= λ x. if length x.1 == 0 then Some x.0 else No
 
 -- ---- what the code answers
 
--- Nothing was read for want of memory, or because there is nothing to read.
-abbrev pub Misses : {A : Type 0} → Unread → Option A → Type 0
-Misses reasons.Memory read = Unit {0}
-Misses reasons.Damaged read = read ≡ None
+-- Nothing was read because memory ran out, or because there is nothing to read.
+abbrev pub HasNoField : {A : Type 0} → ReadError → Option A → Type 0
+HasNoField reasons.NoMemory read = Unit {0}
+HasNoField reasons.Damaged read = read ≡ None
 
 -- What the code returned, seen by a view, is what reading gives, unless memory was refused.
-abbrev pub Gives : {X A : Type 0} → (X → A) → Result X Unread → Option A → Type 0
-Gives view (Ok x) read = read ≡ Some (view x)
-Gives view (Err reason) read = Misses reason read
+abbrev pub ReturnsField : {X A : Type 0} → (X → A) → Result X ReadError → Option A → Type 0
+ReturnsField view (Ok x) read = read ≡ Some (view x)
+ReturnsField view (Err reason) read = HasNoField reason read

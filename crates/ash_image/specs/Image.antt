@@ -1,24 +1,25 @@
 -- The image of a host's state with the text of what is registered, byte for byte, and the body of a record that leads
 -- to a state.
-use Rattle.std.specs.Prelude.{◌≡◌, ℕ, ◌<◌, ◌≤◌, ◌^◌, Bool, true, false, List, ◌∷◌, ◌++◌, length, string_bytes, ⊤, FitsSigned}
+use Rattle.std.specs.Prelude.{◌≡◌, ℕ, ◌<◌, ◌≤◌, ◌^◌, Bool, true, false, List, ◌∷◌, ◌++◌, length, string_bytes, ⊤}
+use Rattle.std.specs.Prelude.{FitsSigned}
 use Rattle.std.specs.Bool.{IsTrue}
 use Rattle.std.specs.Str.{IsUtf8}
 use Rattle.std.specs.Int.{w32, w64, cast_unsigned}
 use Rattle.std.specs.List.{AllByRecursion}
 use Rattle.ash_host.specs.declared.word.Word.{Word}
 use Rattle.ash_host.specs.declared.word.Word.TheVariants as words
-use Rattle.ash_meaning.specs.Kept.{scripts_in, scripts_of}
-use Rattle.ash_meaning.specs.State.{Script}
-use Rattle.ash_meaning.specs.declared.kept.ModuleParts.{ModuleParts}
-use Rattle.ash_meaning.specs.Step.{is_module_name, max_modules, are_ascending, names_of_scripts}
-use Rattle.ash_image.specs.declared.image.Stored.{Stored}
+use Rattle.ash_meaning.specs.StoredModules.{loaded_modules_in, loaded_modules_of}
+use Rattle.ash_meaning.specs.State.{LoadedModule}
+use Rattle.ash_meaning.specs.declared.stored.ModuleParts.{ModuleParts}
+use Rattle.ash_meaning.specs.Step.{is_module_name, max_modules, are_ascending, names_of_modules}
+use Rattle.ash_image.specs.declared.image.StoredState.{StoredState}
 use Rattle.ash_image.specs.Fields.{number, text, items}
 
 -- what an image is of: the text of what was registered, the modules that were kept, and how many requests had been
 -- answered
 pub record Snapshot : Type 0 where
   pub registered : List ℕ
-  pub modules : List Script
+  pub modules : List LoadedModule
   pub seq : ℕ
 
 -- ---- the spelling
@@ -39,8 +40,8 @@ word words.Null = number 1 5
 word (words.Object value) = number 1 6 ++ number 8 value
 
 -- a module: its name, its source and what its globals hold
-abbrev pub script : Script → List ℕ
-script m = text 1 m.name ++ (text 4 m.source ++ items 2 word m.globals)
+abbrev pub loaded_module : LoadedModule → List ℕ
+loaded_module m = text 1 m.name ++ (text 4 m.source ++ items 2 word m.globals)
 
 -- the version of the layout
 abbrev pub version : ℕ
@@ -61,7 +62,8 @@ objects = number 4 0
 -- the version, the text of what is registered, how many requests have been answered, the last number given, the states
 -- of services, the modules, the objects
 abbrev pub image_of : Snapshot → List ℕ
-image_of s = number 2 version ++ (text 4 s.registered ++ (number 8 s.seq ++ (last_number ++ (services ++ (items 1 script s.modules ++ objects)))))
+image_of s = number 2 version ++ (text 4 s.registered
+    ++ (number 8 s.seq ++ (last_number ++ (services ++ (items 1 loaded_module s.modules ++ objects)))))
 
 -- ---- what has a spelling
 
@@ -101,29 +103,30 @@ abbrev pub NameNoObject : List Word → Type 0
 NameNoObject list = AllByRecursion (λ (w : Word). NamesObject w → ⊥) list
 
 -- A module whose name is one, within the limits of a host. Its globals name no object, since no host has one.
-pub record IsWithinLimits (m : Script) : Type 0 where
+pub record IsWithinLimits (m : LoadedModule) : Type 0 where
   pub name : IsTrue (is_module_name m.name)
   pub source : length m.source ≤ max_source
   pub globals : length m.globals ≤ max_globals
   pub handles : NameNoObject m.globals
 
 -- a module that has a spelling
-pub record FitsModule (m : Script) : Type 0 where
+pub record FitsModule (m : LoadedModule) : Type 0 where
   pub limits : IsWithinLimits m
   pub words : AllByRecursion FitsWord m.globals
 
 -- Modules that a host may keep: not too many, by ascending name, and each within its limits.
-pub record AreWithinLimits (modules : List Script) : Type 0 where
+pub record AreWithinLimits (modules : List LoadedModule) : Type 0 where
   pub count : length modules ≤ max_modules
-  pub order : IsTrue (are_ascending (names_of_scripts modules))
+  pub order : IsTrue (are_ascending (names_of_modules modules))
   pub each : AllByRecursion IsWithinLimits modules
 
--- A snapshot that has a spelling. Its modules stand by ascending name: the same modules in another order have none.
+-- A snapshot that has a spelling. Its modules are in ascending order of name: the same modules in another order have
+-- none.
 pub record Fits (s : Snapshot) : Type 0 where
   pub registered : FitsText s.registered
   pub seq : s.seq < 2 ^ 64
   pub count : length s.modules ≤ max_modules
-  pub order : IsTrue (are_ascending (names_of_scripts s.modules))
+  pub order : IsTrue (are_ascending (names_of_modules s.modules))
   pub modules : AllByRecursion FitsModule s.modules
 
 -- The bytes are the one spelling of a snapshot.
@@ -144,12 +147,16 @@ body_of s = whole_tag ∷ image_of s
 abbrev pub IsBody : List ℕ → Snapshot → Type 0
 IsBody body s = Fits s × (body ≡ body_of s)
 
--- ---- what the code's types stand for
+-- ---- what the code's types represent
 
 -- what was read
-abbrev pub snapshot_read : Stored → Snapshot
-snapshot_read s = record { registered = string_bytes s.registered; modules = scripts_of s.modules.items; seq = s.seq }
+abbrev pub snapshot_read : StoredState → Snapshot
+snapshot_read s = record {
+  registered = string_bytes s.registered;
+  modules = loaded_modules_of s.modules.items;
+  seq = s.seq;
+}
 
 -- what is written, by its parts
 abbrev pub snapshot_in : List ℕ → List ModuleParts → ℕ → Snapshot
-snapshot_in registered parts seq = record { registered = registered; modules = scripts_in parts; seq = seq }
+snapshot_in registered parts seq = record { registered = registered; modules = loaded_modules_in parts; seq = seq }

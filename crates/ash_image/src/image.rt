@@ -37,10 +37,10 @@ mod writing;
 ghost use Rattle.std.specs.Prelude.{◌≡◌, ◌≤◌, ◌<◌, ◌^◌, length, IfOk, OnOk, IfSome, Some, option_map};
 ghost use Rattle.ash_image.specs.Image.{AreWithinLimits, Depicts, Fits, IsBody, Snapshot, body_of, image_of, max_text};
 ghost use Rattle.ash_image.specs.Image.{snapshot_in, snapshot_read};
-ghost use Rattle.ash_meaning.specs.Kept.{scripts_in};
+ghost use Rattle.ash_meaning.specs.StoredModules.{loaded_modules_in};
 
-use crate::image::fields::Unread;
-use ash_meaning::kept::{ModuleParts, StoredModule};
+use crate::image::fields::ReadError;
+use ash_meaning::stored::{ModuleParts, StoredModule};
 use std::alloc::{AllocError, Global};
 
 const VERSION: u16 = 1;
@@ -68,7 +68,7 @@ const WHOLE_TAG: u8 = 1;
 
 /// A state as it was read.
 #[derive(Debug, Drop)]
-pub struct Stored {
+pub struct StoredState {
     /// The text of what was registered.
     pub registered: String,
     /// How many requests have been answered.
@@ -79,54 +79,57 @@ pub struct Stored {
 
 /// The state that the bytes depict, all of the bytes, and the text of what was registered. `None` where they depict
 /// none.
-pub fn read_image(alloc: Global, bytes: &[u8]) -> Result<Option<Stored>, AllocError>
+pub fn read_image(alloc: Global, bytes: &[u8]) -> Result<Option<StoredState>, AllocError>
     // What is read is depicted.
     ensures found { IfOk result (λ found. IfSome found (λ s. Depicts bytes.now (snapshot_read s))) }
     // What is depicted is read, unless memory is refused.
-    ensures only { (s : Snapshot) → Depicts bytes.now s → IfOk result (λ found. option_map snapshot_read found ≡ Some s) }
+    ensures only { (s : Snapshot) → Depicts bytes.now s
+        → IfOk result (λ found. option_map snapshot_read found ≡ Some s) }
     // Bytes depict one state and one text.
     ensures one { (s t : Snapshot) → Depicts bytes.now s → Depicts bytes.now t → s ≡ t }
 {
     match reading::whole_image(alloc, bytes) {
         Ok(stored) => Ok(Some(stored)),
-        Err(Unread::Damaged) => Ok(None),
-        Err(Unread::Memory) => Err(AllocError),
+        Err(ReadError::Damaged) => Ok(None),
+        Err(ReadError::NoMemory) => Err(AllocError),
     }
 }
 
 /// The state to which a record's body leads, all of the bytes. `None` where they are the body of none.
-pub fn read_body(alloc: Global, bytes: &[u8]) -> Result<Option<Stored>, AllocError>
+pub fn read_body(alloc: Global, bytes: &[u8]) -> Result<Option<StoredState>, AllocError>
     // The bytes are the body of what is read.
     ensures found { IfOk result (λ found. IfSome found (λ s. IsBody bytes.now (snapshot_read s))) }
     // A body is read, unless memory is refused.
-    ensures only { (s : Snapshot) → IsBody bytes.now s → IfOk result (λ found. option_map snapshot_read found ≡ Some s) }
+    ensures only { (s : Snapshot) → IsBody bytes.now s
+        → IfOk result (λ found. option_map snapshot_read found ≡ Some s) }
 {
     match reading::whole_body(alloc, bytes) {
         Ok(stored) => Ok(Some(stored)),
-        Err(Unread::Damaged) => Ok(None),
-        Err(Unread::Memory) => Err(AllocError),
+        Err(ReadError::Damaged) => Ok(None),
+        Err(ReadError::NoMemory) => Err(AllocError),
     }
 }
 
-/// The image of a state, given the text of what is registered, the modules that it keeps and how many requests have been
-/// answered, in one buffer that is made with its exact capacity.
+/// The image of a state, given the text of what is registered, the modules that it keeps and how many requests have
+/// been answered, in one buffer that is made with its exact capacity.
 pub fn write_image(
     alloc: Global,
     registered: &str,
     modules: &[ModuleParts<'_>],
     seq: u64,
 ) -> Result<Vec<u8>, AllocError>
-    // The text is within its limit, and the modules are within those of a host and stand by ascending name.
+    // The text is within its limit, and the modules are within those of a host and are in ascending order of name.
     requires text { length registered.now ≤ max_text }
-    requires limits { AreWithinLimits (scripts_in modules.now) }
-    ensures written { IfOk result (λ image. image.items ≡ image_of (snapshot_in registered.now modules.now seq)) }
+    requires limits { AreWithinLimits (loaded_modules_in modules.now) }
+    ensures written { IfOk result (λ image. image.items
+        ≡ image_of (snapshot_in registered.now modules.now seq)) }
     // So it is read again.
     ensures fits { OnOk result (Fits (snapshot_in registered.now modules.now seq)) }
     ensures short { IfOk result (λ image. length image.items < 2 ^ 25) }
 {
     let length = writing::image_length(registered, modules);
     let mut image = Vec::with_capacity(alloc, length)?;
-    writing::put_image(&mut image, registered, modules, seq)?;
+    writing::write_image_into(&mut image, registered, modules, seq)?;
     Ok(image)
 }
 
@@ -138,17 +141,18 @@ pub fn write_body(
     modules: &[ModuleParts<'_>],
     seq: u64,
 ) -> Result<Vec<u8>, AllocError>
-    // The text is within its limit, and the modules are within those of a host and stand by ascending name.
+    // The text is within its limit, and the modules are within those of a host and are in ascending order of name.
     requires text { length registered.now ≤ max_text }
-    requires limits { AreWithinLimits (scripts_in modules.now) }
-    ensures written { IfOk result (λ body. body.items ≡ body_of (snapshot_in registered.now modules.now seq)) }
+    requires limits { AreWithinLimits (loaded_modules_in modules.now) }
+    ensures written { IfOk result (λ body. body.items
+        ≡ body_of (snapshot_in registered.now modules.now seq)) }
     // So it is read again.
     ensures fits { OnOk result (Fits (snapshot_in registered.now modules.now seq)) }
     ensures short { IfOk result (λ body. length body.items < 2 ^ 26) }
 {
     let length = writing::image_length(registered, modules);
     let mut body = Vec::with_capacity(alloc, 1 + length)?;
-    writing::put_u8(&mut body, WHOLE_TAG)?;
-    writing::put_image(&mut body, registered, modules, seq)?;
+    writing::write_u8(&mut body, WHOLE_TAG)?;
+    writing::write_image_into(&mut body, registered, modules, seq)?;
     Ok(body)
 }

@@ -1,5 +1,6 @@
 -- Each source has tokens or a refusal, and one of them alone.
-use Rattle.std.proofs.Common.{◌≡◌, ◌↔◌, ℕ, zero, suc, ◌<◌, ◌≤◌, ◌⊎◌, inl, inr, nat_lt, Bool, true, false, cond, List, [], length, take, Result, Ok, Err, refl, sym, ◌∙◌, ap, subst, arith}
+use Rattle.std.proofs.Common.{◌≡◌, ◌↔◌, ℕ, zero, suc, ◌<◌, ◌≤◌, ◌⊎◌, inl, inr, nat_lt, Bool, true, false, cond, List}
+use Rattle.std.proofs.Common.{[], length, take, Result, Ok, Err, refl, sym, ◌∙◌, ap, subst, arith}
 use Rattle.std.proofs.lemmas.Bool.{cases_lt}
 use Rattle.std.proofs.lemmas.Bool.Decides.{nat_tests}
 use Rattle.std.proofs.lemmas.Grind.{common_steps}
@@ -13,7 +14,7 @@ use Rattle.ash_lex.proofs.OneReading.{tokens_agree, faults_agree, tokens_or_faul
 use Rattle.ash_meaning.specs.Refusals.{Refusal}
 use Rattle.ash_meaning.specs.Refusals as refusals
 use Rattle.ash_meaning.specs.Lexing.{IsText, IsNoText, lexical, Lexes}
-use Rattle.ash_meaning.specs.Scanning.{scan, told, lexed}
+use Rattle.ash_meaning.specs.Scanning.{scan, lex_result, lexed}
 use Rattle.ash_meaning.proofs.ScanLaws.{IsScan, scan-is}
 
 -- the longest part from the beginning that is UTF-8
@@ -22,18 +23,25 @@ take_whole : (bs : List ℕ) (m : ℕ) → length bs ≤ m → take m bs ≡ bs
 take_whole bs m h = grind (arith, common_steps)
 
 -- the part that ends here, if it is UTF-8, or else what is found before it
-ends_at : (bs : List ℕ) (n : ℕ) → suc n ≤ length bs → ((m : ℕ) → suc n ≤ m → IsUtf8 (take m bs) → ⊥) → (((m : ℕ) → n ≤ m → IsUtf8 (take m bs) → ⊥) → (k : ℕ) × IsValidUpTo bs k) → (v : Bool) → is_utf8 (take n bs) ≡ v → (k : ℕ) × IsValidUpTo bs k
-ends_at bs n within none before true e = (n, record { short = omega arith; front = IsUtf8-from_is_utf8 (take n bs) e; longest = λ m h. none m (omega arith) })
+ends_at : (bs : List ℕ) (n : ℕ) → suc n ≤ length bs → ((m : ℕ) → suc n ≤ m → IsUtf8 (take m bs) → ⊥)
+    → (((m : ℕ) → n ≤ m → IsUtf8 (take m bs) → ⊥) → (k : ℕ) × IsValidUpTo bs k) → (v : Bool) → is_utf8 (take n bs) ≡ v
+    → (k : ℕ) × IsValidUpTo bs k
+ends_at bs n within none before true e = (
+  n,
+  record { short = omega arith; front = IsUtf8-from_is_utf8 (take n bs) e; longest = λ m h. none m (omega arith) },
+)
 ends_at bs n within none before false e =
     before (λ m h u. elim (cases_lt n m) [
       | inl more ↦ none m (omega arith) u
       | inr less ↦
           let same : m ≡ n = omega arith in
-          let is : is_utf8 (take n bs) ≡ true = is_utf8-from_IsUtf8 (take n bs) (subst (λ k. IsUtf8 (take k bs)) same u) in
+          let is : is_utf8 (take n bs) ≡ true = is_utf8-from_IsUtf8 (take n bs) (subst (λ k. IsUtf8 (take k bs)) same u)
+          in
           cc
     ])
 
-longest : (bs : List ℕ) (n : ℕ) → n ≤ length bs → ((m : ℕ) → n ≤ m → IsUtf8 (take m bs) → ⊥) → (k : ℕ) × IsValidUpTo bs k
+longest : (bs : List ℕ) (n : ℕ) → n ≤ length bs → ((m : ℕ) → n ≤ m → IsUtf8 (take m bs) → ⊥) → (k : ℕ)
+    × IsValidUpTo bs k
 longest bs zero within none = absurd (none 0 (omega arith) ([], (refl, refl)))
 longest bs (suc n) within none = ends_at bs n within none (λ h. longest bs n (omega arith) h) (is_utf8 (take n bs)) refl
 
@@ -45,7 +53,8 @@ no_text source e =
     subst (IsValidUpTo source) (sym (utf8_valid_len-IsValidUpTo source found.0 found.1)) found.1
 
 not_utf8 : (source : List ℕ) (at : ℕ) → IsValidUpTo source at → (v : Bool) → is_utf8 source ≡ v → v ≡ false
-not_utf8 source at valid true e = absurd (valid.longest (length source) valid.short (rw (take_whole source (length source) (omega arith)) (IsUtf8-from_is_utf8 source e)))
+not_utf8 source at valid true e = absurd (valid.longest (length source) valid.short
+    (rw (take_whole source (length source) (omega arith)) (IsUtf8-from_is_utf8 source e)))
 not_utf8 source at valid false e = refl
 
 -- the tests of a length
@@ -58,21 +67,26 @@ is_short n h = grind (arith, nat_tests)
 
 -- what is found is what the source has
 
-fault_is : (source : List ℕ) → IsText source → (fault : LexFault) → FirstFault source fault → Lexes source (Err (lexical fault))
+fault_is : (source : List ℕ) → IsText source → (fault : LexFault) → FirstFault source fault
+    → Lexes source (Err (lexical fault))
 fault_is source text (faults.BadCharacter at) h = inr (text, h)
 fault_is source text (faults.UnclosedComment at) h = (text, h)
 fault_is source text (faults.NumberTooLarge at) h = (text, h)
 fault_is source text faults.SourceTooLong h = absurd h.5
 fault_is source text faults.NoMemory h = absurd h.5
 
-told_is : (source : List ℕ) → IsText source → (r : Result (List Lexeme) LexFault) → IsScan source r → Lexes source (told r)
-told_is source text (Ok tokens) h = (text, h)
-told_is source text (Err fault) h = fault_is source text fault h
+lex_result_is : (source : List ℕ) → IsText source → (r : Result (List Lexeme) LexFault) → IsScan source r
+    → Lexes source (lex_result r)
+lex_result_is source text (Ok tokens) h = (text, h)
+lex_result_is source text (Err fault) h = fault_is source text fault h
 
-by_tests : (source : List ℕ) (long utf8 : Bool) → nat_lt 65536 (length source) ≡ long → is_utf8 source ≡ utf8 → Lexes source (cond long (Err refusals.SourceTooLong) (cond utf8 (told (scan source)) (Err (refusals.BadCharacter (utf8_valid_len source)))))
+by_tests : (source : List ℕ) (long utf8 : Bool) → nat_lt 65536 (length source) ≡ long → is_utf8 source ≡ utf8
+    → Lexes source (cond long (Err refusals.SourceTooLong)
+    (cond utf8 (lex_result (scan source)) (Err (refusals.BadCharacter (utf8_valid_len source)))))
 by_tests source true utf8 e f = grind (arith, nat_tests)
-by_tests source false true e f = told_is source (record { short = grind (arith, nat_tests); utf8 = IsUtf8-from_is_utf8 source f }) (scan source) (scan-is source)
-by_tests source false false e f = inl (record { short = grind (arith, nat_tests); front = no_text source f })
+by_tests source false true e f = lex_result_is source
+    (record { short = grind (arith, nat_tests); utf8 = IsUtf8-from_is_utf8 source f }) (scan source) (scan-is source)
+by_tests source false false e f = inl (record { short = grind (arith, nat_tests); valid = no_text source f })
 
 pub lexed-is : (source : List ℕ) → Lexes source (lexed source)
 unfolding lexed
@@ -80,28 +94,36 @@ lexed-is source = by_tests source (nat_lt 65536 (length source)) (is_utf8 source
 
 -- and what the source has is found
 
-told_tokens : (source : List ℕ) (tokens : List Lexeme) → Spells source tokens → (r : Result (List Lexeme) LexFault) → IsScan source r → told r ≡ Ok tokens
-told_tokens source tokens spells (Ok other) h = ap (λ x. Ok x) (tokens_agree source other tokens h spells)
-told_tokens source tokens spells (Err fault) h = absurd (tokens_or_fault source tokens fault spells h)
+lex_result_tokens : (source : List ℕ) (tokens : List Lexeme) → Spells source tokens
+    → (r : Result (List Lexeme) LexFault) → IsScan source r → lex_result r ≡ Ok tokens
+lex_result_tokens source tokens spells (Ok other) h = ap (λ x. Ok x) (tokens_agree source other tokens h spells)
+lex_result_tokens source tokens spells (Err fault) h = absurd (tokens_or_fault source tokens fault spells h)
 
-told_fault : (source : List ℕ) (fault : LexFault) → FirstFault source fault → (r : Result (List Lexeme) LexFault) → IsScan source r → told r ≡ Err (lexical fault)
-told_fault source fault first (Ok tokens) h = absurd (tokens_or_fault source tokens fault h first)
-told_fault source fault first (Err other) h = ap (λ x. Err (lexical x)) (faults_agree source other fault h first)
+lex_result_fault : (source : List ℕ) (fault : LexFault) → FirstFault source fault → (r : Result (List Lexeme) LexFault)
+    → IsScan source r → lex_result r ≡ Err (lexical fault)
+lex_result_fault source fault first (Ok tokens) h = absurd (tokens_or_fault source tokens fault h first)
+lex_result_fault source fault first (Err other) h = ap (λ x. Err (lexical x)) (faults_agree source other fault h first)
 
-pub of_text : (source : List ℕ) → IsText source → lexed source ≡ told (scan source)
+pub of_text : (source : List ℕ) → IsText source → lexed source ≡ lex_result (scan source)
 unfolding lexed
 of_text source text = rw (is_short (length source) text.short, is_utf8-from_IsUtf8 source text.utf8) refl
 
 of_no_text : (source : List ℕ) (at : ℕ) → IsNoText source at → lexed source ≡ Err (refusals.BadCharacter at)
 unfolding lexed
-of_no_text source at h = rw (is_short (length source) h.short, not_utf8 source at h.front (is_utf8 source) refl, utf8_valid_len-IsValidUpTo source at h.front) refl
+of_no_text source at h = rw (
+  is_short (length source) h.short,
+  not_utf8 source at h.valid (is_utf8 source) refl,
+  utf8_valid_len-IsValidUpTo source at h.valid,
+) refl
 
 of_long : (source : List ℕ) → 65536 < length source → lexed source ≡ Err refusals.SourceTooLong
 unfolding lexed
 of_long source h = rw (is_long (length source) h) refl
 
-of_fault : (source : List ℕ) (fault : LexFault) → IsText source → FirstFault source fault → lexed source ≡ Err (lexical fault)
-of_fault source fault text first = of_text source text ∙ told_fault source fault first (scan source) (scan-is source)
+of_fault : (source : List ℕ) (fault : LexFault) → IsText source → FirstFault source fault
+    → lexed source ≡ Err (lexical fault)
+of_fault source fault text first = of_text source text
+    ∙ lex_result_fault source fault first (scan source) (scan-is source)
 
 refusal_is : (source : List ℕ) (refusal : Refusal) → Lexes source (Err refusal) → lexed source ≡ Err refusal
 refusal_is source refusals.SourceTooLong h = of_long source h
@@ -112,7 +134,8 @@ refusal_is source (refusals.NumberTooLarge at) h = of_fault source (faults.Numbe
 refusal_is source _ h = absurd h
 
 pub lexed-only : (source : List ℕ) (r : Result (List Lexeme) Refusal) → Lexes source r → lexed source ≡ r
-lexed-only source (Ok tokens) h = of_text source h.0 ∙ told_tokens source tokens h.1 (scan source) (scan-is source)
+lexed-only source (Ok tokens) h = of_text source h.0
+    ∙ lex_result_tokens source tokens h.1 (scan source) (scan-is source)
 lexed-only source (Err refusal) h = refusal_is source refusal h
 
 -- the function says exactly what the relation says
@@ -127,10 +150,12 @@ lexes_total source = (lexed source, lexed-is source)
 pub lexes_one : (source : List ℕ) (a b : Result (List Lexeme) Refusal) → Lexes source a → Lexes source b → a ≡ b
 lexes_one source a b x y = sym (lexed-only source a x) ∙ lexed-only source b y
 
--- what the lexer refuses is refused for what it tells, unless memory was refused to a text
-pub refused_is : (source text : List ℕ) (fault : LexFault) → length source ≤ 65536 → text ≡ source → IsUtf8 source → IsRefusal text fault → ((lexical fault ≡ refusals.NoMemory) × IsText source) ⊎ Lexes source (Err (lexical fault))
+-- what the lexer refuses is refused for what it reports, unless memory was refused to a text
+pub refused_is : (source text : List ℕ) (fault : LexFault) → length source ≤ 65536 → text ≡ source → IsUtf8 source
+    → IsRefusal text fault → ((lexical fault ≡ refusals.NoMemory) × IsText source) ⊎ Lexes source (Err (lexical fault))
 refused_is source text fault short same utf8 h = by_fault fault (rw same at h) where
-  by_fault : (f : LexFault) → IsRefusal source f → ((lexical f ≡ refusals.NoMemory) × IsText source) ⊎ Lexes source (Err (lexical f))
+  by_fault : (f : LexFault) → IsRefusal source f → ((lexical f ≡ refusals.NoMemory) × IsText source)
+      ⊎ Lexes source (Err (lexical f))
   by_fault (faults.BadCharacter at) h = inr (inr (record { short = short; utf8 = utf8 }, h.1))
   by_fault (faults.UnclosedComment at) h = inr (record { short = short; utf8 = utf8 }, h.1)
   by_fault (faults.NumberTooLarge at) h = inr (record { short = short; utf8 = utf8 }, h.1)

@@ -3,8 +3,9 @@ use Rattle.std.proofs.Common.{◌≡◌, ℕ, ◌<◌, ◌≤◌, Bool, true, fa
 use Rattle.std.specs.List.{AllByRecursion}
 use Rattle.ash_subset.specs.declared.tree.Place.{Place}
 use Rattle.ash_subset.specs.declared.tree.Place.TheVariants.{Local, Global}
-use Rattle.ash_subset.specs.Tree.{Expr, Literal, Read, Chain, Links, none, link, Action, Assign, Update, Return, Stmt, Function, Global as Variable, Module}
-use Rattle.ash_meaning.specs.Kept.{IsInt}
+use Rattle.ash_subset.specs.Tree.{Expr, Literal, Read, Chain, Links, none, link, Action, Assign, Update, Return, Stmt}
+use Rattle.ash_subset.specs.Tree.{Function, Global as Variable, Module}
+use Rattle.ash_meaning.specs.StoredModules.{IsInt}
 
 -- the variable is one of so many locals or globals
 abbrev pub IsPlace : ℕ → ℕ → Place → Type 0
@@ -46,10 +47,12 @@ pub record IsTypedModule (m : Module) : Type 0 where
 
 -- ---- what was made, taken apart
 
-pub map_some : {A B P : Type 0} (f : A → B) (x : Option A) (z : B) → option_map f x ≡ Some z → ((a : A) → x ≡ Some a → f a ≡ z → P) → P
+pub map_some : {A B P : Type 0} (f : A → B) (x : Option A) (z : B) → option_map f x ≡ Some z
+    → ((a : A) → x ≡ Some a → f a ≡ z → P) → P
 map_some f None z e k = absurd (cc)
 map_some f (Some a) z e k = k a refl (cc)
 
-pub cond_some : {A P : Type 0} (b : Bool) (x : Option A) (z : A) → cond b x None ≡ Some z → (b ≡ true → x ≡ Some z → P) → P
+pub cond_some : {A P : Type 0} (b : Bool) (x : Option A) (z : A) → cond b x None ≡ Some z → (b ≡ true → x ≡ Some z → P)
+    → P
 cond_some true x z e k = k refl e
 cond_some false x z e k = absurd (cc)

@@ -1,8 +1,11 @@
 -- What checking a source comes to: the items of its script, or the refusal for which it is none that is typed.
 --
--- A source that has no tokens is refused for that, and one whose tokens are no script for their first fault. A script is
--- accepted exactly where the rules of typing give it a typed module and no class reaches itself by what its fields hold. One
--- that the rules give none is refused for the first fault of the walk, and one with such a class for the cycle that is told.
+-- A source that has no tokens is refused for that, and one whose tokens are no script for their first fault. A script
+-- is
+-- accepted exactly where the rules of typing give it a typed module and no class reaches itself by what its fields
+-- hold. One
+-- that the rules give none is refused for the first fault of the walk, and one with such a class for the cycle that is
+-- reported.
 use Rattle.std.specs.Prelude.{◌≡◌, ◌⊎◌, ◌-◌, ℕ, List, length, map, Option, Some, None, Result, Ok, Err}
 use Rattle.std.specs.List.{slice_get}
 use Rattle.ash_lex.specs.Tokens.{Meaning, Lexeme}
@@ -33,8 +36,8 @@ use Rattle.ash_meaning.specs.Refusals.{Refusal}
 use Rattle.ash_meaning.specs.Refusals as refusals
 
 -- the items of a script that is typed, or a refusal
-abbrev pub Checking : Type 0
-Checking = Result (List Item) Refusal
+abbrev pub CheckResult : Type 0
+CheckResult = Result (List Item) Refusal
 
 -- tokens as the grammar sees them
 
@@ -54,14 +57,14 @@ end_in tokens = end_by (slice_get tokens (length tokens - 1))
 
 -- why tokens are no script
 
--- the refusal that tells a fault of the grammar
+-- the refusal of a fault of the grammar
 abbrev pub syntactic : ParseFault → Refusal
 syntactic (faults.Unexpected at) = refusals.Unexpected at
 syntactic (faults.Unsupported word at) = refusals.Unsupported word at
 syntactic (faults.TooDeep at) = refusals.TooDeep at
 syntactic faults.NoMemory = refusals.NoMemory
 
--- the refusal that tells of a fault of tokens
+-- the refusal of a fault of tokens
 abbrev pub refusal_at : List Lexeme → Halt → Refusal
 refusal_at tokens halt = syntactic (fault_of (end_in tokens) halt)
 
@@ -69,11 +72,11 @@ refusal_at tokens halt = syntactic (fault_of (end_in tokens) halt)
 pub record IsNoScript (tokens : List Lexeme) (refusal : Refusal) : Type 0 where
   pub halt : Halt
   pub first : FirstFault (tokens_in tokens) halt
-  pub told : refusal ≡ refusal_at tokens halt
+  pub reported : refusal ≡ refusal_at tokens halt
 
 -- why a script is not typed
 
--- the refusal that tells a broken rule of typing, at an offset
+-- the refusal of a broken rule of typing, at an offset
 abbrev pub broken_at : Rule → ℕ → Refusal
 broken_at rules.UnknownName at = refusals.UnknownName at
 broken_at rules.UnknownType at = refusals.UnknownType at
@@ -88,18 +91,18 @@ broken_at rules.TooMany at = refusals.TooMany at
 broken_at rules.ConstantOutOfRange at = refusals.ConstantOutOfRange at
 broken_at rules.DuplicateCase at = refusals.DuplicateCase at
 
--- the refusal that tells what the check of types tells
+-- the refusal of what the check of types reports
 abbrev pub untyped : Told → Refusal
 untyped (Broken fault) = broken_at fault.rule fault.at
 untyped (Cyclic names) = refusals.CyclicType names
 
--- the refusal that tells a fault of the check of types, which tells nothing where memory was refused
-abbrev pub of_told : Option Told → Refusal
-of_told (Some why) = untyped why
-of_told None = refusals.NoMemory
+-- the refusal of a fault of the check of types, which reports nothing where memory was refused
+abbrev pub refusal_of_error : Option Told → Refusal
+refusal_of_error (Some why) = untyped why
+refusal_of_error None = refusals.NoMemory
 
 abbrev pub of_check : CheckFault → Refusal
-of_check fault = of_told (told_of fault)
+of_check fault = refusal_of_error (told_of fault)
 
 -- The tokens are those of a script with these items: the rules of typing give it a typed module, and no class reaches
 -- itself.
@@ -109,17 +112,19 @@ pub record IsTypedScript (registered : List Registration) (tokens : List Lexeme)
   pub by_rules : IsTyped registered items typed
   pub acyclic : (class : ℕ) → Reaches (Refers (classes_of items)) class class → ⊥
 
--- The tokens are those of a script that breaks a rule of typing: it is refused for the first fault, in the order in which
+-- The tokens are those of a script that breaks a rule of typing: it is refused for the first fault, in the order in
+-- which
 -- a script is walked.
 pub record IsUntypedScript (registered : List Registration) (tokens : List Lexeme) (refusal : Refusal) : Type 0 where
   pub items : List Item
   pub derived : Derives 0 (tokens_in tokens) items
   pub fault : Fault
   pub first : module_typed registered items ≡ Err fault
-  pub told : refusal ≡ broken_at fault.rule fault.at
+  pub reported : refusal ≡ broken_at fault.rule fault.at
 
--- The tokens are those of a script to which the rules give a typed module, and a class reaches itself: it is refused for
--- the one cycle that is told.
+-- The tokens are those of a script to which the rules give a typed module, and a class reaches itself: it is refused
+-- for
+-- the one cycle that is reported.
 pub record IsCyclicScript (registered : List Registration) (tokens : List Lexeme) (refusal : Refusal) : Type 0 where
   pub items : List Item
   pub derived : Derives 0 (tokens_in tokens) items
@@ -128,19 +133,23 @@ pub record IsCyclicScript (registered : List Registration) (tokens : List Lexeme
   pub first : ℕ
   pub others : List ℕ
   pub cycle : IsTold (Refers (classes_of items)) first others
-  pub told : refusal ≡ refusals.CyclicType (round_of (classes_of items) (first, others))
+  pub reported : refusal ≡ refusals.CyclicType (round_of (classes_of items) (first, others))
 
 -- what checking the tokens of a source comes to
-abbrev pub ChecksTokens : List Registration → List Lexeme → Checking → Type 0
+abbrev pub ChecksTokens : List Registration → List Lexeme → CheckResult → Type 0
 ChecksTokens registered tokens (Ok items) = IsTypedScript registered tokens items
-ChecksTokens registered tokens (Err refusal) = IsNoScript tokens refusal ⊎ IsUntypedScript registered tokens refusal ⊎ IsCyclicScript registered tokens refusal
+ChecksTokens registered tokens (Err refusal) = IsNoScript tokens refusal ⊎ IsUntypedScript registered tokens refusal
+    ⊎ IsCyclicScript registered tokens refusal
 
 -- what checking a source comes to, where these calls are registered
-pub data Checks (registered : List Registration) (source : List ℕ) (checking : Checking) : Type 0 where
-  no_tokens : (refusal : Refusal) → checking ≡ Err refusal → Lexes source (Err refusal) → Checks registered source checking
-  has_tokens : (tokens : List Lexeme) → Lexes source (Ok tokens) → ChecksTokens registered tokens checking → Checks registered source checking
+pub data Checks (registered : List Registration) (source : List ℕ) (checking : CheckResult) : Type 0 where
+  no_tokens : (refusal : Refusal) → checking ≡ Err refusal → Lexes source (Err refusal)
+      → Checks registered source checking
+  has_tokens : (tokens : List Lexeme) → Lexes source (Ok tokens) → ChecksTokens registered tokens checking
+      → Checks registered source checking
 
--- A source is accepted where it has tokens, the grammar derives a script from them, the rules give that a typed module and
+-- A source is accepted where it has tokens, the grammar derives a script from them, the rules give that a typed module
+-- and
 -- no class reaches itself.
 pub record IsAccepted (registered : List Registration) (source : List ℕ) : Type 0 where
   pub tokens : List Lexeme
@@ -160,7 +169,7 @@ pub record HasCycle (registered : List Registration) (source : List ℕ) : Type 
   pub class : ℕ
   pub round : Reaches (Refers (classes_of items)) class class
 
--- the refusal of such a source, with the cycle that is told
+-- the refusal of such a source, with the cycle that is reported
 pub record ReportsCycle (registered : List Registration) (source : List ℕ) (refusal : Refusal) : Type 0 where
   pub tokens : List Lexeme
   pub lexed : Lexes source (Ok tokens)
@@ -168,51 +177,51 @@ pub record ReportsCycle (registered : List Registration) (source : List ℕ) (re
 
 -- The same as a function: that it gives what checking the source comes to is proved of it.
 
-abbrev pub unless_told : List Item → Result Module Told → Checking
-unless_told items (Ok typed) = Ok items
-unless_told items (Err why) = Err (untyped why)
+abbrev pub unless_fault : List Item → Result Module Told → CheckResult
+unless_fault items (Ok typed) = Ok items
+unless_fault items (Err why) = Err (untyped why)
 
-abbrev pub items_checked : List Registration → List Item → Checking
-items_checked registered items = unless_told items (checked registered items)
+abbrev pub items_checked : List Registration → List Item → CheckResult
+items_checked registered items = unless_fault items (checked registered items)
 
-abbrev pub script_checked : List Registration → List Lexeme → Parsing (List Item) → Checking
+abbrev pub script_checked : List Registration → List Lexeme → Parsing (List Item) → CheckResult
 script_checked registered tokens (Ok script) = items_checked registered script.0
 script_checked registered tokens (Err halt) = Err (refusal_at tokens halt)
 
-unfoldable pub tokens_checked : List Registration → List Lexeme → Checking
+unfoldable pub tokens_checked : List Registration → List Lexeme → CheckResult
 tokens_checked registered tokens = script_checked registered tokens (module_at (tokens_in tokens))
 
-abbrev pub checked_on : List Registration → Result (List Lexeme) Refusal → Checking
+abbrev pub checked_on : List Registration → Result (List Lexeme) Refusal → CheckResult
 checked_on registered (Ok tokens) = tokens_checked registered tokens
 checked_on registered (Err refusal) = Err refusal
 
-unfoldable pub checked_source : List Registration → List ℕ → Checking
+unfoldable pub checked_source : List Registration → List ℕ → CheckResult
 checked_source registered source = checked_on registered (lexed source)
 
 -- A source whose length alone refuses it takes no memory to check.
-abbrev pub TakesToTell : Refusal → Type 0
-TakesToTell (refusals.BadCharacter at) = Unit {0}
-TakesToTell (refusals.UnclosedComment at) = Unit {0}
-TakesToTell (refusals.NumberTooLarge at) = Unit {0}
-TakesToTell (refusals.Unexpected at) = Unit {0}
-TakesToTell (refusals.Unsupported word at) = Unit {0}
-TakesToTell (refusals.TooDeep at) = Unit {0}
-TakesToTell (refusals.UnknownName at) = Unit {0}
-TakesToTell (refusals.UnknownType at) = Unit {0}
-TakesToTell (refusals.NameTaken at) = Unit {0}
-TakesToTell (refusals.TypeMismatch at) = Unit {0}
-TakesToTell (refusals.WrongArgumentCount at) = Unit {0}
-TakesToTell (refusals.NotAssignable at) = Unit {0}
-TakesToTell (refusals.NoReturn at) = Unit {0}
-TakesToTell (refusals.Misplaced at) = Unit {0}
-TakesToTell (refusals.CyclicType names) = Unit {0}
-TakesToTell (refusals.NoFactory at) = Unit {0}
-TakesToTell (refusals.TooMany at) = Unit {0}
-TakesToTell (refusals.ConstantOutOfRange at) = Unit {0}
-TakesToTell (refusals.DuplicateCase at) = Unit {0}
-TakesToTell refusals.NotYet = Unit {0}
-TakesToTell _ = ⊥
+abbrev pub TakesMemoryToRefuse : Refusal → Type 0
+TakesMemoryToRefuse (refusals.BadCharacter at) = Unit {0}
+TakesMemoryToRefuse (refusals.UnclosedComment at) = Unit {0}
+TakesMemoryToRefuse (refusals.NumberTooLarge at) = Unit {0}
+TakesMemoryToRefuse (refusals.Unexpected at) = Unit {0}
+TakesMemoryToRefuse (refusals.Unsupported word at) = Unit {0}
+TakesMemoryToRefuse (refusals.TooDeep at) = Unit {0}
+TakesMemoryToRefuse (refusals.UnknownName at) = Unit {0}
+TakesMemoryToRefuse (refusals.UnknownType at) = Unit {0}
+TakesMemoryToRefuse (refusals.NameTaken at) = Unit {0}
+TakesMemoryToRefuse (refusals.TypeMismatch at) = Unit {0}
+TakesMemoryToRefuse (refusals.WrongArgumentCount at) = Unit {0}
+TakesMemoryToRefuse (refusals.NotAssignable at) = Unit {0}
+TakesMemoryToRefuse (refusals.NoReturn at) = Unit {0}
+TakesMemoryToRefuse (refusals.Misplaced at) = Unit {0}
+TakesMemoryToRefuse (refusals.CyclicType names) = Unit {0}
+TakesMemoryToRefuse (refusals.NoFactory at) = Unit {0}
+TakesMemoryToRefuse (refusals.TooMany at) = Unit {0}
+TakesMemoryToRefuse (refusals.ConstantOutOfRange at) = Unit {0}
+TakesMemoryToRefuse (refusals.DuplicateCase at) = Unit {0}
+TakesMemoryToRefuse refusals.NotYet = Unit {0}
+TakesMemoryToRefuse _ = ⊥
 
-abbrev pub TakesToCheck : Checking → Type 0
-TakesToCheck (Ok items) = Unit {0}
-TakesToCheck (Err refusal) = TakesToTell refusal
+abbrev pub TakesMemoryToCheck : CheckResult → Type 0
+TakesMemoryToCheck (Ok items) = Unit {0}
+TakesMemoryToCheck (Err refusal) = TakesMemoryToRefuse refusal

@@ -9,20 +9,20 @@ use Rattle.ash_meaning.specs.Refusals.{Refusal}
 use Rattle.ash_meaning.specs.Refusals as refusals
 
 -- how many bytes a source has at most
-abbrev pub LONGEST : ℕ
-LONGEST = 65536
+abbrev pub max_source_bytes : ℕ
+max_source_bytes = 65536
 
 -- a source that is text, and not too long
 pub record IsText (source : List ℕ) : Type 0 where
-  pub short : length source ≤ LONGEST
+  pub short : length source ≤ max_source_bytes
   pub utf8 : IsUtf8 source
 
 -- a source that is no text: its longest part from the beginning that is UTF-8 ends at this offset, before its end
 pub record IsNoText (source : List ℕ) (at : ℕ) : Type 0 where
-  pub short : length source ≤ LONGEST
-  pub front : IsValidUpTo source at
+  pub short : length source ≤ max_source_bytes
+  pub valid : IsValidUpTo source at
 
--- the refusal that tells a lexical fault
+-- the refusal of a lexical fault
 abbrev pub lexical : LexFault → Refusal
 lexical (faults.BadCharacter at) = refusals.BadCharacter at
 lexical (faults.UnclosedComment at) = refusals.UnclosedComment at
@@ -33,8 +33,9 @@ lexical faults.NoMemory = refusals.NoMemory
 -- what a source's tokens are, or the refusal for which it has none
 abbrev pub Lexes : List ℕ → Result (List Lexeme) Refusal → Type 0
 Lexes source (Ok tokens) = IsText source × Spells source tokens
-Lexes source (Err refusals.SourceTooLong) = LONGEST < length source
-Lexes source (Err (refusals.BadCharacter at)) = IsNoText source at ⊎ (IsText source × FirstFault source (faults.BadCharacter at))
+Lexes source (Err refusals.SourceTooLong) = max_source_bytes < length source
+Lexes source (Err (refusals.BadCharacter at)) = IsNoText source at
+    ⊎ (IsText source × FirstFault source (faults.BadCharacter at))
 Lexes source (Err (refusals.UnclosedComment at)) = IsText source × FirstFault source (faults.UnclosedComment at)
 Lexes source (Err (refusals.NumberTooLarge at)) = IsText source × FirstFault source (faults.NumberTooLarge at)
 Lexes source (Err _) = ⊥

@@ -1,9 +1,9 @@
-pub mod Refusals
-pub mod State
-pub mod Lexing
-pub mod Scanning
 pub mod Checking
-pub mod Reading
-pub mod Step
-pub mod Kept
+pub mod Lexing
 pub mod Plain
+pub mod Reading
+pub mod Refusals
+pub mod Scanning
+pub mod State
+pub mod Step
+pub mod StoredModules

@@ -41,7 +41,7 @@ pub data Refusal : Type 0 where
   GenerationSpent : Refusal
   NoMemory : Refusal
 
--- what the code's refusals stand for
+-- what the code's refusals represent
 
 abbrev pub texts_of : class_names.ClassNames → List (List ℕ)
 texts_of names = map string_bytes names.0.items

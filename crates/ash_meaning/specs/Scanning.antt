@@ -1,6 +1,7 @@
 -- The tokens of a source as a function of it, one longest piece after another. That it gives the tokens that the source
 -- has, or the refusal for which it has none, is proved of it.
-use Rattle.std.specs.Prelude.{ℕ, ◌+◌, ◌^◌, nat_lt, nat_le, if◌then◌else◌, List, [], ◌∷◌, ◌++◌, length, take, drop, nat_eq, count_by, Option, Some, None, Result, Ok, Err, zero, suc}
+use Rattle.std.specs.Prelude.{ℕ, ◌+◌, ◌^◌, nat_lt, nat_le, if◌then◌else◌, List, [], ◌∷◌, ◌++◌, length, take, drop}
+use Rattle.std.specs.Prelude.{nat_eq, count_by, Option, Some, None, Result, Ok, Err, zero, suc}
 use Rattle.std.specs.List.{starts_with}
 use Rattle.std.specs.Str.{is_utf8}
 use Rattle.std.specs.Str.Lossy.{utf8_valid_len}
@@ -14,7 +15,7 @@ use Rattle.ash_lex.specs.declared.words.ReservedWord.{ReservedWord}
 use Rattle.ash_lex.specs.declared.words.UnsupportedWord.{UnsupportedWord}
 use Rattle.ash_lex.specs.declared.faults.LexFault.{LexFault}
 use Rattle.ash_lex.specs.declared.faults.LexFault.TheVariants as faults
-use Rattle.ash_meaning.specs.Lexing.{LONGEST, lexical}
+use Rattle.ash_meaning.specs.Lexing.{max_source_bytes, lexical}
 use Rattle.ash_meaning.specs.Refusals.{Refusal}
 use Rattle.ash_meaning.specs.Refusals as refusals
 
@@ -37,7 +38,7 @@ word piece = word_by piece (reserved_word piece) (unsupported_word piece)
 abbrev pub numeral : ℕ → ℕ → ℕ → Step
 numeral place n value = if nat_lt value (2 ^ 64) then Token n (number value) else Fault (faults.NumberTooLarge place)
 
--- past the piece in front of what is left, at a place
+-- past the piece with which what is left begins, at a place
 abbrev pub step_over : ℕ → List ℕ → Option Piece → Step
 step_over place left None = Fault (faults.BadCharacter place)
 step_over place left (Some (pieces.Gap n)) = Gap n
@@ -53,7 +54,8 @@ From = ℕ → ℕ → List Lexeme → Result (List Lexeme) LexFault
 
 abbrev pub after : From → List ℕ → ℕ → ℕ → List Lexeme → Step → Result (List Lexeme) LexFault
 after more left place line tokens (Gap n) = more (place + n) (line + count_by is_line_feed (take n left)) tokens
-after more left place line tokens (Token n m) = more (place + n) line (tokens ++ record { meaning = m; line = line; from = place; to = place + n } ∷ [])
+after more left place line tokens (Token n m) =
+    more (place + n) line (tokens ++ record { meaning = m; line = line; from = place; to = place + n } ∷ [])
 after more left place line tokens (Fault fault) = Err fault
 
 -- with enough fuel to come to the text's end
@@ -61,18 +63,19 @@ abbrev pub scan_from : ℕ → List ℕ → From
 scan_from zero text place line tokens = Ok tokens
 scan_from (suc fuel) text place line tokens =
     if nat_le (length text) place then Ok tokens
-    else after (scan_from fuel text) (drop place text) place line tokens (step_over place (drop place text) (front (drop place text)))
+    else after (scan_from fuel text) (drop place text) place line tokens
+    (step_over place (drop place text) (front (drop place text)))
 
 -- a byte order mark at the beginning is no token
 unfoldable pub scan : List ℕ → Result (List Lexeme) LexFault
 scan text = scan_from (length text) text (if starts_with nat_eq text byte_order_mark then 3 else 0) 1 []
 
-abbrev pub told : Result (List Lexeme) LexFault → Result (List Lexeme) Refusal
-told (Ok tokens) = Ok tokens
-told (Err fault) = Err (lexical fault)
+abbrev pub lex_result : Result (List Lexeme) LexFault → Result (List Lexeme) Refusal
+lex_result (Ok tokens) = Ok tokens
+lex_result (Err fault) = Err (lexical fault)
 
 unfoldable pub lexed : List ℕ → Result (List Lexeme) Refusal
 lexed source =
-    if nat_lt LONGEST (length source) then Err refusals.SourceTooLong
-    else if is_utf8 source then told (scan source)
+    if nat_lt max_source_bytes (length source) then Err refusals.SourceTooLong
+    else if is_utf8 source then lex_result (scan source)
     else Err (refusals.BadCharacter (utf8_valid_len source))

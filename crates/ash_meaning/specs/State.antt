@@ -14,16 +14,17 @@ use Rattle.ash_subset.specs.Meaning.{End}
 use Rattle.ash_subset.specs.Outcomes.{end_of}
 
 -- a module that is kept: its name, its source and what its globals hold, in source order
-pub record Script : Type 0 where
+pub record LoadedModule : Type 0 where
   pub name : List ℕ
   pub source : List ℕ
   pub globals : List Word
 
--- what the embedding program has registered, which no request changes, the modules that are kept, by ascending name, and
+-- what the embedding program has registered, which no request changes, the modules that are kept, by ascending name,
+-- and
 -- how many requests have been answered
 pub record State : Type 0 where
   pub registered : List Registration
-  pub modules : List Script
+  pub modules : List LoadedModule
   pub seq : ℕ
 
 -- before any request
@@ -32,9 +33,9 @@ empty registered = record { registered = registered; modules = []; seq = 0 }
 
 pub data Request : Type 0 where
   Load : (name : List ℕ) → (source : List ℕ) → Request
-  Call : (script : List ℕ) → (function : List ℕ) → (arguments : List argument.Argument) → Request
+  Call : (module_name : List ℕ) → (function : List ℕ) → (arguments : List argument.Argument) → Request
   Discard : (name : List ℕ) → Request
-  Global : (script : List ℕ) → (name : List ℕ) → Request
+  Global : (module_name : List ℕ) → (name : List ℕ) → Request
   Seq : Request
   Snapshot : Request
 
@@ -45,13 +46,13 @@ pub data Reply : Type 0 where
   Done : Reply
   Refused : (refusal : Refusal) → Reply
 
--- what the code's requests and replies stand for
+-- what the code's requests and replies represent
 
 abbrev pub request_of : request.Request → Request
 request_of (requests.Load name source) = Load name.now source.now
-request_of (requests.Call script function arguments) = Call script.now function.now arguments.now
+request_of (requests.Call module_name function arguments) = Call module_name.now function.now arguments.now
 request_of (requests.Discard name) = Discard name.now
-request_of (requests.Global script name) = Global script.now name.now
+request_of (requests.Global module_name name) = Global module_name.now name.now
 request_of requests.Seq = Seq
 request_of requests.Snapshot = Snapshot
 

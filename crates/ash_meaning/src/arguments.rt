@@ -23,7 +23,8 @@ pub(crate) fn words_for(
     parameters: usize,
     arguments: &[Argument],
 ) -> Result<Option<Vec<Word>>, AllocError>
-    ensures words { IfOk result (λ words. option_map (λ v. v.items) words ≡ words_for parameters arguments.now) }
+    ensures words { IfOk result (λ words. option_map (λ v. v.items) words
+        ≡ words_for parameters arguments.now) }
     // Memory is taken only for arguments that fit.
     ensures memory { OnErr result (IsSome (words_for parameters arguments.now)) }
 {

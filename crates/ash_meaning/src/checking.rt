@@ -11,8 +11,8 @@ ghost use Rattle.ash_typed.specs.Modules.{Module as Typed};
 ghost use Rattle.ash_typing.specs.Nesting.{ItemsDeclareInBlocks};
 ghost use Rattle.ash_typing.specs.TypedModules.{IsFree, IsTyped};
 ghost use Rattle.ash_tree.specs.Items.{item_names};
-ghost use Rattle.ash_meaning.specs.Checking.{Checking, Checks, IsAccepted, HasCycle, ReportsCycle};
-ghost use Rattle.ash_meaning.specs.Checking.{items_checked, tokens_checked, checked_source, TakesToCheck};
+ghost use Rattle.ash_meaning.specs.Checking.{CheckResult, Checks, IsAccepted, HasCycle, ReportsCycle};
+ghost use Rattle.ash_meaning.specs.Checking.{items_checked, tokens_checked, checked_source, TakesMemoryToCheck};
 ghost use Rattle.ash_meaning.specs.Refusals.{refusal_of, NoMemory, CyclicType};
 
 use crate::lexing::tokens_of;
@@ -25,24 +25,32 @@ use ash_tree::Module;
 use std::alloc::Global;
 
 /// The script, if it is typed.
-fn typed_script(alloc: Global, registry: &Registry, script: Module) -> Result<Module, Refusal>
+fn typed_module(alloc: Global, registry: &Registry, script: Module) -> Result<Module, Refusal>
     requires nested { ItemsDeclareInBlocks (items_of script) }
-    ensures found { IfOk result (λ found. items_checked (registered registry.now) (items_of script) ≡ Ok (items_of found)) }
+    ensures found { IfOk result (λ found. items_checked (registered registry.now) (items_of script)
+        ≡ Ok (items_of found)) }
     ensures refused { IfErr result (λ refusal.
-        (refusal_of refusal ≡ NoMemory) ⊎ (items_checked (registered registry.now) (items_of script) ≡ Err (refusal_of refusal))) }
+        (refusal_of refusal ≡ NoMemory) ⊎ (items_checked (registered registry.now) (items_of script)
+        ≡ Err (refusal_of refusal))) }
 {
     check(alloc, registry, &script)?;
     Ok(script)
 }
 
 /// The script with these tokens, or why it is refused.
-fn script_with(alloc: Global, registry: &Registry, tokens: &[Token]) -> Result<Module, Refusal>
-    ensures found { IfOk result (λ script. tokens_checked (registered registry.now) (lexemes tokens.now) ≡ Ok (items_of script)) }
+fn module_with_tokens(
+    alloc: Global,
+    registry: &Registry,
+    tokens: &[Token],
+) -> Result<Module, Refusal>
+    ensures found { IfOk result (λ script. tokens_checked (registered registry.now)
+        (lexemes tokens.now) ≡ Ok (items_of script)) }
     ensures refused { IfErr result (λ refusal.
-        (refusal_of refusal ≡ NoMemory) ⊎ (tokens_checked (registered registry.now) (lexemes tokens.now) ≡ Err (refusal_of refusal))) }
+        (refusal_of refusal ≡ NoMemory) ⊎ (tokens_checked (registered registry.now)
+        (lexemes tokens.now) ≡ Err (refusal_of refusal))) }
 {
     match parse_module(alloc, tokens) {
-        Ok(script) => typed_script(alloc, registry, script),
+        Ok(script) => typed_module(alloc, registry, script),
         Err(fault) => Err(fault.into()),
     }
 }
@@ -52,58 +60,64 @@ fn script_with(alloc: Global, registry: &Registry, tokens: &[Token]) -> Result<M
 /// # Errors
 ///
 /// A source is refused for the first of these that holds: it has more than 65,536 bytes, it is no UTF-8, it has a
-/// lexical fault, its tokens are no script or stand too deep, the script breaks a rule of typing, classes of it could form
-/// a cycle. Or memory was refused.
-pub(crate) fn checked_script(
+/// lexical fault, its tokens are no script or are nested too deep, the script breaks a rule of typing, classes of it
+/// could form a cycle. Or memory was refused.
+pub(crate) fn checked_module(
     alloc: Global,
     registry: &Registry,
     source: &[u8],
 ) -> Result<Module, Refusal>
-    ensures found { IfOk result (λ script. checked_source (registered registry.now) source.now ≡ Ok (items_of script)) }
+    ensures found { IfOk result (λ script. checked_source (registered registry.now) source.now
+        ≡ Ok (items_of script)) }
     ensures refused { IfErr result (λ refusal.
-        ((refusal_of refusal ≡ NoMemory) × TakesToCheck (checked_source (registered registry.now) source.now))
+        ((refusal_of refusal ≡ NoMemory) × TakesMemoryToCheck
+        (checked_source (registered registry.now) source.now))
         ⊎ (checked_source (registered registry.now) source.now ≡ Err (refusal_of refusal))) }
 {
     match tokens_of(alloc, source) {
-        Ok(tokens) => script_with(alloc, registry, &tokens),
+        Ok(tokens) => module_with_tokens(alloc, registry, &tokens),
         Err(refusal) => Err(refusal),
     }
 }
 
-/// Checks a source as `load` does, where these calls are registered, and runs nothing. It is `Ok` where nothing is told,
-/// also of a script that is typed and can't be run so far.
+/// Checks a source as `load` does, where these calls are registered, and runs nothing. It is `Ok` where nothing is
+/// reported, also of a script that is typed and can't be run so far.
 ///
 /// # Errors
 ///
 /// The first of these that holds: `SourceTooLong`; `BadCharacter`, where it is no UTF-8; `BadCharacter`,
-/// `UnclosedComment` or `NumberTooLarge`, the first in the source; `Unexpected`, `Unsupported` or `TooDeep`, the first in
-/// the source; a rule of typing that is broken, the first in the order in which the script is walked; `CyclicType`. Or
-/// `NoMemory`, which a source that is too long never tells.
+/// `UnclosedComment` or `NumberTooLarge`, the first in the source; `Unexpected`, `Unsupported` or `TooDeep`, the first
+/// in the source; a rule of typing that is broken, the first in the order in which the script is walked; `CyclicType`.
+/// Or `NoMemory`, which a source that is too long never is.
 pub fn check_source(alloc: Global, registry: &Registry, source: &[u8]) -> Result<(), Refusal>
     // What is accepted by the rules, and nothing else; only memory may be in the way.
     ensures accepted { OnOk result (IsAccepted (registered registry.now) source.now) }
     ensures only { IsAccepted (registered registry.now) source.now →
         IfErr result (λ refusal. refusal_of refusal ≡ NoMemory) }
     // A cycle is answered where the rules give a typed module and some class reaches itself, and nowhere else.
-    ensures cycle { IfErr result (λ refusal. (names : List (List ℕ)) → refusal_of refusal ≡ CyclicType names →
+    ensures cycle { IfErr result (λ refusal. (names : List (List ℕ))
+        → refusal_of refusal ≡ CyclicType names →
         ReportsCycle (registered registry.now) source.now (refusal_of refusal)) }
-    ensures cyclic { HasCycle (registered registry.now) source.now → MatchResult result (λ _. ⊥) (λ refusal.
-        (refusal_of refusal ≡ NoMemory) ⊎ ReportsCycle (registered registry.now) source.now (refusal_of refusal)) }
+    ensures cyclic { HasCycle (registered registry.now) source.now
+        → MatchResult result (λ _. ⊥) (λ refusal.
+        (refusal_of refusal ≡ NoMemory) ⊎ ReportsCycle (registered registry.now) source.now
+        (refusal_of refusal)) }
     // All of it as one function of the source, with the first fault.
     ensures found { OnOk result (IsOk (checked_source (registered registry.now) source.now)) }
     ensures refused { IfErr result (λ refusal.
-        ((refusal_of refusal ≡ NoMemory) × TakesToCheck (checked_source (registered registry.now) source.now))
+        ((refusal_of refusal ≡ NoMemory) × TakesMemoryToCheck
+        (checked_source (registered registry.now) source.now))
         ⊎ (checked_source (registered registry.now) source.now ≡ Err (refusal_of refusal))) }
 {
-    match checked_script(alloc, registry, source) {
+    match checked_module(alloc, registry, source) {
         Ok(_script) => Ok(()),
         Err(why) => Err(why),
     }
 }
 
 /// Checking a source comes to one script that is typed, or to one refusal.
-pub fn one_checking()
-    ensures { (registered : List Call) (source : List ℕ) (checking : Checking) →
+pub fn checking_has_one_result()
+    ensures { (registered : List Call) (source : List ℕ) (checking : CheckResult) →
         (checked_source registered source ≡ checking) ↔ Checks registered source checking }
 {}
 

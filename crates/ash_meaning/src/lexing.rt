@@ -12,10 +12,11 @@ use std::alloc::Global;
 use std::str;
 
 /// The tokens of a source, or why it has none: it is longer than 65,536 bytes, or it is no UTF-8, or it has a lexical
-/// fault. The first of these that holds is told, or that memory was refused.
+/// fault. The first of these that holds is reported, or that memory was refused.
 pub(crate) fn tokens_of(alloc: Global, source: &[u8]) -> Result<Vec<Token>, Refusal>
     ensures spelled { IfOk result (λ tokens. Lexes source.now (Ok (lexemes tokens.items))) }
-    ensures refused { IfErr result (λ refusal. ((refusal_of refusal ≡ NoMemory) × IsText source.now) ⊎ Lexes source.now (Err (refusal_of refusal))) }
+    ensures refused { IfErr result (λ refusal. ((refusal_of refusal ≡ NoMemory) × IsText source.now)
+        ⊎ Lexes source.now (Err (refusal_of refusal))) }
 {
     if source.len() > MAX_SOURCE {
         return Err(Refusal::SourceTooLong);
@@ -35,8 +36,10 @@ pub(crate) fn tokens_of(alloc: Global, source: &[u8]) -> Result<Vec<Token>, Refu
 }
 
 /// A source has one list of tokens or one of the refusals above, and not both; `lexed` is that one, as a function.
-pub fn one_lexing()
+pub fn lexing_has_one_result()
     ensures total { (source : List ℕ) → (r : Result (List Lexeme) Refused) × Lexes source r }
-    ensures one { (source : List ℕ) (a b : Result (List Lexeme) Refused) → Lexes source a → Lexes source b → a ≡ b }
-    ensures exact { (source : List ℕ) (r : Result (List Lexeme) Refused) → (lexed source ≡ r) ↔ Lexes source r }
+    ensures one { (source : List ℕ) (a b : Result (List Lexeme) Refused) → Lexes source a
+        → Lexes source b → a ≡ b }
+    ensures exact { (source : List ℕ) (r : Result (List Lexeme) Refused)
+        → (lexed source ≡ r) ↔ Lexes source r }
 {}

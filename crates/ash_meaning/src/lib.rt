@@ -1,18 +1,18 @@
 //! The meaning of sources and of requests. Its specs say what a source is read as and what each request does; its code
-//! keeps the modules of a state and takes its steps, by the plain evaluator of `ash_subset`. It stands on `ash_host` and
-//! `ash_subset`; on `ash_lex`, `ash_parse` and `ash_check`, which read and type sources; and on `ash_registry`, whose names
-//! no module may declare. It promises that a request is answered as the specs say, each refusal being the first that
-//! holds.
+//! keeps the modules of a state and takes its steps, by the plain evaluator of `ash_subset`. It builds on `ash_host`
+//! and `ash_subset`; on `ash_lex`, `ash_parse` and `ash_check`, which read and type sources; and on `ash_registry`,
+//! whose names no module may declare. It promises that a request is answered as the specs say, each refusal being the
+//! first that holds.
 #![tactic(auto)]
 
 mod arguments;
 pub mod checking;
-pub mod kept;
 mod lexing;
+mod loaded_module;
 mod modules;
 pub mod name;
 pub mod plain;
 pub mod reading;
 pub mod refusal;
 pub mod request;
-mod script;
+pub mod stored;

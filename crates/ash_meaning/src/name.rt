@@ -5,7 +5,7 @@ ghost use Rattle.std.specs.List.{list_all};
 ghost use Rattle.ash_meaning.specs.Step.{is_name_start, is_name_part, is_name, is_module_name};
 
 /// The most bytes of a module's name.
-const MOST_BYTES: usize = 64;
+const MAX_NAME_BYTES: usize = 64;
 
 /// A letter or `_`.
 fn is_name_start(byte: u8) -> bool
@@ -46,5 +46,5 @@ fn all_name_parts(bytes: &[u8]) -> bool
 pub fn is_module_name(name: &[u8]) -> bool
     ensures { result ≡ is_module_name name.now }
 {
-    is_name(name) && name.len() <= MOST_BYTES
+    is_name(name) && name.len() <= MAX_NAME_BYTES
 }

@@ -2,17 +2,17 @@
 
 ghost use Rattle.std.specs.Prelude.{◌≡◌, ℕ, IfOk};
 ghost use Rattle.ash_registry.specs.Registered.{registered};
-ghost use Rattle.ash_meaning.specs.Kept.{Admits, IsRestored, state_of as stored_state, scripts_in};
+ghost use Rattle.ash_meaning.specs.StoredModules.{Admits, IsRestored, state_of as stored_state, loaded_modules_in};
 ghost use Rattle.ash_meaning.specs.State.{empty, Load, Call, Discard, Global as Read, request_of};
 ghost use Rattle.ash_meaning.specs.State.{answer_of, word_of, reply_of};
-ghost use Rattle.ash_meaning.specs.Step.{Steps, KeepsRefused, step};
+ghost use Rattle.ash_meaning.specs.Step.{Steps, RefusesUnchanged, step};
 
-use crate::kept::{ModuleParts, StoredModule, are_ascending};
+use crate::loaded_module::{self, LoadedModule};
 use crate::modules::{self, MAX_MODULES};
 use crate::name::is_module_name;
 use crate::refusal::Refusal;
 use crate::request::{Answer, Argument, Reply, Request};
-use crate::script::{self, Script};
+use crate::stored::{ModuleParts, StoredModule, are_ascending};
 use ash_host::Word;
 use ash_registry::Registry;
 use ash_subset::outcome::Outcome;
@@ -24,13 +24,13 @@ use std::marker::Model;
 pub struct PlainState {
     alloc: Global,
     registry: Registry,
-    modules: Vec<Script>,
+    modules: Vec<LoadedModule>,
     seq: u64,
 }
 
 impl Model for PlainState {
     ghost use Rattle.ash_meaning.specs.State.{State};
-    ghost use Rattle.ash_meaning.specs.Plain.{state_of, AreKept};
+    ghost use Rattle.ash_meaning.specs.Plain.{state_of, AreConsistent};
 
     ghost Value = { State };
 
@@ -39,7 +39,7 @@ impl Model for PlainState {
     ghost view = { λ s. state_of (registered s.registry) s.modules.items s.seq };
 
     // Each tree is that of its source, and the state is one that a host may keep.
-    ghost invariant = { λ s. AreKept (registered s.registry) s.modules.items };
+    ghost invariant = { λ s. AreConsistent (registered s.registry) s.modules.items };
 }
 
 impl PlainState {
@@ -58,18 +58,19 @@ impl PlainState {
     /// The state that was stored: how many requests had been answered, and the modules that were kept. Their sources
     /// are read again, with what is registered. `None` where no host keeps such modules, in this order. An `Err` says
     /// that memory was refused.
-    pub fn restored(
+    pub fn restore(
         alloc: Global,
         registry: Registry,
         seq: u64,
         stored: Vec<StoredModule>,
     ) -> Result<Option<PlainState>, AllocError>
-        ensures { IfOk result (λ found. IsRestored (stored_state (registered registry) stored.items seq) found) }
+        ensures { IfOk result (λ found. IsRestored
+            (stored_state (registered registry) stored.items seq) found) }
     {
         if stored.len() > MAX_MODULES || !are_ascending(&stored) {
             return Ok(None);
         }
-        let Some(modules) = script::restored_scripts(alloc, &registry, stored)? else {
+        let Some(modules) = loaded_module::restore_modules(alloc, &registry, stored)? else {
             return Ok(None);
         };
         Ok(Some(PlainState {
@@ -94,9 +95,9 @@ impl PlainState {
         self.registry
     }
 
-    /// The parts of the modules that are kept, by ascending name. An `Err` says that memory was refused.
+    /// The parts of the modules that are kept, by ascending name. An `Err` means that memory was refused.
     pub fn parts(&self, alloc: Global) -> Result<Vec<ModuleParts<'_>>, AllocError>
-        ensures parts { IfOk result (λ parts. scripts_in parts.items ≡ self.now.modules) }
+        ensures parts { IfOk result (λ parts. loaded_modules_in parts.items ≡ self.now.modules) }
         ensures admitted { Admits self.now }
     {
         modules::parts(alloc, &self.modules)
@@ -127,8 +128,14 @@ impl PlainState {
         if self.modules.len() >= MAX_MODULES {
             return Err(Refusal::TooManyModules);
         }
-        let (outcome, script) = script::loaded(self.alloc, &self.registry, name, source, budget)?;
-        modules::keep(&mut self.modules, &outcome, script)?;
+        let (outcome, loaded) = loaded_module::load_module(
+            self.alloc,
+            &self.registry,
+            name,
+            source,
+            budget,
+        )?;
+        modules::insert_finished(&mut self.modules, &outcome, loaded)?;
         self.seq += 1;
         Ok(Answer {
             outcome,
@@ -140,17 +147,18 @@ impl PlainState {
     /// `NoFunction` and `BadArguments`.
     pub fn call(
         &mut self,
-        script: &str,
+        module_name: &str,
         function: &str,
         arguments: &[Argument],
         budget: u64,
     ) -> Result<Answer, Refusal>
-        ensures { Steps budget (Call script.now function.now arguments.now) self.old (answer_of result) self.new }
+        ensures { Steps budget (Call module_name.now function.now arguments.now) self.old
+            (answer_of result) self.new }
     {
         if self.seq == u64::MAX {
             return Err(Refusal::SequenceSpent);
         }
-        let Some(place) = modules::place_of(&self.modules, script) else {
+        let Some(place) = modules::place_of(&self.modules, module_name) else {
             return Err(Refusal::NoModule);
         };
         let outcome = self.modules[place].call(self.alloc, function, arguments, budget)?;
@@ -161,10 +169,11 @@ impl PlainState {
         })
     }
 
-    /// Takes a module away, with its globals. Refused with, in this order, `SequenceSpent` and `NoModule`. It takes no
+    /// Removes a module, with its globals. Refused with, in this order, `SequenceSpent` and `NoModule`. It takes no
     /// memory.
     pub fn discard(&mut self, name: &str) -> Result<Answer, Refusal>
-        ensures { (budget : ℕ) → step budget (Discard name.now) self.old ≡ (answer_of result, self.new) }
+        ensures { (budget : ℕ) → step budget (Discard name.now) self.old
+            ≡ (answer_of result, self.new) }
     {
         if self.seq == u64::MAX {
             return Err(Refusal::SequenceSpent);
@@ -181,19 +190,22 @@ impl PlainState {
     }
 
     /// What a global of a module holds. Refused with, in this order, `NoModule` and `NoGlobal`.
-    pub fn global(&self, script: &str, name: &str) -> Result<Word, Refusal>
-        ensures { (budget : ℕ) → step budget (Read script.now name.now) self.now ≡ (word_of result, self.now) }
+    pub fn global(&self, module_name: &str, name: &str) -> Result<Word, Refusal>
+        ensures { (budget : ℕ) → step budget (Read module_name.now name.now) self.now
+            ≡ (word_of result, self.now) }
     {
-        match modules::place_of(&self.modules, script) {
+        match modules::place_of(&self.modules, module_name) {
             Some(place) => self.modules[place].global(name),
             None => Err(Refusal::NoModule),
         }
     }
 
     /// One request, with so many ticks.
-    pub fn carry_out(&mut self, request: &Request, budget: u64) -> Reply
-        ensures stepped { Steps budget (request_of request.now) self.old (reply_of result) self.new }
-        ensures refused { KeepsRefused (request_of request.now) self.old (reply_of result) self.new }
+    pub fn handle(&mut self, request: &Request, budget: u64) -> Reply
+        ensures stepped { Steps budget (request_of request.now) self.old (reply_of result)
+            self.new }
+        ensures refused { RefusesUnchanged (request_of request.now) self.old (reply_of result)
+            self.new }
     {
         match *request {
             Request::Load { name, source } => self.load(name, source, budget).into(),

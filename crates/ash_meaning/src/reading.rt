@@ -4,12 +4,13 @@ ghost use Rattle.std.specs.Prelude.{◌≡◌, ◌⊎◌, ◌↔◌, ℕ, List, 
 ghost use Rattle.ash_tree.specs.Views.{module_of as items_of};
 ghost use Rattle.ash_registry.specs.Calls.{Call};
 ghost use Rattle.ash_registry.specs.Registered.{registered};
-ghost use Rattle.ash_meaning.specs.Reading.{Reading, Reads, module_or_none, read_source, module_read, TakesToRead};
+ghost use Rattle.ash_meaning.specs.Reading.{ReadResult, Reads, module_or_none, read_source, module_read};
+ghost use Rattle.ash_meaning.specs.Reading.{TakesMemoryToRead};
 ghost use Rattle.ash_meaning.specs.Refusals.{refusal_of, NoMemory};
 ghost use Rattle.ash_subset.specs.Tree.{module_of};
 ghost use Rattle.ash_subset.specs.Resolver.{resolved};
 
-use crate::checking::checked_script;
+use crate::checking::checked_module;
 use crate::refusal::Refusal;
 use ash_registry::Registry;
 use ash_subset::resolver::resolve;
@@ -17,10 +18,12 @@ use ash_subset::tree::Module;
 use std::alloc::{AllocError, Global};
 
 /// The typed tree of a script, or that it can't be run so far.
-fn read_script(alloc: Global, script: &ash_tree::Module) -> Result<Module, Refusal>
-    ensures found { IfOk result (λ tree. module_or_none (resolved (items_of script.now)) ≡ Ok (module_of tree)) }
+fn resolved_module(alloc: Global, script: &ash_tree::Module) -> Result<Module, Refusal>
+    ensures found { IfOk result (λ tree. module_or_none (resolved (items_of script.now))
+        ≡ Ok (module_of tree)) }
     ensures refused { IfErr result (λ refusal.
-        (refusal_of refusal ≡ NoMemory) ⊎ (module_or_none (resolved (items_of script.now)) ≡ Err (refusal_of refusal))) }
+        (refusal_of refusal ≡ NoMemory) ⊎ (module_or_none (resolved (items_of script.now))
+        ≡ Err (refusal_of refusal))) }
 {
     match resolve(alloc, script)? {
         Some(tree) => Ok(tree),
@@ -32,21 +35,23 @@ fn read_script(alloc: Global, script: &ash_tree::Module) -> Result<Module, Refus
 ///
 /// # Errors
 ///
-/// A source is refused for what checking it tells; and where that tells nothing, for not being of the part of the
+/// A source is refused for what checking it reports; and where that reports nothing, for not being of the part of the
 /// language that can be run so far. Or memory was refused.
 pub fn read_source(alloc: Global, registry: &Registry, source: &[u8]) -> Result<Module, Refusal>
-    ensures found { IfOk result (λ tree. read_source (registered registry.now) source.now ≡ Ok (module_of tree)) }
+    ensures found { IfOk result (λ tree. read_source (registered registry.now) source.now
+        ≡ Ok (module_of tree)) }
     ensures refused { IfErr result (λ refusal.
-        ((refusal_of refusal ≡ NoMemory) × TakesToRead (read_source (registered registry.now) source.now))
+        ((refusal_of refusal ≡ NoMemory) × TakesMemoryToRead
+        (read_source (registered registry.now) source.now))
         ⊎ (read_source (registered registry.now) source.now ≡ Err (refusal_of refusal))) }
 {
-    match checked_script(alloc, registry, source) {
-        Ok(script) => read_script(alloc, &script),
+    match checked_module(alloc, registry, source) {
+        Ok(script) => resolved_module(alloc, &script),
         Err(refusal) => Err(refusal),
     }
 }
 
-/// The typed tree of a source, or `None` of a source that is refused. An `Err` says that memory was refused.
+/// The typed tree of a source, or `None` of a source that is refused. An `Err` means that memory was refused.
 pub fn module_read(
     alloc: Global,
     registry: &Registry,
@@ -63,7 +68,7 @@ pub fn module_read(
 }
 
 /// A source is read as one module, or refused for one reason.
-pub fn one_reading()
-    ensures { (registered : List Call) (source : List ℕ) (reading : Reading) →
+pub fn reading_has_one_result()
+    ensures { (registered : List Call) (source : List ℕ) (reading : ReadResult) →
         (read_source registered source ≡ reading) ↔ Reads registered source reading }
 {}

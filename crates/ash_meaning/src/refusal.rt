@@ -25,7 +25,7 @@ pub enum Refusal {
     Unexpected { at: usize },
     /// The same, where that token belongs to a part of AngelScript that the profile does not have.
     Unsupported { word: UnsupportedPart, at: usize },
-    /// The token at this offset is the first that stands deeper than 64.
+    /// The token at this offset is the first that is deeper than 64.
     TooDeep { at: usize },
     /// A name, at this offset, that nothing has.
     UnknownName { at: usize },
@@ -41,7 +41,7 @@ pub enum Refusal {
     NotAssignable { at: usize },
     /// A function with a result, its name at this offset, that may end without one.
     NoReturn { at: usize },
-    /// A phrase, at this offset, that may not stand there.
+    /// A phrase, at this offset, that may not be there.
     Misplaced { at: usize },
     /// A class that reaches itself: it and the classes on a shortest way back.
     CyclicType(ClassNames),
@@ -65,13 +65,13 @@ pub enum Refusal {
     BadArguments,
     /// The module has no global of this name.
     NoGlobal,
-    /// As many modules are loaded as the host keeps.
+    /// As many modules are loaded as a host has at the most.
     TooManyModules,
     /// A module's name is a letter or `_`, then letters, digits and `_`, 64 bytes at most.
     BadName,
     /// The sequence number has reached its last value, 2^64 - 1.
     SequenceSpent,
-    /// A disk failed, and what the request was to change was not kept.
+    /// A disk failed, and what the request was to change was not stored.
     DeviceFailed,
     /// An earlier request failed half way: the store is to be opened again.
     Reopen,

@@ -27,7 +27,7 @@ pub enum Request<'a> {
         module: &'a str,
         name: &'a str,
     },
-    /// Tell how many requests have been answered.
+    /// The number of requests that have been answered.
     Seq,
     /// Write the whole state afresh. It changes nothing of the state.
     Snapshot,

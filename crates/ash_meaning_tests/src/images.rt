@@ -1,122 +1,22 @@
-//! Images of states and bodies of records, byte for byte. The states, and the bytes that are images or none, are data, so
-//! that the calls are proved once and not in each test.
+//! Images of states and bodies of records, byte for byte. The states, and the bytes that are images or none, are data,
+//! so that the calls are proved once and not in each test.
 
 ghost use Rattle.std.specs.Prelude.{◌≤◌, length};
 ghost use Rattle.ash_image.specs.Image.{AreWithinLimits, max_text};
-ghost use Rattle.ash_meaning.specs.Kept.{scripts_in};
+ghost use Rattle.ash_meaning.specs.StoredModules.{loaded_modules_in};
 
 use crate::compare::{Sizes, check_bytes, check_sizes, check_text};
+use crate::image_bytes::{
+    Change, EACH_WORD, EMPTY, EXCHANGED, ONE_MODULE, ONE_SERVICE, TWO_MODULES, WITH_A_HANDLE,
+    changed, each_word_image, empty, loaded_body, longer_body, one_module, one_service,
+    two_modules, with_tag,
+};
 use ash_host::Word;
-use ash_image::image::{Stored, read_body, read_image, write_body, write_image};
-use ash_meaning::kept::ModuleParts;
+use ash_image::image::{StoredState, read_body, read_image, write_body, write_image};
+use ash_meaning::stored::ModuleParts;
 use std::alloc::{AllocError, Global};
 use std::process::Abort;
 use std::test::Fail;
-
-/// The image of a host that has no module and has answered no request.
-const EMPTY: &[u8] = &[
-    0x01, 0x00, 0x00, 0x00, 0x00, 0x00, 0x00, 0x00, 0x00, 0x00, 0x00, 0x00, 0x00, 0x00, 0x00, 0x00,
-    0x00, 0x00, 0x00, 0x00, 0x00, 0x00, 0x00, 0x00, 0x00, 0x00, 0x00, 0x00, 0x00,
-];
-
-/// The image of such a host with one service of the kind 2.
-const ONE_SERVICE: &[u8] = &[
-    0x01, 0x00, 0x0a, 0x00, 0x00, 0x00, 0x73, 0x65, 0x72, 0x76, 0x69, 0x63, 0x65, 0x20, 0x32, 0x0a,
-    0x00, 0x00, 0x00, 0x00, 0x00, 0x00, 0x00, 0x00, 0x00, 0x00, 0x00, 0x00, 0x00, 0x00, 0x00, 0x00,
-    0x00, 0x00, 0x00, 0x00, 0x00, 0x00, 0x00,
-];
-
-/// The image of a module `m` of the source `x`, whose one global holds -2, after three requests.
-const ONE_MODULE: &[u8] = &[
-    0x01, 0x00, 0x00, 0x00, 0x00, 0x00, 0x03, 0x00, 0x00, 0x00, 0x00, 0x00, 0x00, 0x00, 0x00, 0x00,
-    0x00, 0x00, 0x00, 0x00, 0x00, 0x00, 0x00, 0x00, 0x01, 0x01, 0x6d, 0x01, 0x00, 0x00, 0x00, 0x78,
-    0x01, 0x00, 0x01, 0xfe, 0xff, 0xff, 0xff, 0x00, 0x00, 0x00, 0x00,
-];
-
-/// The image of a module `B` of the source `y`, whose one global holds 7, and a module `a` with no source, whose globals
-/// hold -1 and 256, after four requests.
-const TWO_MODULES: &[u8] = &[
-    0x01, 0x00, 0x00, 0x00, 0x00, 0x00, 0x04, 0x00, 0x00, 0x00, 0x00, 0x00, 0x00, 0x00, 0x00, 0x00,
-    0x00, 0x00, 0x00, 0x00, 0x00, 0x00, 0x00, 0x00, 0x02, 0x01, 0x42, 0x01, 0x00, 0x00, 0x00, 0x79,
-    0x01, 0x00, 0x01, 0x07, 0x00, 0x00, 0x00, 0x01, 0x61, 0x00, 0x00, 0x00, 0x00, 0x02, 0x00, 0x01,
-    0xff, 0xff, 0xff, 0xff, 0x01, 0x00, 0x01, 0x00, 0x00, 0x00, 0x00, 0x00, 0x00,
-];
-
-/// The same two modules with `a` first, which are no image.
-const EXCHANGED: &[u8] = &[
-    0x01, 0x00, 0x00, 0x00, 0x00, 0x00, 0x04, 0x00, 0x00, 0x00, 0x00, 0x00, 0x00, 0x00, 0x00, 0x00,
-    0x00, 0x00, 0x00, 0x00, 0x00, 0x00, 0x00, 0x00, 0x02, 0x01, 0x61, 0x00, 0x00, 0x00, 0x00, 0x02,
-    0x00, 0x01, 0xff, 0xff, 0xff, 0xff, 0x01, 0x00, 0x01, 0x00, 0x00, 0x01, 0x42, 0x01, 0x00, 0x00,
-    0x00, 0x79, 0x01, 0x00, 0x01, 0x07, 0x00, 0x00, 0x00, 0x00, 0x00, 0x00, 0x00,
-];
-
-/// The image of a module `_a9` with no source, whose globals hold one word of each type but a handle to an object, after
-/// 258 requests.
-const EACH_WORD: &[u8] = &[
-    0x01, 0x00, 0x00, 0x00, 0x00, 0x00, 0x02, 0x01, 0x00, 0x00, 0x00, 0x00, 0x00, 0x00, 0x00, 0x00,
-    0x00, 0x00, 0x00, 0x00, 0x00, 0x00, 0x00, 0x00, 0x01, 0x03, 0x5f, 0x61, 0x39, 0x00, 0x00, 0x00,
-    0x00, 0x06, 0x00, 0x00, 0x01, 0x01, 0x00, 0x00, 0x00, 0x80, 0x02, 0xff, 0xff, 0xff, 0xff, 0x03,
-    0xff, 0xff, 0xff, 0xff, 0xff, 0xff, 0xff, 0x7f, 0x04, 0x00, 0x00, 0x00, 0x00, 0x00, 0x00, 0x00,
-    0x80, 0x05, 0x00, 0x00, 0x00, 0x00,
-];
-
-/// The same with a seventh global, a handle to the object 9. An image has no objects, so it is none.
-const WITH_A_HANDLE: &[u8] = &[
-    0x01, 0x00, 0x00, 0x00, 0x00, 0x00, 0x02, 0x01, 0x00, 0x00, 0x00, 0x00, 0x00, 0x00, 0x00, 0x00,
-    0x00, 0x00, 0x00, 0x00, 0x00, 0x00, 0x00, 0x00, 0x01, 0x03, 0x5f, 0x61, 0x39, 0x00, 0x00, 0x00,
-    0x00, 0x07, 0x00, 0x00, 0x01, 0x01, 0x00, 0x00, 0x00, 0x80, 0x02, 0xff, 0xff, 0xff, 0xff, 0x03,
-    0xff, 0xff, 0xff, 0xff, 0xff, 0xff, 0xff, 0x7f, 0x04, 0x00, 0x00, 0x00, 0x00, 0x00, 0x00, 0x00,
-    0x80, 0x05, 0x06, 0x09, 0x00, 0x00, 0x00, 0x00, 0x00, 0x00, 0x00, 0x00, 0x00, 0x00, 0x00,
-];
-
-/// The body of the record of a first request, which loads a module `m` with no source: a tag, and the image.
-const BODY: &[u8] = &[
-    0x01, 0x01, 0x00, 0x00, 0x00, 0x00, 0x00, 0x01, 0x00, 0x00, 0x00, 0x00, 0x00, 0x00, 0x00, 0x00,
-    0x00, 0x00, 0x00, 0x00, 0x00, 0x00, 0x00, 0x00, 0x00, 0x01, 0x01, 0x6d, 0x00, 0x00, 0x00, 0x00,
-    0x00, 0x00, 0x00, 0x00, 0x00, 0x00,
-];
-
-/// The body with a byte more.
-const LONGER: &[u8] = &[
-    0x01, 0x01, 0x00, 0x00, 0x00, 0x00, 0x00, 0x01, 0x00, 0x00, 0x00, 0x00, 0x00, 0x00, 0x00, 0x00,
-    0x00, 0x00, 0x00, 0x00, 0x00, 0x00, 0x00, 0x00, 0x00, 0x01, 0x01, 0x6d, 0x00, 0x00, 0x00, 0x00,
-    0x00, 0x00, 0x00, 0x00, 0x00, 0x00, 0x00,
-];
-
-fn empty() -> &'static [u8] {
-    EMPTY
-}
-
-fn one_service() -> &'static [u8] {
-    ONE_SERVICE
-}
-
-fn one_module() -> &'static [u8] {
-    ONE_MODULE
-}
-
-fn two_modules() -> &'static [u8] {
-    TWO_MODULES
-}
-
-fn each_word_image() -> &'static [u8] {
-    EACH_WORD
-}
-
-fn loaded_body() -> &'static [u8] {
-    BODY
-}
-
-fn longer_body() -> &'static [u8] {
-    LONGER
-}
-
-/// Bytes after a tag.
-fn with_tag(alloc: Global, tag: u8, bytes: &[u8]) -> Result<Vec<u8>, AllocError> {
-    let mut body = Vec::from_slice(alloc, &[tag])?;
-    body.extend_from_slice(bytes)?;
-    Ok(body)
-}
 
 /// What the bytes of an image depict, written out.
 fn shown_in_image(alloc: Global, bytes: &[u8]) -> Result<String, AllocError> {
@@ -138,38 +38,48 @@ fn check_read(rt: &impl Abort, alloc: Global, image: &[u8], wanted: &str) -> Res
     Ok(())
 }
 
-/// Compares a state as it is written with its image, and with the body that has it after the tag 1.
-fn check_written(
-    rt: &impl Abort,
+/// A state as it is written: its image, and the body of a record that leads to it.
+fn written(
     alloc: Global,
     registered: &str,
     modules: &[ModuleParts<'_>],
     seq: u64,
-    image: &[u8],
-) -> Result<(), Fail>
-    // The text is within its limit, and the modules are within those of a host and stand by ascending name.
+) -> Result<(Vec<u8>, Vec<u8>), AllocError>
+    // The text is within its limit, and the modules are within those of a host and are in ascending order of name.
     requires text { length registered.now ≤ max_text }
-    requires limits { AreWithinLimits (scripts_in modules.now) }
+    requires limits { AreWithinLimits (loaded_modules_in modules.now) }
 {
-    let found = write_image(alloc, registered, modules, seq)?;
-    check_bytes(rt, found.as_slice(), image, "the image");
-    let found = write_body(alloc, registered, modules, seq)?;
+    let image = write_image(alloc, registered, modules, seq)?;
+    let body = write_body(alloc, registered, modules, seq)?;
+    Ok((image, body))
+}
+
+/// Compares a state as it is written with its image, and with the body that has it after the tag 1.
+fn check_written(
+    rt: &impl Abort,
+    alloc: Global,
+    written: &(Vec<u8>, Vec<u8>),
+    image: &[u8],
+) -> Result<(), Fail> {
+    check_bytes(rt, written.0.as_slice(), image, "the image");
     let body = with_tag(alloc, 1, image)?;
-    check_bytes(rt, found.as_slice(), body.as_slice(), "the body");
+    check_bytes(rt, written.1.as_slice(), body.as_slice(), "the body");
     Ok(())
 }
 
 #[test]
 fn an_empty_state(rt: HostRuntime) -> Result<(), Fail> {
-    check_written(&rt, rt.alloc(), "", &[], 0, empty())?;
-    let wanted = "Some(Stored { registered: \"\", seq: 0, modules: [] })";
+    let found = written(rt.alloc(), "", &[], 0)?;
+    check_written(&rt, rt.alloc(), &found, empty())?;
+    let wanted = "Some(StoredState { registered: \"\", seq: 0, modules: [] })";
     check_read(&rt, rt.alloc(), empty(), wanted)
 }
 
 #[test]
 fn a_registration(rt: HostRuntime) -> Result<(), Fail> {
-    check_written(&rt, rt.alloc(), "service 2\n", &[], 0, one_service())?;
-    let wanted = "Some(Stored { registered: \"service 2\\n\", seq: 0, modules: [] })";
+    let found = written(rt.alloc(), "service 2\n", &[], 0)?;
+    check_written(&rt, rt.alloc(), &found, one_service())?;
+    let wanted = "Some(StoredState { registered: \"service 2\\n\", seq: 0, modules: [] })";
     check_read(&rt, rt.alloc(), one_service(), wanted)
 }
 
@@ -180,8 +90,9 @@ fn a_module(rt: HostRuntime) -> Result<(), Fail> {
         source: b"x",
         globals: &[Word::Int(-2)],
     };
-    check_written(&rt, rt.alloc(), "", &[parts], 3, one_module())?;
-    let wanted = "Some(Stored { registered: \"\", seq: 3, modules: [\
+    let found = written(rt.alloc(), "", &[parts], 3)?;
+    check_written(&rt, rt.alloc(), &found, one_module())?;
+    let wanted = "Some(StoredState { registered: \"\", seq: 3, modules: [\
         StoredModule { name: \"m\", source: [120], globals: [Int(-2)] }] })";
     check_read(&rt, rt.alloc(), one_module(), wanted)
 }
@@ -198,8 +109,9 @@ fn two_modules_by_name(rt: HostRuntime) -> Result<(), Fail> {
         source: b"",
         globals: &[Word::Int(-1), Word::Int(256)],
     };
-    check_written(&rt, rt.alloc(), "", &[first, second], 4, two_modules())?;
-    let wanted = "Some(Stored { registered: \"\", seq: 4, modules: [\
+    let found = written(rt.alloc(), "", &[first, second], 4)?;
+    check_written(&rt, rt.alloc(), &found, two_modules())?;
+    let wanted = "Some(StoredState { registered: \"\", seq: 4, modules: [\
         StoredModule { name: \"B\", source: [121], globals: [Int(7)] }, \
         StoredModule { name: \"a\", source: [], globals: [Int(-1), Int(256)] }] })";
     check_read(&rt, rt.alloc(), two_modules(), wanted)
@@ -207,7 +119,7 @@ fn two_modules_by_name(rt: HostRuntime) -> Result<(), Fail> {
 
 #[test]
 fn each_word(rt: HostRuntime) -> Result<(), Fail> {
-    let wanted = "Some(Stored { registered: \"\", seq: 258, modules: [\
+    let wanted = "Some(StoredState { registered: \"\", seq: 258, modules: [\
         StoredModule { name: \"_a9\", source: [], globals: [Bool(true), Int(-2147483648), Uint(4294967295), \
         Int64(9223372036854775807), Uint64(9223372036854775808), Null] }] })";
     check_read(&rt, rt.alloc(), each_word_image(), wanted)
@@ -221,14 +133,15 @@ fn a_body(rt: HostRuntime) -> Result<(), Fail> {
         globals: &[],
     };
     let image = loaded_body().get(1..).unwrap_or(b"");
-    check_written(&rt, rt.alloc(), "", &[parts], 1, image)?;
-    let wanted = "Some(Stored { registered: \"\", seq: 1, modules: [\
+    let found = written(rt.alloc(), "", &[parts], 1)?;
+    check_written(&rt, rt.alloc(), &found, image)?;
+    let wanted = "Some(StoredState { registered: \"\", seq: 1, modules: [\
         StoredModule { name: \"m\", source: [], globals: [] }] })";
     check_read(&rt, rt.alloc(), image, wanted)
 }
 
 /// How much a state has, if there is one: the bytes of its text, and its modules.
-fn sizes_of(stored: &Option<Stored>) -> Sizes {
+fn sizes_of(stored: &Option<StoredState>) -> Sizes {
     match stored {
         Some(stored) => Some((stored.registered.len(), stored.modules.len())),
         None => None,
@@ -268,37 +181,8 @@ fn check_both(
     Ok(())
 }
 
-/// What is done to bytes.
-#[derive(Clone, Copy)]
-enum Change {
-    /// They stay as they are.
-    Same,
-    /// They are cut to so many.
-    Cut(usize),
-    /// Another byte stands at a place.
-    Byte(usize, u8),
-    /// Others come after them.
-    More(&'static [u8]),
-}
-
-/// Bytes with a change.
-fn changed(alloc: Global, bytes: &[u8], change: Change) -> Result<Vec<u8>, AllocError> {
-    let mut changed = Vec::from_slice(alloc, bytes)?;
-    match change {
-        Change::Same => {}
-        Change::Cut(length) => changed.truncate(length),
-        Change::Byte(place, byte) => {
-            if let Some(old) = changed.get_mut(place) {
-                *old = byte;
-            }
-        }
-        Change::More(more) => changed.extend_from_slice(more)?,
-    }
-    Ok(changed)
-}
-
-/// Bytes: what they are called, an image, what is done to it, and how much the state has that they depict, if they depict
-/// one.
+/// Bytes: what they are called, an image, what is done to it, and how much the state has that they depict, if they
+/// depict one.
 type Row = (&'static str, &'static [u8], Change, Sizes);
 
 /// Compares what the bytes of a row are.
@@ -354,8 +238,8 @@ fn no_image(rt: HostRuntime) -> Result<(), Fail> {
     check_rows(&rt, rt.alloc(), &NO_IMAGES)
 }
 
-/// The image of a state before any request, whose text is so many spaces, with a length of its own, and so many modules of
-/// one letter each, from `A` on, with no source and no globals.
+/// The image of a state before any request, whose text is so many spaces, with a length of its own, and so many modules
+/// of one letter each, from `A` on, with no source and no globals.
 fn made_up(alloc: Global, length: u32, spaces: usize, count: u8) -> Result<Vec<u8>, AllocError> {
     let mut image = Vec::from_slice(alloc, &[1, 0])?;
     image.extend_from_slice(&length.to_le_bytes())?;

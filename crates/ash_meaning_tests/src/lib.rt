@@ -1,14 +1,16 @@
 //! Tests of how a source is read, checked and refused, of `ash_meaning`, and of images and the bodies of records, of
-//! `ash_image`, with memory that is ample. They stand apart from the other tests, which need not wait for these crates.
+//! `ash_image`, with memory that is ample. They are apart from the other tests, which need not wait for these crates.
 //!
-//! In reading order: `compare`, with the comparisons; `sources`, `reading`, `checking` and `resolver`; `images`, with bytes
-//! that were worked out by hand.
+//! In reading order: `compare`, with the comparisons; `sources`, `reading`, `checking` and `resolver`; `images`, and
+//! `image_bytes`, which were worked out by hand.
 #![tactic(auto)]
 
 #[cfg(test)]
 mod checking;
 #[cfg(test)]
 mod compare;
+#[cfg(test)]
+mod image_bytes;
 #[cfg(test)]
 mod images;
 #[cfg(test)]

@@ -7,7 +7,7 @@ use Rattle.ash_meaning.specs.declared.refusal.Refusal as code
 use Rattle.ash_meaning.specs.declared.refusal.Refusal.TheVariants as the
 use Rattle.ash_meaning.specs.Refusals.{Refusal, refusal_of}
 use Rattle.ash_meaning.specs.Refusals as refusals
-use Rattle.ash_meaning.specs.Checking.{Checking, TakesToCheck}
+use Rattle.ash_meaning.specs.Checking.{CheckResult, TakesMemoryToCheck}
 use Rattle.ash_lines.specs.Source.{Feed}
 use Rattle.ash_lines.specs.Sink.{Outlet}
 use Rattle.ash_lines.specs.Reading.{source_prefix, ReadsBytes}
@@ -38,14 +38,14 @@ prefix-exact start rest e = take_at start rest 65537 e
 
 -- Judging a source.
 
-abbrev IsNoMemory : Checking → Type 0
+abbrev IsNoMemory : CheckResult → Type 0
 IsNoMemory (Err refusals.NoMemory) = Unit {0}
 IsNoMemory _ = ⊥
 
-pub takes_memory : (checking : Checking) (refusal : code.Refusal) → ((refusal_of refusal ≡ refusals.NoMemory) × TakesToCheck checking) ⊎ (checking ≡ Err (refusal_of refusal)) → refusal ≡ the.NoMemory → checking ≡ Err refusals.SourceTooLong → ⊥
+pub takes_memory : (checking : CheckResult) (refusal : code.Refusal) → ((refusal_of refusal ≡ refusals.NoMemory) × TakesMemoryToCheck checking) ⊎ (checking ≡ Err (refusal_of refusal)) → refusal ≡ the.NoMemory → checking ≡ Err refusals.SourceTooLong → ⊥
 takes_memory checking refusal h n e =
     ⊎_elim
-    (λ (t : (refusal_of refusal ≡ refusals.NoMemory) × TakesToCheck checking). subst TakesToCheck e t.1)
+    (λ (t : (refusal_of refusal ≡ refusals.NoMemory) × TakesMemoryToCheck checking). subst TakesMemoryToCheck e t.1)
     (λ (r : checking ≡ Err (refusal_of refusal)). subst IsNoMemory (sym (subst (λ (x : code.Refusal). checking ≡ Err (refusal_of x)) n r) ∙ e) cc)
     h
 

@@ -5,7 +5,7 @@ use Rattle.ash_registry.specs.Calls.{Call as Registration}
 use Rattle.ash_meaning.specs.declared.refusal.Refusal as code
 use Rattle.ash_meaning.specs.Refusals.{Refusal, refusal_of}
 use Rattle.ash_meaning.specs.Refusals as refusals
-use Rattle.ash_meaning.specs.Checking.{Checking, checked_source}
+use Rattle.ash_meaning.specs.Checking.{CheckResult, checked_source}
 use Rattle.ash_lines.specs.Source.{Feed, Faults}
 use Rattle.ash_lines.specs.Sink.{Outlet, WritesAll, FailsPartway}
 use Rattle.ash_lines.specs.Reading.{source_prefix}
@@ -37,7 +37,7 @@ abbrev pub verdict_of : Option code.Refusal → Option Refusal
 verdict_of verdict = option_map refusal_of verdict
 
 -- why a source is refused, if it is
-abbrev pub refusal_in : Checking → Option Refusal
+abbrev pub refusal_in : CheckResult → Option Refusal
 refusal_in (Ok items) = None
 refusal_in (Err refusal) = Some refusal
 

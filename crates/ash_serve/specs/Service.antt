@@ -1,7 +1,7 @@
 -- Serving from two disks: a host is opened or made on them, and runs.
 use Rattle.std.specs.Prelude.{◌≡◌, ℕ, List, Option, Result, Ok, Err}
 use Rattle.ash_disk.specs.Device.{Device}
-use Rattle.ash_durable.specs.Hosting.{Hosted, first, second, IsSaved, Carries}
+use Rattle.ash_durable.specs.Hosting.{Hosted, first, second, IsSaved, Handles}
 use Rattle.ash_durable.specs.Lives.{LivesOn}
 use Rattle.ash_durable.specs.declared.fault.OpenRefused.{OpenRefused}
 use Rattle.ash_lines.specs.Lines.{Line}
@@ -16,9 +16,9 @@ use Rattle.ash_serve.specs.declared.program.fault.Fault.TheVariants.{Store, Run}
 -- answered. Then it was closed: its disks are handed back as the run left them.
 pub record HostRun {D : Type 0} (device : Device D) (host : Hosted D) (input : Option (List ℕ)) (budget : ℕ) (before : Option (List ℕ)) (result : Result (Unit {0}) RunFault) (a b : D) (after : Option (List ℕ)) : Type 0 where
   pub last : Hosted D
-  pub ends : RunEnds input (Carries device) budget host before result last after
+  pub ends : RunEnds input (Handles device) budget host before result last after
   pub saved : IsSaved device host → IsSaved device last
-  pub lives : (lines : List Line) (replies : List LineReply) → RepliesToAll (Carries device) budget host lines replies last → LivesOn device budget host (host_requests lines) (host_replies replies) last
+  pub lives : (lines : List Line) (replies : List LineReply) → RepliesToAll (Handles device) budget host lines replies last → LivesOn device budget host (host_requests lines) (host_replies replies) last
   pub first_is : a ≡ first last
   pub second_is : b ≡ second last
 

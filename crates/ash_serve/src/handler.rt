@@ -1,6 +1,6 @@
 // What handles requests.
 
-ghost use Rattle.ash_durable.specs.Hosting.{Carries};
+ghost use Rattle.ash_durable.specs.Hosting.{Handles};
 ghost use Rattle.ash_meaning.specs.State.{request_of, reply_of};
 ghost use Rattle.ash_serve.specs.Serving.{RequestRelation, DependsOnPrefix};
 ghost use Rattle.ash_serve.specs.LongSources.{handles_by_prefix};
@@ -24,11 +24,11 @@ pub trait RequestHandler {
 }
 
 impl<D: Disk> RequestHandler for Host<D> {
-    ghost handles = { Carries D.Disk };
+    ghost handles = { Handles D.Disk };
 
     ghost depends_on_prefix = { handles_by_prefix _ };
 
     fn handle(&mut self, request: &Request, budget: u64) -> Reply {
-        Host::carry_out(self, request, budget)
+        Host::handle(self, request, budget)
     }
 }

@@ -1,7 +1,7 @@
 // The loop over a reader and a writer.
 
 ghost use Rattle.std.specs.Prelude.{List};
-ghost use Rattle.ash_durable.specs.Hosting.{Carries, IsSaved};
+ghost use Rattle.ash_durable.specs.Hosting.{Handles, IsSaved};
 ghost use Rattle.ash_durable.specs.Lives.{LivesOn};
 ghost use Rattle.ash_durable.specs.Running.{RunsToFailure};
 ghost use Rattle.ash_lines.specs.Lines.{Line};
@@ -36,16 +36,16 @@ pub fn run<D: Disk, R: Read + Drop, W: Write>(
     host: &mut Host<D>,
     budget: u64,
 ) -> Result<(), RunFault>
-    ensures ends { RunEnds (R.remaining reader) (Carries D.Disk)
+    ensures ends { RunEnds (R.remaining reader) (Handles D.Disk)
         budget host.old (W.contents writer.old) result host.new (W.contents writer.new) }
     // The requests that the host answered are a run of the written steps, up to the first answer that is lost.
     ensures defined { (lines : List Line) (replies : List LineReply)
-        → RepliesToAll (Carries D.Disk) budget host.old lines replies host.new
+        → RepliesToAll (Handles D.Disk) budget host.old lines replies host.new
         → RunsToFailure budget host.old (host_requests lines) (host_replies replies) host.new }
     // Every life of the store goes on with the requests that were answered, however the run ends: each of them, written
     // or not, is acknowledged in it.
     ensures lives { (lines : List Line) (replies : List LineReply)
-        → RepliesToAll (Carries D.Disk) budget host.old lines replies host.new
+        → RepliesToAll (Handles D.Disk) budget host.old lines replies host.new
         → LivesOn D.Disk budget host.old (host_requests lines) (host_replies replies) host.new }
     ensures saved { IsSaved D.Disk host.old → IsSaved D.Disk host.new }
 {

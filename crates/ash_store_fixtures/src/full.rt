@@ -8,9 +8,9 @@ use std::alloc::{AllocError, Global};
 /// are, so that the 17 records of `full_file` have 16,777,216 bytes.
 ///
 /// An image with 16 modules whose names have one byte, and which have no globals, has 29 + 16 * 8 bytes beside their
-/// sources. A record has 6 around an image. So each of 15 records has 6 + 157 + 16 * 65,536 = 1,048,739 bytes, which makes
-/// 15,731,085, and the last, of a module with 45 bytes of source and one global, 6 + 87. Of the 1,046,038 bytes that are
-/// left, 163 are not those of sources, and 15 * 65,536 = 983,040 are those of the others.
+/// sources. A record has 6 around an image. So each of 15 records has 6 + 157 + 16 * 65,536 = 1,048,739 bytes, which
+/// makes 15,731,085, and the last, of a module with 45 bytes of source and one global, 6 + 87. Of the 1,046,038 bytes
+/// that are left, 163 are not those of sources, and 15 * 65,536 = 983,040 are those of the others.
 pub const AT_THE_LIMIT: usize = 62_835;
 
 /// As many bytes of records as there are in such a file.
@@ -28,8 +28,8 @@ pub fn spaces(alloc: Global, count: usize) -> Result<Vec<u8>, AllocError> {
     vec![in alloc; b' '; count]
 }
 
-/// The image of a host with sixteen modules, whose sources are spaces: so many of the last, and as many as there may be of
-/// the others.
+/// The image of a host with sixteen modules, whose sources are spaces: so many of the last, and as many as there may be
+/// of the others.
 fn large_image(alloc: Global, seq: u64, last: usize) -> Result<Vec<u8>, AllocError> {
     let longest = spaces(alloc, MAX_SOURCE)?;
     let source = longest.as_slice();
@@ -57,8 +57,9 @@ fn small_image(alloc: Global, seq: u64) -> Result<Vec<u8>, AllocError> {
     image(alloc, seq, &[module])
 }
 
-/// The file of a generation of this number with an empty image and 17 records, with the numbers from 1 on. Sixteen are of
-/// large states, the last of them with a source of so many bytes, and the seventeenth is of a host with the module `m`.
+/// The file of a generation of this number with an empty image and 17 records, with the numbers from 1 on. Sixteen are
+/// of large states, the last of them with a source of so many bytes, and the seventeenth is of a host with the module
+/// `m`.
 pub fn full_file(alloc: Global, number: u64, last: usize) -> Result<Vec<u8>, AllocError> {
     let mut file = generation(alloc, number, &image(alloc, 0, &[])?)?;
     for seq in 1..16 {

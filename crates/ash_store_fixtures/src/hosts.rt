@@ -1,4 +1,4 @@
-//! Hosts over disks in memory, and their calls. Each call of a host stands in a function of its own, which promises
+//! Hosts over disks in memory, and their calls. Each call of a host is in a function of its own, which promises
 //! nothing: so its contract is seen once, and not in every test.
 
 use ash_disk::{Disk, FuseDisk, MemoryDisk, Survives};
@@ -123,10 +123,10 @@ pub fn replies_to<D: Disk>(
     host: &mut Host<D>,
     requests: &[Request],
 ) -> Result<Vec<Reply>, AllocError> {
-    host.carry_out_all(alloc, requests, 1000)
+    host.handle_all(alloc, requests, 1000)
 }
 
-/// Puts the whole state into a new generation.
+/// Writes the whole state into a new generation.
 pub fn snapshot<D: Disk>(host: &mut Host<D>) -> Result<(), Refusal> {
     host.snapshot()
 }

@@ -1,5 +1,5 @@
-//! Lives of a store as data: what is asked of a host from the making or the opening of its store until it is closed, and the
-//! files by hand that it then leaves. What is answered is written out, so that a test compares a text.
+//! Lives of a store as data: what is asked of a host from the making or the opening of its store until it is closed,
+//! and the files by hand that it then leaves. What is answered is written out, so that a test compares a text.
 
 use crate::files::{Module, add_record, generation, image};
 use crate::hosts::{
@@ -22,7 +22,7 @@ pub enum Step {
     Call(i128),
     /// The function `f` of this module is called with nothing.
     CallIn(&'static str),
-    /// The module `m` is taken away.
+    /// The module `m` is removed.
     Discard,
     /// The state is put into a new generation.
     Snapshot,
@@ -70,11 +70,11 @@ pub enum File {
     Bytes(&'static [u8]),
     /// That of a host that has no module, nothing registered, and has answered no request.
     Empty,
-    /// The generation of a number: the state in its image, the states in its records, and what is left after them of what
-    /// was longer.
+    /// The generation of a number: the state in its image, the states in its records, and what is left after them of
+    /// what was longer.
     Written(u64, State, &'static [State], &'static [u8]),
-    /// The generation of a number with a state in its image, over the first one, which had an empty image and these states
-    /// in its records, and was longer.
+    /// The generation of a number with a state in its image, over the first one, which had an empty image and these
+    /// states in its records, and was longer.
     Over(u64, State, &'static [State]),
 }
 
@@ -148,8 +148,9 @@ pub enum Start {
     Open,
 }
 
-/// What is asked of a host until it is closed: what that is called, how it begins, the steps with what is answered, whether
-/// the host is opened again after them, the files that it leaves, and how many writes and syncs each disk has had by then.
+/// What is asked of a host until it is closed: what that is called, how it begins, the steps with what is answered,
+/// whether the host is opened again after them, the files that it leaves, and how many writes and syncs each disk has
+/// had by then.
 pub struct Run {
     pub what: &'static str,
     pub start: Start,
@@ -174,7 +175,7 @@ fn begun(
     }
 }
 
-/// Carries out a run: what is answered, and the disks.
+/// Handles a run: what is answered, and the disks.
 pub fn lived(
     alloc: Global,
     disks: (MemoryDisk, MemoryDisk),

@@ -47,18 +47,18 @@ pub fn check_file(
     alloc: Global,
     disk: &MemoryDisk,
     file: File,
-    what: &str,
-    which: &str,
+    what: (&str, &str),
 ) -> Result<(), Fail> {
     let wanted = bytes_of(alloc, file)?;
     let (found, wanted) = (disk.bytes(), wanted.as_slice());
     if found != wanted {
-        panic!(rt; "{what}, {which} disk: found {found:?}, wanted {wanted:?}");
+        let (run, disk) = what;
+        panic!(rt; "{run}, {disk} disk: found {found:?}, wanted {wanted:?}");
     }
     Ok(())
 }
 
-/// Carries out a run, and compares what is answered, the files that it leaves, and the calls of both disks.
+/// Handles a run, and compares what is answered, the files that it leaves, and the calls of both disks.
 pub fn check_run(
     rt: &impl Abort,
     alloc: Global,
@@ -67,8 +67,8 @@ pub fn check_run(
 ) -> Result<(MemoryDisk, MemoryDisk), Fail> {
     let (answers, disks) = lived(alloc, disks, run)?;
     check_text(rt, answers.as_str(), run.answers, run.what);
-    check_file(rt, alloc, &disks.0, run.first, run.what, "the first")?;
-    check_file(rt, alloc, &disks.1, run.second, run.what, "the second")?;
+    check_file(rt, alloc, &disks.0, run.first, (run.what, "the first"))?;
+    check_file(rt, alloc, &disks.1, run.second, (run.what, "the second"))?;
     check_calls(rt, &disks, run.calls, run.what);
     Ok(disks)
 }
@@ -76,7 +76,7 @@ pub fn check_run(
 /// Runs, one after the other, over disks that begin with two files.
 pub type Life = (File, File, &'static [Run]);
 
-/// Carries out the runs of a life.
+/// Handles the runs of a life.
 pub fn check_life(rt: &impl Abort, alloc: Global, life: &Life) -> Result<(), Fail> {
     let (first, second, runs) = *life;
     let mut disks = disks_of(alloc, first, second)?;
@@ -86,7 +86,7 @@ pub fn check_life(rt: &impl Abort, alloc: Global, life: &Life) -> Result<(), Fai
     Ok(())
 }
 
-/// Carries out lives.
+/// Handles lives.
 pub fn check_lives(rt: &impl Abort, alloc: Global, lives: &[Life]) -> Result<(), Fail> {
     for life in lives {
         check_life(rt, alloc, life)?;

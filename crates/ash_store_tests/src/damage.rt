@@ -44,8 +44,8 @@ type CutFile = (&'static str, File, usize, &'static [Cut]);
 
 static CUT_FILES: [CutFile; 2] = [
     // The same with two records, of which each has 5 bytes around its body, and this a tag and an image of 87 bytes: an
-    // empty one of 29, and a module with a name of one byte, 45 bytes of source and one global, which are 2 + 4 + 45 + 2 + 5.
-    // What comes after the last gate is not read.
+    // empty one of 29, and a module with a name of one byte, 45 bytes of source and one global, which are 2 + 4 + 45 +
+    // 2 + 5. What comes after the last gate is not read.
     (
         "two records, and three bytes more",
         File::Written(1, (0, None), &[(1, Some(2)), (2, Some(7))], &[1, 2, 3]),
@@ -146,8 +146,8 @@ fn wanted_of_loaded(place: usize, byte: u8) -> Found {
         0 => Err(StoreFault::NoGeneration),
         // The generation, which no other file is open beside, and the number in the image, before that in the record.
         9..=16 | 27..=34 => Ok(1),
-        // The length of the image. Two lengths lead to a byte 1 of the record, at 80 and 81, as the gate of a record that
-        // is cut; from the others none is found, or a whole one after an image of another length.
+        // The length of the image. Two lengths lead to a byte 1 of the record, at 80 and 81, as the gate of a record
+        // that is cut; from the others none is found, or a whole one after an image of another length.
         17 if byte == 59 => Err(StoreFault::Damaged(80)),
         17 if byte == 60 => Err(StoreFault::Damaged(81)),
         // What the file is known by, and the rest of the image.
@@ -245,7 +245,7 @@ fn a_byte_changed(rt: HostRuntime) -> Result<(), Fail> {
     Ok(())
 }
 
-// A store with the modules `a` and `k`, whose names stand at 47 and 55.
+// A store with the modules `a` and `k`, whose names are at 47 and 55.
 static NAMED: [Changed; 11] = [
     (47, b'b', Ok(2)),
     (47, b'j', Ok(2)),

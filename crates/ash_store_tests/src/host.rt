@@ -74,20 +74,20 @@ fn replied(
     host: &mut Host<MemoryDisk>,
     request: Request,
 ) -> Result<String, AllocError> {
-    shown(alloc, &carry_out(host, request))
+    shown(alloc, &handle(host, request))
 }
 
-fn carry_out(host: &mut Host<MemoryDisk>, request: Request) -> Reply {
-    host.carry_out(&request, 1000)
+fn handle(host: &mut Host<MemoryDisk>, request: Request) -> Reply {
+    host.handle(&request, 1000)
 }
 
-/// The replies to requests that are carried out together, written out.
+/// The replies to requests that are handled together, written out.
 fn all_replied(
     alloc: Global,
     host: &mut Host<MemoryDisk>,
     requests: &[Request],
 ) -> Result<String, AllocError> {
-    let replies = host.carry_out_all(alloc, requests, 1000)?;
+    let replies = host.handle_all(alloc, requests, 1000)?;
     shown(alloc, &replies)
 }
 
@@ -143,8 +143,8 @@ fn an_argument_that_does_not_fit(rt: HostRuntime) -> Result<(), Fail> {
     Ok(())
 }
 
-// A host with the module `m`, whose number is the greatest that there is, in a file whose image holds all of the state. No
-// number is given to a snapshot.
+// A host with the module `m`, whose number is the greatest that there is, in a file whose image holds all of the state.
+// No number is given to a snapshot.
 static SPENT: Life = (
     File::Written(2, (u64::MAX, Some(7)), &[], &[]),
     File::Bytes(&[0]),

@@ -1,8 +1,9 @@
-//! Tests of the host without its requests' bytes: its calls, and stores on two disks with what is registered. It has tests
-//! alone, so that the crates with the code are proved once. The tests of disks that fail are in `ash_crash_tests`.
+//! Tests of the host without its requests' bytes: its calls, and stores on two disks with what is registered. It has
+//! tests alone, so that the crates with the code are proved once. The tests of disks that fail are in
+//! `ash_crash_tests`.
 //!
-//! `host` has the host's calls, `store` the bytes of stores and crashes between requests, `damage` and `registered` what is
-//! wrong with stores that are opened.
+//! `host` has the host's calls, `store` the bytes of stores and crashes between requests, `damage` and `registered`
+//! what is wrong with stores that are opened.
 #![tactic(auto)]
 
 #[cfg(test)]

@@ -18,8 +18,8 @@ fn one_type(alloc: Global, name: &str) -> Result<Registry, RegistryFault> {
     Ok(registry)
 }
 
-/// Why a store of this file isn't opened with that type registered, if it isn't. The disks read as before, and have had a
-/// sync each.
+/// Why a store of this file isn't opened with that type registered, if it isn't. The disks read as before, and have had
+/// a sync each.
 fn refusal(alloc: Global, file: &[u8], name: &str) -> Result<Option<StoreFault>, Fail> {
     let (a, b) = (disk(alloc, file)?, disk(alloc, &[7])?);
     let Err(refused) = Host::open(alloc, a, b, one_type(alloc, name)?) else {
@@ -75,11 +75,11 @@ fn stored(alloc: Global, place: Place) -> Result<MemoryDisk, Fail> {
 enum Damage {
     /// Cut short to so many bytes.
     Cut(usize),
-    /// This byte stands at a place.
+    /// This byte is at a place.
     Byte(usize, u8),
     /// The same for two places.
     Two(usize, usize, u8),
-    /// This word stands in the place of the global's, which begins at a place, and the length that counts it is this at
+    /// This word is in the place of the global's, which begins at a place, and the length that counts it is this at
     /// another place.
     Word(usize, &'static [u8], usize, u8),
 }
@@ -128,8 +128,9 @@ const DAMAGED: Option<StoreFault> = Some(StoreFault::Damaged(0));
 
 const OTHER: Option<StoreFault> = Some(StoreFault::OtherInterface);
 
-// The image has 67 bytes from 21 on: 29 where it is empty, 12 of text, `type Tall 1` and a line feed, from 27 on, and the
-// module with 1 + 1 + 4 + 13 + 2 + 5. The last `l` is at 35, the global's word begins at 79, and the next gate is at 88.
+// The image has 67 bytes from 21 on: 29 where it is empty, 12 of text, `type Tall 1` and a line feed, from 27 on, and
+// the module with 1 + 1 + 4 + 13 + 2 + 5. The last `l` is at 35, the global's word begins at 79, and the next gate is
+// at 88.
 static ROWS_OF_AN_IMAGE: [Row; 13] = [
     (Place::Image, Damage::Cut(89), "Tall", None),
     (Place::Image, Damage::Cut(89), "Tale", OTHER),
@@ -169,9 +170,9 @@ static ROWS_OF_AN_IMAGE: [Row; 13] = [
 
 const RECORD_DAMAGED: Option<StoreFault> = Some(StoreFault::Damaged(62));
 
-// The image is the empty one with that text, 41 bytes from 21 on, and the gate before the record is at 62. Its body has 68
-// bytes: a tag and then the image with the module, from 68 on. The last `l` of its text is at 82, and the global's word
-// begins at 126 and the next gate is at 135.
+// The image is the empty one with that text, 41 bytes from 21 on, and the gate before the record is at 62. Its body has
+// 68 bytes: a tag and then the image with the module, from 68 on. The last `l` of its text is at 82, and the global's
+// word begins at 126 and the next gate is at 135.
 static ROWS_OF_A_RECORD: [Row; 19] = [
     (Place::Record, Damage::Cut(136), "Tall", None),
     (Place::Record, Damage::Cut(136), "Tale", OTHER),
@@ -250,8 +251,8 @@ static ROWS_OF_A_RECORD: [Row; 19] = [
 
 const LATER_DAMAGED: Option<StoreFault> = Some(StoreFault::Damaged(88));
 
-// The image with the module, whose word is at 79. The gate before the record is at 88, its length follows, and its tag is at
-// 93; the image in it is the empty one with the text, whose last `l` is at 108.
+// The image with the module, whose word is at 79. The gate before the record is at 88, its length follows, and its tag
+// is at 93; the image in it is the empty one with the text, whose last `l` is at 108.
 static ROWS_OF_BOTH: [Row; 8] = [
     (Place::ImageBeforeRecord, Damage::Cut(500), "Tall", None),
     // What the image holds must be admitted, though the record leads away from it.
@@ -373,8 +374,8 @@ fn the_text_in_each_record(rt: HostRuntime) -> Result<(), Fail> {
     let first = stored(rt.alloc(), Place::Record)?;
     check_text_at(&rt, &first, 27, "in the image");
     check_text_at(&rt, &first, 74, "in the record");
-    // What is opened goes on with that text. The next gate of the first record is at 135, and the second's text 12 bytes
-    // after it.
+    // What is opened goes on with that text. The next gate of the first record is at 135, and the second's text 12
+    // bytes after it.
     let first = after_a_discard(rt.alloc(), first.bytes())?;
     check_text_at(&rt, &first, 147, "in the second record");
     Ok(())

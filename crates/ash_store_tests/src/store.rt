@@ -1,5 +1,5 @@
-//! Stores on two disks: their bytes, and crashes between requests. What is asked of a host is data, so that each call is
-//! proved once and not in each test.
+//! Stores on two disks: their bytes, and crashes between requests. What is asked of a host is data, so that each call
+//! is proved once and not in each test.
 
 use crate::checks::{Life, check, check_bytes, check_lives, check_run, check_text};
 use ash_disk::{MemoryDisk, Survives};
@@ -81,8 +81,8 @@ static LIVES: [Life; 6] = [
             },
         ],
     ),
-    // To make the store takes 6 and 2 calls. Each of the two requests writes its record and syncs, and then the gate before it. An
-    // opening syncs both files, and no gate is to be written over.
+    // To make the store takes 6 and 2 calls. Each of the two requests writes its record and syncs, and then the gate
+    // before it. An opening syncs both files, and no gate is to be written over.
     (
         File::Bytes(&[]),
         File::Bytes(&[]),
@@ -110,8 +110,8 @@ static LIVES: [Life; 6] = [
             },
         ],
     ),
-    // A store whose state is all in its first image, before what is left of a longer file: so an older program left it, which
-    // wrote the whole file for each request.
+    // A store whose state is all in its first image, before what is left of a longer file: so an older program left it,
+    // which wrote the whole file for each request.
     (
         File::Written(1, (2, Some(7)), &[], &[1, 2, 3, 4, 1, 0, 0, 0, 5, 1]),
         File::Bytes(&[0]),

@@ -14,5 +14,6 @@ pub links_of-row : {n : _} (row : Row_of-Link n) → links_of row ≡ links_from
 links_of-row end_of-Link = refl
 links_of-row (more_of-Link operator operand rest) = ap (link operator (expr_of operand)) (links_of-row rest)
 
-pub expr_of-Chain : (first : Box declared.Expr Global) (rest : Vec declared_link.Link Global) → expr_of (views.Chain first rest) ≡ Chain (expr_of first.value) (links_from rest.items)
+pub expr_of-Chain : (first : Box declared.Expr Global) (rest : Vec declared_link.Link Global)
+    → expr_of (views.Chain first rest) ≡ Chain (expr_of first.value) (links_from rest.items)
 expr_of-Chain first rest = search (rules, views.the_lemmas, links_of-row)

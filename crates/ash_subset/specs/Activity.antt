@@ -36,14 +36,14 @@ Run A = Activity → Progress A
 abbrev pub give : {A : Type 0} → A → Run A
 give value activity = Done value activity
 
-abbrev pub onward : {A B : Type 0} → Progress A → (A → Run B) → Progress B
-onward (Done value activity) next = next value activity
-onward (Broken break activity) next = Broken break activity
+abbrev pub bind : {A B : Type 0} → Progress A → (A → Run B) → Progress B
+bind (Done value activity) next = next value activity
+bind (Broken break activity) next = Broken break activity
 
 -- one phrase, then another that has its value
 infixl 10 ◌>>=◌
 abbrev pub ◌>>=◌ : {A B : Type 0} → Run A → (A → Run B) → Run B
-(first >>= next) activity = onward (first activity) next
+(first >>= next) activity = bind (first activity) next
 
 -- one phrase, then another
 infixl 10 ◌>>◌
@@ -67,7 +67,8 @@ value_at (Local slot) activity = slice_index_or activity.frame.locals slot Null
 value_at (Global place) activity = slice_index_or activity.globals place Null
 
 abbrev pub stored_at : Place → Word → Activity → Activity
-stored_at (Local slot) word activity = record activity { frame = record activity.frame { locals = slice_set activity.frame.locals slot word } }
+stored_at (Local slot) word activity = record activity
+    { frame = record activity.frame { locals = slice_set activity.frame.locals slot word } }
 stored_at (Global place) word activity = record activity { globals = slice_set activity.globals place word }
 
 abbrev pub read : Place → Run Word

@@ -1,4 +1,4 @@
--- What the plain evaluator's machine stands for.
+-- What the plain evaluator's machine represents.
 use Rattle.std.specs.Prelude.{List, [], ◌∷◌, Result, Ok, Err}
 use Rattle.ash_subset.specs.declared.evaluator.Machine as machine
 use Rattle.ash_subset.specs.declared.evaluator.OutOfTicks.{OutOfTicks}
@@ -10,7 +10,12 @@ use Rattle.ash_subset.specs.Activity.{Activity, Exhausted, Progress, Done, Broke
 use Rattle.ash_subset.specs.Tree.{Links, none, link, expr_of}
 
 abbrev pub activity_of : machine.Machine → Activity
-activity_of m = record { globals = m.globals.items; ticks = m.ticks; frame = record { function = m.function.now; line = m.line; locals = m.locals.items }; callers = [] }
+activity_of m = record {
+  globals = m.globals.items;
+  ticks = m.ticks;
+  frame = record { function = m.function.now; line = m.line; locals = m.locals.items };
+  callers = [];
+}
 
 abbrev pub progress_of : {A B : Type 0} → (A → B) → Result A OutOfTicks → machine.Machine → Progress B
 progress_of view (Ok value) m = Done (view value) (activity_of m)

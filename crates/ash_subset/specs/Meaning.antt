@@ -7,8 +7,10 @@ use Rattle.ash_subset.specs.declared.tree.Operator.{Operator}
 use Rattle.ash_subset.specs.declared.tree.Operator.TheVariants.{Add, Subtract, Multiply}
 use Rattle.ash_subset.specs.declared.tree.Place.TheVariants as places
 use Rattle.ash_subset.specs.declared.outcome.Exception.{Exception}
-use Rattle.ash_subset.specs.Tree.{Expr, Literal, Read, Chain, Links, none, link, Action, Assign, Update, Return, Stmt, Global, Function, Module}
-use Rattle.ash_subset.specs.Activity.{Activity, Frame, Break, Raised, Exhausted, Progress, Done, Broken, Run, give, ◌>>=◌, ◌>>◌, tick, read, write}
+use Rattle.ash_subset.specs.Tree.{Expr, Literal, Read, Chain, Links, none, link, Action, Assign, Update, Return, Stmt}
+use Rattle.ash_subset.specs.Tree.{Global, Function, Module}
+use Rattle.ash_subset.specs.Activity.{Activity, Frame, Break, Raised, Exhausted, Progress, Done, Broken, Run, give}
+use Rattle.ash_subset.specs.Activity.{◌>>=◌, ◌>>◌, tick, read, write}
 
 -- an operator on the words of its operands
 abbrev pub operate : Operator → Word → Word → Word
@@ -32,10 +34,12 @@ pub data Flow : Type 0 where
   On : Flow
   Returned : (value : Word) → Flow
 
--- What a statement does behind its tick. The right side of an assignment is computed before the place is read or written.
+-- What a statement does after its tick. The right side of an assignment is computed before the place is read or
+-- written.
 abbrev pub act : Action → Run Flow
 act (Assign place value) = expression value >>= (λ word. write place word >> give On)
-act (Update place operator value) = expression value >>= (λ right. read place >>= (λ left. write place (operate operator left right) >> give On))
+act (Update place operator value) = expression value >>=
+    (λ right. read place >>= (λ left. write place (operate operator left right) >> give On))
 act (Return value) = expression value >>= (λ word. give (Returned word))
 
 -- A statement takes a tick at its line.
@@ -64,9 +68,11 @@ initialize place (Some value) = expression value >>= write (places.Global place)
 -- Each global takes a tick at its line, in source order from this place on.
 abbrev pub initializers : ℕ → List Global → Run (Unit {0})
 initializers place [] = give tt
-initializers place (global ∷ more) = tick global.line >> initialize place global.initializer >> initializers (place + 1) more
+initializers place (global ∷ more) = tick global.line >> initialize place global.initializer >> initializers (place + 1)
+    more
 
--- How a run ends: at its end, or by an exception or a refused tick, told by the innermost frame's function and line.
+-- How a run ends: at its end, or by an exception or a refused tick, reported with the innermost frame's function and
+-- line.
 pub data End : Type 0 where
   Finished : (value : Option Word) → End
   Threw : (exception : Exception) → (function : List ℕ) → (line : ℕ) → End
@@ -81,17 +87,24 @@ value_of On = None
 value_of (Returned value) = Some value
 
 -- the end of a run, and the globals that it leaves: what it did before a break stays
-abbrev pub ended : {A : Type 0} → (A → Option Word) → Progress A → End × List Word
-ended value (Done result activity) = (Finished (value result), activity.globals)
-ended value (Broken break activity) = (broken_by break activity.frame, activity.globals)
+abbrev pub end_and_globals : {A : Type 0} → (A → Option Word) → Progress A → End × List Word
+end_and_globals value (Done result activity) = (Finished (value result), activity.globals)
+end_and_globals value (Broken break activity) = (broken_by break activity.frame, activity.globals)
 
 -- one frame, and no callers
-abbrev pub begun : List ℕ → List Word → List Word → ℕ → Activity
-begun function locals globals budget = record { globals = globals; ticks = budget; frame = record { function = function; line = 1; locals = locals }; callers = [] }
+abbrev pub new_activity : List ℕ → List Word → List Word → ℕ → Activity
+new_activity function locals globals budget =
+    record {
+      globals = globals;
+      ticks = budget;
+      frame = record { function = function; line = 1; locals = locals };
+      callers = [];
+    }
 
 -- a call from outside, with the words of its arguments
 abbrev pub call : Function → List Word → List Word → ℕ → End × List Word
-call function arguments globals budget = ended value_of (body function (begun function.name arguments globals budget))
+call function arguments globals budget = end_and_globals value_of
+    (body function (new_activity function.name arguments globals budget))
 
 -- what a global holds before its initializer has run
 abbrev pub zero_of : Global → Word
@@ -99,4 +112,5 @@ zero_of global = Int (pos 0)
 
 -- the globals of a module that is loaded, initialized in one frame that has no tick of its own
 abbrev pub load_globals : Module → ℕ → End × List Word
-load_globals m budget = ended (λ _. None) (initializers 0 m.globals (begun (codes "(init)") [] (map zero_of m.globals) budget))
+load_globals m budget = end_and_globals (λ _. None)
+    (initializers 0 m.globals (new_activity (codes "(init)") [] (map zero_of m.globals) budget))

@@ -1,11 +1,12 @@
 -- Which scripts can be run so far, and the typed tree of each.
 --
 -- Such a script declares globals, one `int` in each declaration, and functions from `int`s to an `int`. A tree does not
--- tell `int` from `int32`, which are one type, nor a `;` that stands alone between two items: scripts that differ by no
--- more are the same here. The globals and the functions share one space of names, in which each name stands once; there
--- are at most 256 globals. In the parameters of a function each name stands once too. Items see each other in any order.
--- Each function has a `return` among its statements.
-use Rattle.std.specs.Prelude.{ℕ, Bool, true, false, ◌&&◌, nat_eq, nat_le, if◌then◌else◌, List, [], ◌∷◌, ◌++◌, length, map, Option, Some, None, option_map}
+-- tell `int` from `int32`, which are one type, nor a `;` that is alone between two items: scripts that differ by no
+-- more are the same here. The globals and the functions share one space of names, in which each name is in it once;
+-- there are at most 256 globals. In the parameters of a function each name is in it once too. Items see each other in
+-- any order. Each function has a `return` among its statements.
+use Rattle.std.specs.Prelude.{ℕ, Bool, true, false, ◌&&◌, nat_eq, nat_le, if◌then◌else◌, List, [], ◌∷◌, ◌++◌, length}
+use Rattle.std.specs.Prelude.{map, Option, Some, None, option_map}
 use Rattle.std.specs.List.{list_any, list_all, filter_map}
 use Rattle.ash_tree.specs.declared.tree.places.Place.{Place}
 use Rattle.ash_tree.specs.declared.tree.types.Primitive.TheVariants as primitives
@@ -56,7 +57,8 @@ variable_at _ = None
 -- An initializer sees the globals alone.
 abbrev pub initializer_in : List (List ℕ) → written.Initializer → Option (Option typed.Expr)
 initializer_in globals written.Default = Some None
-initializer_in globals (written.Value value) = option_map Some (value_in (record { parameters = []; globals = globals }) value)
+initializer_in globals (written.Value value) =
+    option_map Some (value_in (record { parameters = []; globals = globals }) value)
 initializer_in globals (written.Arguments es) = None
 
 abbrev pub global_with : Variable → Option typed.Expr → typed.Global
@@ -84,7 +86,8 @@ function_with f body = record { name = f.name; line = line_of f.place; parameter
 abbrev pub function_in : List (List ℕ) → written.Function → Option typed.Function
 function_in globals f =
     if is_distinct (parameter_names f.parameters) && has_return f.body
-    then option_map (function_with f) (each (stmt_in (record { parameters = parameter_names f.parameters; globals = globals })) f.body)
+    then option_map (function_with f) (each (stmt_in
+    (record { parameters = parameter_names f.parameters; globals = globals })) f.body)
     else None
 
 abbrev pub function_at : written.Item → Option written.Function
@@ -108,19 +111,21 @@ abbrev pub function_names : List written.Item → List (List ℕ)
 function_names items = map (λ (f : written.Function). f.name) (functions_of items)
 
 -- as many globals as a module may have
-abbrev pub most_globals : ℕ
-most_globals = 256
+abbrev pub max_globals : ℕ
+max_globals = 256
 
 abbrev pub module_with : List typed.Global → List typed.Function → typed.Module
 module_with globals functions = record { globals = globals; functions = functions }
 
 -- the items of a module with these globals
 abbrev pub items_in : List (List ℕ) → List written.Item → Option typed.Module
-items_in globals items = both module_with (each (global_in globals) (variables_of items)) (each (function_in globals) (functions_of items))
+items_in globals items = both module_with (each (global_in globals) (variables_of items))
+    (each (function_in globals) (functions_of items))
 
 -- the typed tree of a script, if it can be run so far
 abbrev pub resolved : List written.Item → Option typed.Module
 resolved items =
-    if list_all is_of_ints items && is_distinct (global_names items ++ function_names items) && nat_le (length (global_names items)) most_globals
+    if list_all is_of_ints items && is_distinct (global_names items ++ function_names items) && nat_le
+    (length (global_names items)) max_globals
     then items_in (global_names items) items
     else None

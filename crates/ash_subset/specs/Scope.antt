@@ -1,9 +1,12 @@
 -- Which variable each name of a script is, and which statements and expressions can be run so far.
 --
--- Statements assign to a variable by `=` or `+=`, or return a value. Values are numbers, variables, sums, differences and
--- products of values, and values in brackets. The parameters of a function are a space of names of their own, and one of
+-- Statements assign to a variable by `=` or `+=`, or return a value. Values are numbers, variables, sums, differences
+-- and
+-- products of values, and values in brackets. The parameters of a function are a space of names of their own, and one
+-- of
 -- them hides a global or a function of its name.
-use Rattle.std.specs.Prelude.{ℕ, Bool, true, not, ◌&&◌, ◌-◌, ◌^◌, min, pos, nat_eq, nat_le, if◌then◌else◌, List, [], ◌∷◌, position, Option, Some, None, option_map}
+use Rattle.std.specs.Prelude.{ℕ, Bool, true, not, ◌&&◌, ◌-◌, ◌^◌, min, pos, nat_eq, nat_le, if◌then◌else◌, List, []}
+use Rattle.std.specs.Prelude.{◌∷◌, position, Option, Some, None, option_map}
 use Rattle.std.specs.List.{list_any}
 use Rattle.std.specs.Option.{option_or}
 use Rattle.std.specs.Str.{bytes_eq}
@@ -39,7 +42,7 @@ each make (a ∷ more) = both ◌∷◌ (make a) (each make more)
 abbrev pub is_named : List ℕ → List ℕ → Bool
 is_named name other = bytes_eq other name
 
--- Each name stands once.
+-- Each name occurs once.
 abbrev pub is_distinct : List (List ℕ) → Bool
 is_distinct [] = true
 is_distinct (name ∷ more) = not (list_any (is_named name) more) && is_distinct more
@@ -51,7 +54,8 @@ pub record Scope : Type 0 where
 
 -- A name is a parameter, else a global; a function's name is neither.
 abbrev pub place_in : Scope → List ℕ → Option Place
-place_in scope name = option_or (option_map Local (position (is_named name) scope.parameters)) (option_map Global (position (is_named name) scope.globals))
+place_in scope name = option_or (option_map Local (position (is_named name) scope.parameters))
+    (option_map Global (position (is_named name) scope.globals))
 
 -- expressions
 
@@ -71,23 +75,25 @@ abbrev mutual
   expr_in room scope (written.Number p number) = number_in number
   expr_in room scope (written.Name p name) = option_map typed.Read (place_in scope name)
   expr_in room scope (written.Brackets p inner) = if nat_eq room 0 then None else expr_in (room - 1) scope inner
-  expr_in room scope (written.Binary p first rest) = both typed.Chain (expr_in room scope first) (links_in room scope rest)
+  expr_in room scope (written.Binary p first rest) =
+      both typed.Chain (expr_in room scope first) (links_in room scope rest)
   expr_in room scope _ = None
 
   pub links_in : ℕ → Scope → written.Links → Option typed.Links
   links_in room scope written.no_link = Some typed.none
-  links_in room scope (written.link operator operand more) = all_three typed.link (operator_in operator) (expr_in room scope operand) (links_in room scope more)
+  links_in room scope (written.link operator operand more) =
+      all_three typed.link (operator_in operator) (expr_in room scope operand) (links_in room scope more)
 
 -- how deep brackets nest at most
-abbrev pub most_brackets : ℕ
-most_brackets = 16
+abbrev pub max_brackets : ℕ
+max_brackets = 16
 
 abbrev pub value_in : Scope → written.Expr → Option typed.Expr
-value_in scope e = expr_in most_brackets scope e
+value_in scope e = expr_in max_brackets scope e
 
 -- statements
 
--- a line as a run tells it: in 32 bits, which no source of 65,536 bytes comes near
+-- a line as a run reports it: in 32 bits, which no source of 65,536 bytes comes near
 abbrev pub line_of : written_place.Place → ℕ
 line_of place = min place.line (2 ^ 32 - 1)
 
@@ -97,8 +103,10 @@ target_in scope (written.Name p name) = place_in scope name
 target_in scope _ = None
 
 abbrev pub assignment_in : Scope → written.Expr → Option typed.Action
-assignment_in scope (written.Assign p target assign_ops.Assign value) = both typed.Assign (target_in scope target) (value_in scope value)
-assignment_in scope (written.Assign p target assign_ops.Add value) = both (λ place sum. typed.Update place operators.Add sum) (target_in scope target) (value_in scope value)
+assignment_in scope (written.Assign p target assign_ops.Assign value) =
+    both typed.Assign (target_in scope target) (value_in scope value)
+assignment_in scope (written.Assign p target assign_ops.Add value) =
+    both (λ place sum. typed.Update place operators.Add sum) (target_in scope target) (value_in scope value)
 assignment_in scope _ = None
 
 abbrev pub return_in : Scope → Option written.Expr → Option typed.Action

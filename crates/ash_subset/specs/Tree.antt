@@ -12,7 +12,7 @@ use Rattle.ash_subset.specs.declared.tree.Global as global
 use Rattle.ash_subset.specs.declared.tree.Function as function
 use Rattle.ash_subset.specs.declared.tree.Module as source_module
 
--- an expression; the operators of one level stand as a list of links behind the first operand
+-- an expression; the operators of one level are a list of links after the first operand
 mutual
   pub data Expr : Type 0 where
     Literal : (word : Word) → Expr
@@ -53,7 +53,7 @@ pub record Module : Type 0 where
   pub globals : List Global
   pub functions : List Function
 
--- what the code's trees stand for
+-- what the code's trees represent
 
 abbrev mutual
   pub expr_of : expr.Expr → Expr
@@ -77,7 +77,12 @@ abbrev pub global_of : global.Global → Global
 global_of g = record { name = string_bytes g.name; line = g.line; initializer = option_map expr_of g.initializer }
 
 abbrev pub function_of : function.Function → Function
-function_of f = record { name = string_bytes f.name; line = f.line; parameters = f.parameters; body = map stmt_of f.body.items }
+function_of f = record {
+  name = string_bytes f.name;
+  line = f.line;
+  parameters = f.parameters;
+  body = map stmt_of f.body.items;
+}
 
 abbrev pub module_of : source_module.Module → Module
 module_of m = record { globals = map global_of m.globals.items; functions = map function_of m.functions.items }

@@ -1,4 +1,4 @@
--- What the resolver's lists and structs stand for.
+-- What the resolver's lists and structs represent.
 use Rattle.std.specs.Prelude.{ℕ, List, [], ◌∷◌, map}
 use Rattle.std.specs.Borrow.{Bor}
 use Rattle.ash_tree.specs.declared.tree.expressions.Link as written_link
@@ -17,10 +17,14 @@ texts names = map (λ (name : Bor (List ℕ)). name.now) names
 abbrev pub scope_of : scope.Scope → Scope
 scope_of s = record { parameters = texts s.parameters.now; globals = texts s.globals.now }
 
-abbrev pub variable_seen : variable.Variable → Variable
-variable_seen v = record { name = v.name.now; place = v.place; initializer = written_views.initializer_of v.initializer.now }
+abbrev pub variable_view : variable.Variable → Variable
+variable_view v = record {
+  name = v.name.now;
+  place = v.place;
+  initializer = written_views.initializer_of v.initializer.now;
+}
 
--- the links of a chain, where they stand in a vector
+-- the links of a chain, where they are in a vector
 
 abbrev pub written_links : List written_link.Link → written.Links
 written_links [] = written.no_link

@@ -2,7 +2,8 @@
 
 ghost use Rattle.std.specs.Prelude.{◌≡◌, map, option_map, IfOk};
 ghost use Rattle.ash_subset.specs.Activity.{Done, Exhausted, value_at, stored_at, tick};
-ghost use Rattle.ash_subset.specs.Meaning.{expression, operate, chain, statement, block, act, body, initialize, initializers, call, load_globals, broken_by, zero_of};
+ghost use Rattle.ash_subset.specs.Meaning.{expression, operate, chain, statement, block, act, body, initialize};
+ghost use Rattle.ash_subset.specs.Meaning.{initializers, call, load_globals, broken_by, zero_of};
 ghost use Rattle.ash_subset.specs.Machine.{activity_of, progress_of, flow_of, links_from};
 ghost use Rattle.ash_subset.specs.Outcomes.{end_of};
 ghost use Rattle.ash_subset.specs.Tree.{expr_of, action_of, stmt_of, global_of, function_of, module_of};
@@ -50,7 +51,8 @@ fn apply(operator: Operator, left: Word, right: Word) -> Word
 impl Machine<'_> {
     /// The end of a run that found no tick.
     fn aborted(&self, alloc: alloc::Global) -> Result<Outcome, AllocError>
-        ensures { IfOk result (λ outcome. end_of outcome ≡ broken_by Exhausted (activity_of self.now).frame) }
+        ensures { IfOk result (λ outcome. end_of outcome
+            ≡ broken_by Exhausted (activity_of self.now).frame) }
     {
         Ok(Outcome::Aborted {
             function: String::from_str(alloc, self.function)?,
@@ -99,7 +101,8 @@ impl Machine<'_> {
 
     #[cycle(value)]
     fn value(&mut self, expr: &Expr) -> Word
-        ensures { expression (expr_of expr.now) (activity_of self.old) ≡ Done result (activity_of self.new) }
+        ensures { expression (expr_of expr.now) (activity_of self.old)
+            ≡ Done result (activity_of self.new) }
     {
         match expr {
             Expr::Literal(word) => *word,
@@ -113,7 +116,8 @@ impl Machine<'_> {
 
     #[cycle(value)]
     fn chain(&mut self, first: Word, rest: &[Link]) -> Word
-        ensures { chain (links_from rest.now) first (activity_of self.old) ≡ Done result (activity_of self.new) }
+        ensures { chain (links_from rest.now) first (activity_of self.old)
+            ≡ Done result (activity_of self.new) }
     {
         let mut left = first;
         for link in rest {
@@ -124,7 +128,8 @@ impl Machine<'_> {
     }
 
     fn act(&mut self, action: &Action) -> Flow
-        ensures { act (action_of action.now) (activity_of self.old) ≡ Done (flow_of result) (activity_of self.new) }
+        ensures { act (action_of action.now) (activity_of self.old)
+            ≡ Done (flow_of result) (activity_of self.new) }
     {
         match action {
             Action::Assign { place, value } => {
@@ -147,14 +152,16 @@ impl Machine<'_> {
     }
 
     fn statement(&mut self, stmt: &Stmt) -> Result<Flow, OutOfTicks>
-        ensures { progress_of flow_of result self.new ≡ statement (stmt_of stmt.now) (activity_of self.old) }
+        ensures { progress_of flow_of result self.new
+            ≡ statement (stmt_of stmt.now) (activity_of self.old) }
     {
         self.tick(stmt.line)?;
         Ok(self.act(&stmt.action))
     }
 
     fn block(&mut self, stmts: &[Stmt]) -> Result<Flow, OutOfTicks>
-        ensures { progress_of flow_of result self.new ≡ block (map stmt_of stmts.now) (activity_of self.old) }
+        ensures { progress_of flow_of result self.new
+            ≡ block (map stmt_of stmts.now) (activity_of self.old) }
     {
         for stmt in stmts {
             if let Flow::Returned(value) = self.statement(stmt)? {
@@ -165,14 +172,16 @@ impl Machine<'_> {
     }
 
     fn body(&mut self, function: &Function) -> Result<Flow, OutOfTicks>
-        ensures { progress_of flow_of result self.new ≡ body (function_of function.now) (activity_of self.old) }
+        ensures { progress_of flow_of result self.new
+            ≡ body (function_of function.now) (activity_of self.old) }
     {
         self.tick(function.line)?;
         self.block(&function.body)
     }
 
     fn initialize(&mut self, place: usize, initializer: &Option<Expr>)
-        ensures { initialize place (option_map expr_of initializer.now) (activity_of self.old) ≡ Done tt (activity_of self.new) }
+        ensures { initialize place (option_map expr_of initializer.now) (activity_of self.old)
+            ≡ Done tt (activity_of self.new) }
     {
         if let Some(value) = initializer {
             let word = self.value(value);
@@ -181,7 +190,8 @@ impl Machine<'_> {
     }
 
     fn initializers(&mut self, globals: &[Global]) -> Result<(), OutOfTicks>
-        ensures { progress_of (λ _. tt) result self.new ≡ initializers 0 (map global_of globals.now) (activity_of self.old) }
+        ensures { progress_of (λ _. tt) result self.new
+            ≡ initializers 0 (map global_of globals.now) (activity_of self.old) }
     {
         for (place, global) in globals.iter().enumerate() {
             self.tick(global.line)?;
@@ -199,7 +209,8 @@ pub fn call(
     globals: Vec<Word>,
     budget: u64,
 ) -> Result<(Outcome, Vec<Word>), AllocError>
-    ensures { IfOk result (λ run. (end_of run.0, run.1.items) ≡ call (function_of function.now) arguments.items globals.items budget) }
+    ensures { IfOk result (λ run. (end_of run.0, run.1.items)
+        ≡ call (function_of function.now) arguments.items globals.items budget) }
 {
     let mut machine = Machine {
         globals,
@@ -240,7 +251,8 @@ pub fn load_globals(
     tree: &Module,
     budget: u64,
 ) -> Result<(Outcome, Vec<Word>), AllocError>
-    ensures { IfOk result (λ run. (end_of run.0, run.1.items) ≡ load_globals (module_of tree.now) budget) }
+    ensures { IfOk result (λ run. (end_of run.0, run.1.items)
+        ≡ load_globals (module_of tree.now) budget) }
 {
     let mut machine = Machine {
         globals: zeros(alloc, &tree.globals)?,

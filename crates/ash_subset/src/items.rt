@@ -3,8 +3,9 @@
 ghost use Rattle.std.specs.Prelude.{◌≡◌, ◌++◌, map, option_map, IfOk};
 ghost use Rattle.std.specs.List.{list_all};
 ghost use Rattle.ash_tree.specs.Views.{type_of, decl_of, parameter_of, item_of};
-ghost use Rattle.ash_subset.specs.Resolver.{is_int, returns_int, takes_ints, is_of_ints, variable_of, variable_at, parameter_names, global_names, function_names};
-ghost use Rattle.ash_subset.specs.Views.{texts, variable_seen};
+ghost use Rattle.ash_subset.specs.Resolver.{is_int, returns_int, takes_ints, is_of_ints, variable_of, variable_at};
+ghost use Rattle.ash_subset.specs.Resolver.{parameter_names, global_names, function_names};
+ghost use Rattle.ash_subset.specs.Views.{texts, variable_view};
 
 use ash_tree::{Decl, Function, Initializer, Item, Parameter, Place, Primitive, Type, TypeKind};
 use std::alloc::{AllocError, Global};
@@ -67,7 +68,7 @@ pub fn are_of_ints(items: &[Item]) -> bool
 }
 
 fn variable_of(place: Place, decls: &[Decl]) -> Option<Variable<'_>>
-    ensures { option_map variable_seen result ≡ variable_of place (map decl_of decls.now) }
+    ensures { option_map variable_view result ≡ variable_of place (map decl_of decls.now) }
 {
     match decls {
         [decl] => Some(Variable {
@@ -81,7 +82,7 @@ fn variable_of(place: Place, decls: &[Decl]) -> Option<Variable<'_>>
 
 /// The global that an item declares.
 pub fn variable_at(item: &Item) -> Option<Variable<'_>>
-    ensures { option_map variable_seen result ≡ variable_at (item_of item.now) }
+    ensures { option_map variable_view result ≡ variable_at (item_of item.now) }
 {
     match item {
         Item::Vars(vars) => variable_of(vars.of.place, &vars.decls),
@@ -101,13 +102,14 @@ pub fn names_of_globals(alloc: Global, items: &[Item]) -> Result<Vec<&str>, Allo
     Ok(names)
 }
 
-/// These names, and behind them those of the functions.
+/// These names, and after them those of the functions.
 pub fn with_names_of_functions<'a>(
     alloc: Global,
     globals: &[&'a str],
     items: &'a [Item],
 ) -> Result<Vec<&'a str>, AllocError>
-    ensures { IfOk result (λ names. texts names.items ≡ texts globals.now ++ function_names (map item_of items.now)) }
+    ensures { IfOk result (λ names. texts names.items
+        ≡ texts globals.now ++ function_names (map item_of items.now)) }
 {
     let mut names = Vec::from_slice(alloc, globals)?;
     for item in items {
@@ -119,7 +121,8 @@ pub fn with_names_of_functions<'a>(
 }
 
 pub fn names_of_parameters(alloc: Global, parameters: &[Parameter]) -> Result<Vec<&str>, AllocError>
-    ensures { IfOk result (λ names. texts names.items ≡ parameter_names (map parameter_of parameters.now)) }
+    ensures { IfOk result (λ names. texts names.items
+        ≡ parameter_names (map parameter_of parameters.now)) }
 {
     let mut names = Vec::new(alloc);
     for parameter in parameters {

@@ -11,7 +11,7 @@ pub fn place_of(name: &str, names: &[&str]) -> Option<usize>
     names.iter().position(|other| *other == name)
 }
 
-/// Whether each name stands once.
+/// Whether each name is in it once.
 pub fn are_distinct(names: &[&str]) -> bool
     ensures { result ≡ is_distinct (texts names.now) }
 {

@@ -1,11 +1,13 @@
 // Names resolved: from the tree of a script, with names as they are written, to the typed tree.
 
 ghost use Rattle.std.specs.Prelude.{◌≡◌, map, option_map, IfOk};
-ghost use Rattle.ash_tree.specs.Views.{initializer_of, stmt_of as written_stmt, function_of as written_function, item_of, module_of as items_of};
+ghost use Rattle.ash_tree.specs.Views.{initializer_of, stmt_of as written_stmt, function_of as written_function};
+ghost use Rattle.ash_tree.specs.Views.{item_of, module_of as items_of};
 ghost use Rattle.ash_subset.specs.Tree.{expr_of, function_of, global_of, module_of};
 ghost use Rattle.ash_subset.specs.Scope.{each};
-ghost use Rattle.ash_subset.specs.Resolver.{initializer_in, global_in, is_return, has_return, function_in, variables_of, functions_of, items_in, resolved};
-ghost use Rattle.ash_subset.specs.Views.{texts, variable_seen};
+ghost use Rattle.ash_subset.specs.Resolver.{initializer_in, global_in, is_return, has_return, function_in};
+ghost use Rattle.ash_subset.specs.Resolver.{variables_of, functions_of, items_in, resolved};
+ghost use Rattle.ash_subset.specs.Views.{texts, variable_view};
 
 use crate::items::{
     Variable, are_of_ints, names_of_globals, names_of_parameters, variable_at,
@@ -19,13 +21,13 @@ use ash_tree::{Initializer, Item, Stmt, StmtKind};
 use std::alloc::{AllocError, Global};
 
 /// The most globals that a module may have.
-const MOST_GLOBALS: usize = 256;
+const MAX_GLOBALS: usize = 256;
 
 /// The typed tree of a script, or `None` of a script that can't be run yet.
 ///
-/// The globals and the functions of a module share one space of names, in which each name stands once, and see each
+/// The globals and the functions of a module share one space of names, in which each name is in it once, and see each
 /// other in any order (AngelScript manual, "Global entities"). The parameters of a function are a space of their own,
-/// in which each name stands once too. A name in a statement or an expression is a parameter of the function, else a
+/// in which each name is in it once too. A name in a statement or an expression is a parameter of the function, else a
 /// global of the module; a function's name is neither. A module has at most 256 globals, and each function has a
 /// `return` among its statements. So far each global, parameter and result is an `int`, each declaration of a global
 /// declares one, and a function assigns by `=` and `+=` and returns sums, differences and products, whose brackets nest
@@ -44,7 +46,7 @@ pub fn resolve(alloc: Global, script: &written::Module) -> Result<Option<Module>
     }
     let globals = names_of_globals(alloc, items)?;
     let names = with_names_of_functions(alloc, &globals, items)?;
-    if globals.len() > MOST_GLOBALS || !are_distinct(&names) {
+    if globals.len() > MAX_GLOBALS || !are_distinct(&names) {
         return Ok(None);
     }
     resolve_items(alloc, &globals, items)
@@ -96,7 +98,7 @@ fn resolve_global(
     source: Variable,
 ) -> Result<Option<TypedGlobal>, AllocError>
     ensures { IfOk result (λ found.
-        option_map global_of found ≡ global_in (texts globals.now) (variable_seen source.entry)) }
+        option_map global_of found ≡ global_in (texts globals.now) (variable_view source.entry)) }
 {
     let Some(initializer) = resolve_initializer(alloc, globals, source.initializer)? else {
         return Ok(None);
@@ -156,7 +158,7 @@ fn resolve_functions(
     Ok(Some(resolved))
 }
 
-/// Each name stands once among the parameters, and a `return` stands among the statements.
+/// Each name occurs once among the parameters, and a `return` is among the statements.
 fn resolve_function(
     alloc: Global,
     globals: &[&str],

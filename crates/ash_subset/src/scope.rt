@@ -4,7 +4,8 @@ ghost use Rattle.std.specs.Prelude.{◌≡◌, ◌⊎◌, map, option_map, IfOk}
 ghost use Rattle.ash_tree.specs.Tree as script;
 ghost use Rattle.ash_tree.specs.Views.{expr_of as written_expr, stmt_of as written_stmt};
 ghost use Rattle.ash_subset.specs.Tree.{Chain, expr_of, action_of, stmt_of};
-ghost use Rattle.ash_subset.specs.Scope.{each, place_in, number_in, operator_in, expr_in, links_in, value_in, line_of, target_in, assignment_in, return_in, stmt_in};
+ghost use Rattle.ash_subset.specs.Scope.{each, place_in, number_in, operator_in, expr_in, links_in, value_in, line_of};
+ghost use Rattle.ash_subset.specs.Scope.{target_in, assignment_in, return_in, stmt_in};
 ghost use Rattle.ash_subset.specs.Views.{scope_of, written_links, typed_links};
 
 use crate::names::place_of;
@@ -14,10 +15,10 @@ use ash_tree as written;
 use std::alloc::{AllocError, Global};
 
 /// How deep brackets nest at most.
-const MOST_BRACKETS: u32 = 16;
+const MAX_BRACKETS: u32 = 16;
 
 /// The greatest `int`.
-const GREATEST: u64 = 2_147_483_647;
+const MAX_LITERAL: u64 = 2_147_483_647;
 
 /// What a statement or an expression sees: the parameters of its function and the globals of its module, by their
 /// names.
@@ -122,7 +123,7 @@ impl Scope<'_> {
         ensures { IfOk result (λ found.
             option_map expr_of found ≡ value_in (scope_of self.now) (written_expr source.now)) }
     {
-        self.expression(alloc, MOST_BRACKETS, source)
+        self.expression(alloc, MAX_BRACKETS, source)
     }
 
     /// A value whose brackets nest at most `room` deep.
@@ -203,7 +204,7 @@ pub fn line_of(place: written::Place) -> u32
 fn literal(number: u64) -> Option<Expr>
     ensures { option_map expr_of result ≡ number_in number }
 {
-    if number > GREATEST {
+    if number > MAX_LITERAL {
         return None;
     }
     Some(Expr::Literal(Word::Int(number as i32)))

@@ -63,7 +63,7 @@ pub enum Action {
 pub enum Expr {
     Literal(Word),
     Read(Place),
-    /// Operators of one level, grouped to the left. They stand as a list, so that a long sum is shallow.
+    /// Operators of one level, grouped to the left. They are a list, so that a long sum is shallow.
     Chain { first: Box<Expr>, rest: Vec<Link> },
 }
 
@@ -75,7 +75,7 @@ pub struct Link {
     pub operand: Expr,
 }
 
-/// Where a variable is kept.
+/// Where a variable is.
 #[derive(Clone, Copy, Debug)]
 pub enum Place {
     /// A local of the running function, by its slot.

@@ -17,14 +17,17 @@ loop-record-preserved c =
     let next = c.in_ok-state.state in
     let later = drop (c.loop-record.record-index + 1) c.args.records.now in
     let left = left_from c.args.records.now c.loop-record.record-index r c.loop-record-test.true c.record-item.is in
-    let shaped = subst (λ (l : List Record). AllByRecursion (IsBodyWith (text_of before.registered)) (bodies_of l)) left c.loop-record.invariant.shaped in
+    let shaped = subst (λ (l : List Record). AllByRecursion (IsBodyWith (text_of before.registered)) (bodies_of l))
+    left c.loop-record.invariant.shaped in
     let on : LeadsOn before.registered r.body.items r.gate (Ok next) = (
       c.in_ok-state.ensures.0 ∙ c.into_registry.ensures,
       subst (λ (body : List ℕ). IsBody body (snapshot_of next)) c.deref.ensures.value c.in_ok-state.ensures.1,
       c.in_ok-state.ensures.2,
     ) in
     record {
-      shaped = subst (λ (of : List Call). AllByRecursion (IsBodyWith (text_of of)) (bodies_of later)) (sym on.0) shaped.1;
+      shaped = subst (λ (of : List Call). AllByRecursion (IsBodyWith (text_of of)) (bodies_of later)) (sym on.0)
+          shaped.1;
       leads = λ result through.
-          c.loop-record.invariant.leads result (subst (λ (l : List Record). LeadsThrough before l result) (sym left) (through_more before next r later result on through));
+          c.loop-record.invariant.leads result (subst (λ (l : List Record). LeadsThrough before l result) (sym left)
+          (through_more before next r later result on through));
     }

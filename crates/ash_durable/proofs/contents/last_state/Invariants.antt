@@ -11,5 +11,6 @@ use Rattle.ash_durable.proofs.contents.last_state.Given as goal
 abbrev pub invariant-loop-record : goal.invariant-loop-record
 invariant-loop-record l = record {
   shaped : AllByRecursion (IsBodyWith (text_of l.state.registered)) (bodies_of (drop l.record-index l.records));
-  leads : (result : Result State StoreFault) → LeadsThrough l.state (drop l.record-index l.records) result → LeadsThrough l.fn.first l.records result;
+  leads : (result : Result State StoreFault) → LeadsThrough l.state (drop l.record-index l.records) result
+      → LeadsThrough l.fn.first l.records result;
 }

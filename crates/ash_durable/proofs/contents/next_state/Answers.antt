@@ -1,6 +1,6 @@
 use Rattle.std.proofs.Common.{◌≡◌, ◌∙◌, ap}
 use Rattle.ash_image.specs.Image.{Snapshot, snapshot_read}
-use Rattle.ash_image.proofs.Body_laws.{body_once}
+use Rattle.ash_image.proofs.BodyLaws.{body_once}
 use Rattle.ash_registry.specs.Registered.{registered}
 use Rattle.ash_registry.specs.Text.{text_of}
 use Rattle.ash_durable.proofs.Reading.{leads_on}
@@ -13,4 +13,4 @@ returns-in-Some c =
     let text : s.registered ≡ text_of (registered c.args.registry) =
     ap (λ (t : Snapshot). t.registered) (body_once c.args.body.now s c.requires.0 is_body c.requires.1) ∙ c.requires.2
     in
-    leads_on (registered c.args.registry) c.args.body.now s c.args.gate c.restored.result is_body text c.restored.ensures
+    leads_on (registered c.args.registry) c.args.body.now s c.args.gate c.restore.result is_body text c.restore.ensures

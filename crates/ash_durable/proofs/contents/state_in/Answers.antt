@@ -7,14 +7,16 @@ use Rattle.ash_meaning.specs.State.{State}
 use Rattle.ash_registry.specs.Registered.{registered}
 use Rattle.ash_registry.specs.Text.{text_of}
 use Rattle.ash_durable.specs.Contents.{IsBodyWith}
-use Rattle.ash_durable.proofs.Reading.{reads_misshapen, reads_unkept, image_restored, reads_through, through_registered}
+use Rattle.ash_durable.proofs.Reading.{reads_misshapen, reads_unadmitted, image_restored, reads_through}
+use Rattle.ash_durable.proofs.Reading.{through_registered}
 use Rattle.ash_durable.proofs.contents.state_in.Goals as goal
 
 pub returns-in_err-check_shapes-clause-reads : goal.returns-in_err-check_shapes-clause-reads
 returns-in_err-check_shapes-clause-reads c placed =
     let fault = c.in_err-check_shapes.field-0.0 in
     let reported : c.from_residual-in_err-check_shapes.result ≡ Err fault = search rules in
-    rw reported (reads_misshapen (registered c.args.registry) c.deref.result.now c.args.image.now c.args.records.now fault
+    rw reported (reads_misshapen (registered c.args.registry)
+    c.deref.result.now c.args.image.now c.args.records.now fault
     (snapshot_read c.in_ok-first.first, c.in_ok-first.ensures, sym c.deref.ensures)
     placed
     c.in_err-check_shapes.ensures)
@@ -23,7 +25,8 @@ pub returns-then-ne-clause-reads : goal.returns-then-ne-clause-reads
 returns-then-ne-clause-reads c placed = (
   c.deref.result.now,
   ((snapshot_read c.in_ok-first.first, c.in_ok-first.ensures, sym c.deref.ensures), c.in_ok-check_shapes.ensures),
-  λ same. differ _ _ c.ne.result c.ne.ensures c.if-ne.true (c.as_str.ensures.value ∙ sym c.deref.ensures ∙ same ∙ sym c.text.ensures.lines),
+  λ same. differ _ _ c.ne.result c.ne.ensures c.if-ne.true
+      (c.as_str.ensures.value ∙ sym c.deref.ensures ∙ same ∙ sym c.text.ensures.lines),
 )
 
 pub returns-in_err-state-clause-reads : goal.returns-in_err-state-clause-reads
@@ -32,8 +35,10 @@ returns-in_err-state-clause-reads c placed =
     let fault = c.in_err-state.field-0.0 in
     let reported : c.from_residual-in_err-state.result ≡ Err fault = search rules in
     let text : s.registered ≡ text_of (registered c.args.registry) = search rules in
-    let shaped = subst (λ (t : List ℕ). AllByRecursion (IsBodyWith t) (bodies_of c.args.records.now)) (c.deref.ensures ∙ text) c.in_ok-check_shapes.ensures in
-    rw reported (reads_unkept (registered c.args.registry) c.args.image.now s (bodies_of c.args.records.now) fault c.in_ok-first.ensures
+    let shaped = subst (λ (t : List ℕ). AllByRecursion (IsBodyWith t) (bodies_of c.args.records.now))
+    (c.deref.ensures ∙ text) c.in_ok-check_shapes.ensures in
+    rw reported (reads_unadmitted (registered c.args.registry) c.args.image.now s (bodies_of c.args.records.now)
+    fault c.in_ok-first.ensures
     ((s, c.in_ok-first.ensures, text), shaped)
     c.in_err-state.ensures)
 
@@ -47,7 +52,10 @@ pub returns-clause-reads : goal.returns-clause-reads
 returns-clause-reads c placed =
     let s = snapshot_read c.in_ok-first.first in
     let text : s.registered ≡ text_of (registered c.args.registry) = search rules in
-    let shaped = subst (λ (t : List ℕ). AllByRecursion (IsBodyWith t) (bodies_of c.args.records.now)) (c.deref.ensures ∙ text) c.in_ok-check_shapes.ensures in
-    let first = image_restored (registered c.args.registry) c.args.image.now s 0 c.in_ok-state.state c.in_ok-first.ensures text c.in_ok-state.ensures in
-    reads_through (registered c.args.registry) c.args.image.now c.args.records.now c.in_ok-state.state c.last_state.result
+    let shaped = subst (λ (t : List ℕ). AllByRecursion (IsBodyWith t) (bodies_of c.args.records.now))
+    (c.deref.ensures ∙ text) c.in_ok-check_shapes.ensures in
+    let first = image_restored (registered c.args.registry)
+    c.args.image.now s 0 c.in_ok-state.state c.in_ok-first.ensures text c.in_ok-state.ensures in
+    reads_through (registered c.args.registry)
+    c.args.image.now c.args.records.now c.in_ok-state.state c.last_state.result
     ((s, c.in_ok-first.ensures, text), shaped) first.0 first.1 placed c.last_state.ensures

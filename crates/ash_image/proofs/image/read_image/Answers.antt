@@ -1,10 +1,11 @@
 use Rattle.std.proofs.Common.{sym, ◌∙◌, arith}
 use Rattle.ash_image.specs.Image.{snapshot_read}
-use Rattle.ash_image.proofs.Image_laws.{is_depicted, is_read, depicts_once}
+use Rattle.ash_image.proofs.ImageLaws.{is_depicted, is_read, depicts_once}
 use Rattle.ash_image.proofs.image.read_image.Goals as goal
 
 pub returns-in-Ok-clause-found : goal.returns-in-Ok-clause-found
-returns-in-Ok-clause-found c = is_depicted c.args.bytes.now (snapshot_read c.in-Ok.stored) (λ i. omega (arith, c.type_inv.bytes i)) c.in-Ok.ensures
+returns-in-Ok-clause-found c = is_depicted c.args.bytes.now (snapshot_read c.in-Ok.stored)
+    (λ i. omega (arith, c.type_inv.bytes i)) c.in-Ok.ensures
 
 pub returns-in-Ok-clause-only : goal.returns-in-Ok-clause-only
 returns-in-Ok-clause-only c = λ s h. sym c.in-Ok.ensures ∙ is_read c.args.bytes.now s h
@@ -20,5 +21,5 @@ returns-in-Ok-clause-one c = λ a b h g. depicts_once c.args.bytes.now a b h g
 pub returns-in-Err-Damaged-clause-one : goal.returns-in-Err-Damaged-clause-one
 returns-in-Err-Damaged-clause-one c = λ a b h g. depicts_once c.args.bytes.now a b h g
 
-pub returns-in-Err-Memory-clause-one : goal.returns-in-Err-Memory-clause-one
-returns-in-Err-Memory-clause-one c = λ a b h g. depicts_once c.args.bytes.now a b h g
+pub returns-in-Err-NoMemory-clause-one : goal.returns-in-Err-NoMemory-clause-one
+returns-in-Err-NoMemory-clause-one c = λ a b h g. depicts_once c.args.bytes.now a b h g

@@ -5,10 +5,13 @@ use Rattle.ash_meaning.proofs.ReadingLaws.{check_refused, module_found, module_r
 use Rattle.ash_meaning.proofs.reading.read_source.Goals as goal
 
 pub returns-in-Err-clause-refused : goal.returns-in-Err-clause-refused
-returns-in-Err-clause-refused c = check_refused (registered c.args.registry.now) c.args.source.now (refusal_of c.in-Err.refusal) c.in-Err.ensures.refused
+returns-in-Err-clause-refused c = check_refused (registered c.args.registry.now) c.args.source.now
+    (refusal_of c.in-Err.refusal) c.in-Err.ensures.refused
 
 pub returns-in-Ok-clause-found : goal.returns-in-Ok-clause-found
-returns-in-Ok-clause-found c = module_found (registered c.args.registry.now) c.args.source.now (items_of c.in-Ok.script) c.in-Ok.ensures.found c.read_script.result c.read_script.ensures.found
+returns-in-Ok-clause-found c = module_found (registered c.args.registry.now) c.args.source.now (items_of c.in-Ok.script)
+    c.in-Ok.ensures.found c.resolved_module.result c.resolved_module.ensures.found
 
 pub returns-in-Ok-clause-refused : goal.returns-in-Ok-clause-refused
-returns-in-Ok-clause-refused c = module_refused (registered c.args.registry.now) c.args.source.now (items_of c.in-Ok.script) c.in-Ok.ensures.found c.read_script.result c.read_script.ensures.refused
+returns-in-Ok-clause-refused c = module_refused (registered c.args.registry.now) c.args.source.now
+    (items_of c.in-Ok.script) c.in-Ok.ensures.found c.resolved_module.result c.resolved_module.ensures.refused

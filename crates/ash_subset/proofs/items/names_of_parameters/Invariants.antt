@@ -5,4 +5,5 @@ use Rattle.ash_subset.specs.Views.{texts}
 use Rattle.ash_subset.proofs.items.names_of_parameters.Given as goal
 
 abbrev pub invariant-loop-parameter : goal.invariant-loop-parameter
-invariant-loop-parameter l = texts l.names.items ≡ parameter_names (map parameter_of (take l.parameter-index l.parameters))
+invariant-loop-parameter l = texts l.names.items
+    ≡ parameter_names (map parameter_of (take l.parameter-index l.parameters))

@@ -16,7 +16,12 @@ returns c =
     let names = texts c.in_ok-globals.globals.items in
     let ints : list_all is_of_ints items ≡ true = search rules in
     let same : names ≡ global_names items = search rules in
-    let few : length names ≤ 256 = omega (arith, length-map c.in_ok-globals.globals.items (λ (name : Bor (List ℕ)). name.now), c.len.ensures) in
+    let few : length names ≤ 256 = omega (
+      arith,
+      length-map c.in_ok-globals.globals.items (λ (name : Bor (List ℕ)). name.now),
+      c.len.ensures,
+    ) in
     let distinct : is_distinct (names ++ function_names items) ≡ true = search rules in
-    let found : IfOk c.resolve_items.result (λ made. option_map typed.module_of made ≡ items_in names items) = rw (c.deref-2.ensures.value, c.as_slice-items.ensures.value) at c.resolve_items.ensures in
+    let found : IfOk c.resolve_items.result (λ made. option_map typed.module_of made ≡ items_in names items) =
+    rw (c.deref-2.ensures.value, c.as_slice-items.ensures.value) at c.resolve_items.ensures in
     record { exact = rw (← accepted items names ints same few distinct) found }

@@ -9,4 +9,5 @@ use Rattle.ash_subset.proofs.resolver.resolve_functions.Given as goal
 
 abbrev pub invariant-loop-item : goal.invariant-loop-item
 invariant-loop-item l =
-    picked_from (function_in (texts l.globals)) function_at item_of function_of l.items l.item-index l.resolved.items ≡ each (function_in (texts l.globals)) (functions_of (map item_of l.items))
+    picked_from (function_in (texts l.globals)) function_at item_of function_of l.items l.item-index l.resolved.items
+    ≡ each (function_in (texts l.globals)) (functions_of (map item_of l.items))

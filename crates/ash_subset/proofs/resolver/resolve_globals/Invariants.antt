@@ -9,4 +9,5 @@ use Rattle.ash_subset.proofs.resolver.resolve_globals.Given as goal
 
 abbrev pub invariant-loop-item : goal.invariant-loop-item
 invariant-loop-item l =
-    picked_from (global_in (texts l.globals)) variable_at item_of global_of l.items l.item-index l.resolved.items ≡ each (global_in (texts l.globals)) (variables_of (map item_of l.items))
+    picked_from (global_in (texts l.globals)) variable_at item_of global_of l.items l.item-index l.resolved.items
+    ≡ each (global_in (texts l.globals)) (variables_of (map item_of l.items))

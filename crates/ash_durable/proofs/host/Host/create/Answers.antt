@@ -10,7 +10,8 @@ returns-in-Ok g c =
     let device = g.D.Disk in
     let state = c.new-state.result in
     let is = c.new-state.ensures in
-    created device (registered c.args.registry) c.args.a c.args.b (record { registered = state.registered; state = Some state; seq = state.seq; journal = c.in-Ok.journal })
+    created device (registered c.args.registry) c.args.a c.args.b
+    (record { registered = state.registered; state = Some state; seq = state.seq; journal = c.in-Ok.journal })
     (record {
       registered_is = ap (λ (s : State). s.registered) is;
       state_is = ap (λ (s : State). Some s) is;

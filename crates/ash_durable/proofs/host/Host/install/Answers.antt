@@ -1,13 +1,16 @@
 use Rattle.std.proofs.Common.{IsSome, Ok, sym, subst}
 use Rattle.ash_durable.specs.Hosting.{Hosted, state_unless}
 use Rattle.ash_durable.specs.Requests.{TriesInstall}
-use Rattle.ash_durable.proofs.Carrying.{seen_host}
+use Rattle.ash_durable.proofs.Handling.{seen_host}
 use Rattle.ash_durable.proofs.Requesting.{install_ok}
 use Rattle.ash_durable.proofs.host.Host.install.Goals as goal
 
 pub returns-in-Ok : goal.returns-in-Ok
 returns-in-Ok g c =
     let device = g.D.Disk in
-    let runs : IsSome (state_unless c.self.inside.stopped c.self.inside.state) = subst (λ (host : Hosted g.row.D.Denot). IsSome host.state) (sym c.self.view_is) c.requires in
-    subst (λ (host : Hosted g.row.D.Denot). TriesInstall device host (Ok tt) (seen_host c.self.inside.stopped c.self.inside.state c.install_state.new.journal)) c.self.view_is
-    (install_ok device c.self.inside.stopped c.self.inside.state c.self.inside.journal c.install_state.new.journal runs c.in-Ok.ensures)
+    let runs : IsSome (state_unless c.self.inside.stopped c.self.inside.state) =
+    subst (λ (host : Hosted g.row.D.Denot). IsSome host.state) (sym c.self.view_is) c.requires in
+    subst (λ (host : Hosted g.row.D.Denot). TriesInstall device host (Ok tt)
+    (seen_host c.self.inside.stopped c.self.inside.state c.install_state.new.journal)) c.self.view_is
+    (install_ok device c.self.inside.stopped c.self.inside.state c.self.inside.journal c.install_state.new.journal runs
+    c.in-Ok.ensures)

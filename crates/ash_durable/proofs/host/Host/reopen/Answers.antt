@@ -10,15 +10,21 @@ pub returns-clause-opens : goal.returns-clause-opens
 returns-clause-opens g c =
     let device = g.D.Disk in
     let parts = c.into_parts-registry.result in
-    subst (λ (r : List Call). Opens device r (first c.args.self) (second c.args.self) c.open.result) c.into_parts-registry.ensures.registry
-    (subst (λ (a : g.row.D.Denot). Opens device (registered parts.0) a (second c.args.self) c.open.result) c.into_parts-registry.ensures.first
-    (subst (λ (b : g.row.D.Denot). Opens device (registered parts.0) parts.1 b c.open.result) c.into_parts-registry.ensures.second c.open.ensures))
+    subst (λ (r : List Call). Opens device r (first c.args.self) (second c.args.self) c.open.result)
+    c.into_parts-registry.ensures.registry
+    (subst (λ (a : g.row.D.Denot). Opens device (registered parts.0) a (second c.args.self) c.open.result)
+    c.into_parts-registry.ensures.first
+    (subst (λ (b : g.row.D.Denot). Opens device (registered parts.0) parts.1 b c.open.result)
+    c.into_parts-registry.ensures.second c.open.ensures))
 
 pub returns-clause-again : goal.returns-clause-again
 returns-clause-again g c =
     let device = g.D.Disk in
     let parts = c.into_parts-registry.result in
     opens_again device g.met.D.Disk.seen_may_stay c.args.self c.open.result
-    (subst (λ (r : List Call). Opens device r (first c.args.self) (second c.args.self) c.open.result) c.into_parts-registry.ensures.registry
-    (subst (λ (a : g.row.D.Denot). Opens device (registered parts.0) a (second c.args.self) c.open.result) c.into_parts-registry.ensures.first
-    (subst (λ (b : g.row.D.Denot). Opens device (registered parts.0) parts.1 b c.open.result) c.into_parts-registry.ensures.second c.open.ensures)))
+    (subst (λ (r : List Call). Opens device r (first c.args.self) (second c.args.self) c.open.result)
+    c.into_parts-registry.ensures.registry
+    (subst (λ (a : g.row.D.Denot). Opens device (registered parts.0) a (second c.args.self) c.open.result)
+    c.into_parts-registry.ensures.first
+    (subst (λ (b : g.row.D.Denot). Opens device (registered parts.0) parts.1 b c.open.result)
+    c.into_parts-registry.ensures.second c.open.ensures)))

@@ -1,8 +1,12 @@
 use Rattle.std.proofs.Common.{◌≡◌, ◌≤◌, ◌*◌, ◌^◌, length, take}
 use Rattle.std.specs.List.{flat_map}
-use Rattle.ash_meaning.specs.Kept.{scripts_in}
-use Rattle.ash_image.specs.Image.{script}
+use Rattle.ash_meaning.specs.StoredModules.{loaded_modules_in}
+use Rattle.ash_image.specs.Image.{loaded_module}
 use Rattle.ash_image.proofs.image.writing.modules_length.Given as goal
 
 abbrev pub invariant-loop-parts : goal.invariant-loop-parts
-invariant-loop-parts l = record { exact : l.total ≡ length (flat_map script (scripts_in (take l.parts-index l.modules))); most : l.total ≤ 2 ^ 20 * l.parts-index }
+invariant-loop-parts l = record {
+  exact : l.total
+      ≡ length (flat_map loaded_module (loaded_modules_in (take l.parts-index l.modules)));
+  most : l.total ≤ 2 ^ 20 * l.parts-index;
+}

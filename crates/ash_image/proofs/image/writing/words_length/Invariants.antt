@@ -4,4 +4,7 @@ use Rattle.ash_image.specs.Image.{word}
 use Rattle.ash_image.proofs.image.writing.words_length.Given as goal
 
 abbrev pub invariant-loop-word : goal.invariant-loop-word
-invariant-loop-word l = record { exact : l.total ≡ length (flat_map word (take l.word-index l.words)); most : l.total ≤ 9 * l.word-index }
+invariant-loop-word l = record {
+  exact : l.total ≡ length (flat_map word (take l.word-index l.words));
+  most : l.total ≤ 9 * l.word-index;
+}

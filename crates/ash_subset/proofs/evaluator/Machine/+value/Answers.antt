@@ -7,4 +7,5 @@ use Rattle.ash_subset.proofs.evaluator.Machine.+value.Goals as goal
 
 pub value-returns-in-Chain : goal.value-returns-in-Chain
 value-returns-in-Chain t c =
-    ap (λ e. expression e (activity_of c.args.self.now)) (ap expr_of c.in-Chain.is ∙ expr_of-Chain c.in-Chain.first c.in-Chain.rest) ∙ search rules
+    ap (λ e. expression e (activity_of c.args.self.now))
+    (ap expr_of c.in-Chain.is ∙ expr_of-Chain c.in-Chain.first c.in-Chain.rest) ∙ search rules

@@ -6,4 +6,5 @@ use Rattle.ash_subset.proofs.evaluator.Machine.initializers.Given as goal
 
 -- what is left gives what the whole gives
 abbrev pub invariant-loop-place : goal.invariant-loop-place
-invariant-loop-place l = initializers l.place (map global_of (drop l.place l.globals)) (activity_of l.self) ≡ initializers 0 (map global_of l.fn.globals) (activity_of l.fn.self)
+invariant-loop-place l = initializers l.place (map global_of (drop l.place l.globals)) (activity_of l.self)
+    ≡ initializers 0 (map global_of l.fn.globals) (activity_of l.fn.self)

@@ -6,4 +6,5 @@ use Rattle.ash_subset.proofs.scope.Scope.+value_in_scope.Given as goal
 
 abbrev pub invariant-links-loop-link : goal.invariant-links-loop-link
 invariant-links-loop-link l =
-    resolved_from l.room (scope_of l.self) l.source l.link-index l.links.items ≡ links_in l.room (scope_of l.self) (written_links l.source)
+    resolved_from l.room (scope_of l.self) l.source l.link-index l.links.items
+    ≡ links_in l.room (scope_of l.self) (written_links l.source)

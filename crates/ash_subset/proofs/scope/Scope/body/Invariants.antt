@@ -8,4 +8,5 @@ use Rattle.ash_subset.proofs.scope.Scope.body.Given as goal
 
 abbrev pub invariant-loop-statement : goal.invariant-loop-statement
 invariant-loop-statement l =
-    made_from (stmt_in (scope_of l.self)) written_stmt stmt_of l.source l.statement-index l.body.items ≡ each (stmt_in (scope_of l.self)) (map written_stmt l.source)
+    made_from (stmt_in (scope_of l.self)) written_stmt stmt_of l.source l.statement-index l.body.items
+    ≡ each (stmt_in (scope_of l.self)) (map written_stmt l.source)

@@ -1,0 +1,118 @@
+-- A state in a journal, by what the journal's calls say of bytes.
+use Rattle.std.proofs.Common.{◌≡◌, ◌∙◌, ℕ, ◌+◌, List, [], ◌∷◌, ◌++◌, length, Ok, Err, sym, ap}
+use Rattle.ash_disk.specs.Device.{Device}
+use Rattle.ash_image.specs.Image.{body_of}
+use Rattle.ash_journal.specs.declared.journal.Journal.{Journal}
+use Rattle.ash_journal.specs.Current.{Is, Either}
+use Rattle.ash_journal.specs.Failures.{CountsFailures}
+use Rattle.ash_journal.specs.Journal.{first_disk, second_disk, generation, record_bytes, HasFailed, IsReady, Holds}
+use Rattle.ash_journal.specs.Runs.{Run, Extends}
+use Rattle.ash_meaning.specs.State.{State}
+use Rattle.ash_meaning.specs.declared.refusal.Refusal.TheVariants as the
+use Rattle.ash_durable.specs.Saving.{Adds, Installs, last_generation}
+use Rattle.ash_durable.specs.States.{HoldsState, IsImageOf, GoesOn, BeginsAnew, Leads, snapshot_of}
+use Rattle.ash_durable.proofs.Settling.{record_goes_on, image_begins_anew}
+use Rattle.ash_durable.proofs.ContentsStates.{state_of_alone, state_of_push}
+
+-- a body leads to its state from every state with the same registered
+pub leads_from : (body : List ℕ) (before state : State) → before.registered ≡ state.registered → Leads body state state
+    → Leads body before state
+leads_from body before state same leads = record {
+  registered = sym same;
+  is_body = leads.is_body;
+  admitted = leads.admitted;
+}
+
+module _ {D : Type 0} (device : Device D) (state : State) (old new : Journal D) where
+  -- what is said of the disks, whatever came of a call
+  pub record Disks (failed : Type 0) : Type 0 where
+    pub failures : CountsFailures failed (device.failures (first_disk old)) (device.failures (second_disk old))
+        (device.failures (first_disk new)) (device.failures (second_disk new))
+    pub honesty_first : device.honest (first_disk new) ≡ device.honest (first_disk old)
+    pub honesty_second : device.honest (second_disk new) ≡ device.honest (second_disk old)
+
+  added_moments : (body : List ℕ) → Leads body state state
+      → ((image : List ℕ) (bodies : List (List ℕ)) → Holds device old image bodies
+      → Extends device (first_disk old) (second_disk old) (first_disk new) (second_disk new)
+      (Is (image, bodies ++ body ∷ []))) → (before : State) → before.registered ≡ state.registered
+      → HoldsState device before old → GoesOn device before state old new
+  added_moments body leads extends before same holds =
+      record_goes_on device before state holds.contents.0 body holds.contents.1 old new holds.is_state
+      (leads_from body before state same leads) (extends holds.contents.0 holds.contents.1 holds.holds)
+
+  pub adds : (body : List ℕ) → Leads body state state → body ≡ body_of (snapshot_of state)
+      → ((image : List ℕ) (bodies : List (List ℕ)) → Holds device old image bodies
+      → Extends device (first_disk old) (second_disk old) (first_disk new) (second_disk new)
+      (Is (image, bodies ++ body ∷ []))) → ((image : List ℕ) (bodies : List (List ℕ)) → Holds device old image bodies
+      → Holds device new image (bodies ++ body ∷ [])) → IsReady new → generation new ≡ generation old
+      → record_bytes new ≡ record_bytes old + 5 + length body → Disks ⊥ → Adds device state old (Ok tt) new
+  adds body leads body_is extends acknowledged ready number longer disks = record {
+    outcome = (ready, number, longer ∙ ap (λ (bytes : List ℕ). record_bytes old + 5 + length bytes) body_is);
+    holds = λ before same holds. record {
+      contents = (holds.contents.0, holds.contents.1 ++ body ∷ []);
+      holds = acknowledged holds.contents.0 holds.contents.1 holds.holds;
+      is_state = state_of_push before state holds.contents.0 holds.contents.1 body holds.is_state
+          (leads_from body before state same leads);
+    };
+    moments = added_moments body leads extends;
+    failures = disks.failures;
+    honesty_first = disks.honesty_first;
+    honesty_second = disks.honesty_second;
+  }
+
+  pub adds_not : (body : List ℕ) → Leads body state state
+      → ((image : List ℕ) (bodies : List (List ℕ)) → Holds device old image bodies
+      → Extends device (first_disk old) (second_disk old) (first_disk new) (second_disk new)
+      (Is (image, bodies ++ body ∷ []))) → HasFailed new → Disks (Unit {0})
+      → Adds device state old (Err the.DeviceFailed) new
+  adds_not body leads extends failed disks = record {
+    outcome = failed;
+    holds = tt;
+    moments = added_moments body leads extends;
+    failures = disks.failures;
+    honesty_first = disks.honesty_first;
+    honesty_second = disks.honesty_second;
+  }
+
+  installed_moments : (image : List ℕ) → IsImageOf image state
+      → ((was : List ℕ) (bodies : List (List ℕ)) → Holds device old was bodies
+      → Run device (device.clock (first_disk old)) (device.clock (second_disk old)) (first_disk new) (second_disk new)
+      (Either (Is (image, [])) (Is (was, bodies)))) → HoldsState device state old
+      → BeginsAnew device state state old new
+  installed_moments image depicts run holds =
+      image_begins_anew device state image holds.contents.0 holds.contents.1 old new holds.is_state depicts
+      (run holds.contents.0 holds.contents.1 holds.holds)
+
+  pub installs : (image : List ℕ) → IsImageOf image state
+      → ((was : List ℕ) (bodies : List (List ℕ)) → Holds device old was bodies
+      → Run device (device.clock (first_disk old)) (device.clock (second_disk old)) (first_disk new) (second_disk new)
+      (Either (Is (image, [])) (Is (was, bodies))))
+      → ((was : List ℕ) (bodies : List (List ℕ)) → Holds device old was bodies → Holds device new image [])
+      → IsReady new → generation new ≡ generation old + 1 → record_bytes new ≡ 0 → Disks ⊥
+      → Installs device state old (Ok tt) new
+  installs image depicts run installed ready higher emptied disks = record {
+    outcome = (ready, higher, emptied);
+    holds = λ holds. record {
+      contents = (image, []);
+      holds = installed holds.contents.0 holds.contents.1 holds.holds;
+      is_state = state_of_alone state image depicts;
+    };
+    moments = installed_moments image depicts run;
+    failures = disks.failures;
+    honesty_first = disks.honesty_first;
+    honesty_second = disks.honesty_second;
+  }
+
+  pub installs_not : (image : List ℕ) → IsImageOf image state
+      → ((was : List ℕ) (bodies : List (List ℕ)) → Holds device old was bodies
+      → Run device (device.clock (first_disk old)) (device.clock (second_disk old)) (first_disk new) (second_disk new)
+      (Either (Is (image, [])) (Is (was, bodies)))) → (generation old ≡ last_generation → ⊥) → HasFailed new
+      → Disks (Unit {0}) → Installs device state old (Err the.DeviceFailed) new
+  installs_not image depicts run more failed disks = record {
+    outcome = (more, failed);
+    holds = tt;
+    moments = installed_moments image depicts run;
+    failures = disks.failures;
+    honesty_first = disks.honesty_first;
+    honesty_second = disks.honesty_second;
+  }

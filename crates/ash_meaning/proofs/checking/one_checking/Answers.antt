@@ -1,5 +1,0 @@
-use Rattle.ash_meaning.proofs.CheckingLaws.{checked_source-exact}
-use Rattle.ash_meaning.proofs.checking.one_checking.Goals as goal
-
-pub returns : goal.returns
-returns c = checked_source-exact
