@@ -1,6 +1,7 @@
 pub mod Computing
-pub mod Same
-pub mod SameSteps
-pub mod SamePhrases
+pub mod Traces
+pub mod Walks
+pub mod StepWalks
+pub mod PhraseWalks
 pub mod Depth
 pub mod Released

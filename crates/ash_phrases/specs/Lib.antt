@@ -1,3 +1,4 @@
+pub mod Exceptions
 pub mod Activity
 pub mod Runs
 pub mod Releases
@@ -13,6 +14,8 @@ pub mod Expressions
 pub mod Statements
 pub mod Functions
 pub mod Ends
+pub mod Traces
+pub mod Numbers
 pub mod Laws
 pub mod ExampleParts
 pub mod Examples
