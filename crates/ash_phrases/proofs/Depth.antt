@@ -4,7 +4,7 @@ use Rattle.ash_host.specs.declared.word.Word.{Word}
 use Rattle.ash_phrases.specs.Runs.{Run}
 use Rattle.ash_phrases.specs.Classes.{Program, Entry}
 use Rattle.ash_phrases.specs.Functions.{body}
-use Rattle.ash_phrases.specs.Laws.{DepthIsNoPart, entered, initialized, OfPhrases}
+use Rattle.ash_phrases.specs.Laws.{DepthIsNoPart, entered, initialized, OfPhrases, IsTraced, PhrasesAreTraces, GoesOnWithMore, MoreTicksGoOn}
 use Rattle.ash_phrases.proofs.Walks.{Walk, at_most, same_of, ticked}
 use Rattle.ash_phrases.proofs.PhraseWalks.{walk_expression, walk_location, walk_arguments, walk_statement, walk_entry, walk_module}
 
@@ -42,3 +42,9 @@ of_phrases p d Holds follows = record {
   functions = λ e. follows _ _ (walk_entered p d d d (at_most d) (at_most d) e);
   initializers = follows _ _ (walk_initialized p d d d (at_most d) (at_most d));
 }
+
+pub phrases_are_traces : (p : Program) (d : ℕ) → PhrasesAreTraces p d
+phrases_are_traces p d = of_phrases p d (IsTraced d) (λ A r w. w.comes)
+
+pub more_ticks_go_on : (p : Program) (d : ℕ) → MoreTicksGoOn p d
+more_ticks_go_on p d = of_phrases p d (GoesOnWithMore d) (λ A r w. w.goes_on)

@@ -5,3 +5,4 @@ pub mod StepWalks
 pub mod PhraseWalks
 pub mod Depth
 pub mod Released
+pub mod Ticks

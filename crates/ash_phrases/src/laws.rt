@@ -3,7 +3,7 @@ ghost use Rattle.std.specs.Prelude.{◌≤◌, ℕ};
 ghost use Rattle.ash_host.specs.Objects.{IsInOrder};
 ghost use Rattle.ash_phrases.specs.Activity.{Activity};
 ghost use Rattle.ash_phrases.specs.Classes.{Program};
-ghost use Rattle.ash_phrases.specs.Laws.{DepthIsNoPart, ReleasesTheUnreachable};
+ghost use Rattle.ash_phrases.specs.Laws.{DepthIsNoPart, ReleasesTheUnreachable, PhrasesAreTraces, TicksFall};
 
 /// The depth is no part of the meaning: from any depth at least the ticks left, the same.
 pub fn depth_is_no_part()
@@ -15,4 +15,14 @@ pub fn depth_is_no_part()
 /// nothing else.
 pub fn release_takes_the_unreachable()
     ensures { (activity : Activity) → IsInOrder activity.world.objects → ReleasesTheUnreachable activity }
+{}
+
+/// Each phrase does one transition after another, and ends for want of a tick only where none is left.
+pub fn phrases_are_traces()
+    ensures { (program : Program) (depth : ℕ) → PhrasesAreTraces program depth }
+{}
+
+/// No phrase gains ticks, and a call or a construction that comes to its end has taken one at least.
+pub fn ticks_fall()
+    ensures { (program : Program) (depth : ℕ) → TicksFall program depth }
 {}
