@@ -6,3 +6,7 @@ pub mod PhraseWalks
 pub mod Depth
 pub mod Released
 pub mod Ticks
+pub mod Lives
+pub mod Numbers
+pub mod Departures
+pub mod Endings
