@@ -16,6 +16,7 @@ pub mod Functions
 pub mod Ends
 pub mod Traces
 pub mod Numbers
+pub mod Answers
 pub mod Laws
 pub mod ExampleParts
 pub mod Examples

@@ -12,9 +12,9 @@ use Rattle.ash_phrases.specs.ExampleParts as parts
 use Rattle.ash_phrases.specs.ExampleParts.{counters}
 use Rattle.ash_phrases.specs.Examples as examples
 use Rattle.ash_phrases.specs.ObjectExamples as objects
-use Rattle.ash_steps.specs.States.{Hosts, empty}
-use Rattle.ash_steps.specs.Requests.{Request, Reply}
-use Rattle.ash_steps.specs.Steps.{Run, run}
+use Rattle.ash_steps.specs.States.{Hosts, Embedding, empty}
+use Rattle.ash_steps.specs.Requests.{Request, HostState, Shown, Reply}
+use Rattle.ash_steps.specs.Steps.{History, run}
 
 -- names of modules
 
@@ -47,12 +47,23 @@ abbrev pub read : List ℕ → Result Module (Unit {0})
 read [] = Err tt
 read (byte ∷ more) = if byte == 1 then Ok holding else if byte == 2 then Ok (examples.right_side_first).tree else if byte == 3 then Ok (objects.unfinished).tree else if byte == 4 then Ok adding else Err tt
 
+-- the program that embeds these: its kinds are Counter, 1, and Tally
+abbrev pub embedding : Embedding (Unit {0})
+embedding = record { read = read; name_of_kind = name_of_kind }
+  where
+    name_of_kind : ℕ → List ℕ
+    name_of_kind kind = if kind == 1 then codes "Counter" else codes "Tally"
+
 -- a host with one service, this many counters, and these answers
 abbrev pub hosts : ℕ → List HostRecord → Hosts
 hosts count answers = record { pool = (counters count answers).pool; answers = answers }
 
 abbrev pub replies_to : List Request → ℕ → List HostRecord → Option (List (Reply (Unit {0})))
-replies_to requests count answers = option_map (λ (r : Run (Unit {0})). r.replies) (run read 20 requests (empty (int_bytes (pos 0) ∷ [])) (hosts count answers))
+replies_to requests count answers = option_map (λ (h : History (Unit {0})). h.replies) (run embedding 20 requests (empty (int_bytes (pos 0) ∷ [])) (hosts count answers))
 
 abbrev pub Replies : List Request → ℕ → List HostRecord → List (Reply (Unit {0})) → Type 0
 Replies requests count answers replies = replies_to requests count answers ≡ Some replies
+
+-- an object of Counter as it is shown, with its count and its value
+abbrev pub counter_shown : ℕ → ℕ → ℕ → Shown
+counter_shown number count value = record { number = number; type_name = codes "Counter"; count = count; contents = HostState (int_bytes (pos value)) }

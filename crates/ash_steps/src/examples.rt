@@ -10,10 +10,10 @@ ghost use Rattle.ash_phrases.specs.ExampleParts.{started};
 ghost use Rattle.ash_phrases.specs.ObjectExamples.{tallied};
 ghost use Rattle.ash_steps.specs.declared.argument.Argument.{Argument};
 ghost use Rattle.ash_steps.specs.Requests.{Load, Call, Discard, Global, Object, Seq};
-ghost use Rattle.ash_steps.specs.Requests.{Answered, Value, ShownAs, Number, Refused, OfKind};
+ghost use Rattle.ash_steps.specs.Requests.{Answered, Value, ShownAs, Number, Refused};
 ghost use Rattle.ash_steps.specs.Requests.{BadName, BadSource, ModuleTaken, NoModule, NoFunction, NotCallable};
 ghost use Rattle.ash_steps.specs.Requests.{BadArguments, NoObject};
-ghost use Rattle.ash_steps.specs.Examples.{Replies, m, k};
+ghost use Rattle.ash_steps.specs.Examples.{Replies, m, k, counter_shown};
 
 /// What a few runs over requests reply.
 pub fn worked_runs()
@@ -24,7 +24,7 @@ pub fn worked_runs()
         ∷ Value (Word.Int (pos 7)) ∷ Refused BadArguments ∷ Refused BadArguments ∷ Number 2 ∷ []) }
     ensures shown_and_discarded { Replies
         (Load m (1 ∷ []) ∷ Object 1 ∷ Discard m ∷ Object 1 ∷ []) 1 (started 1 7 ∷ [])
-        (Answered (Finished None) 1 (Drew 1 ∷ []) ∷ ShownAs (OfKind 1 1 (int_bytes (pos 7)))
+        (Answered (Finished None) 1 (Drew 1 ∷ []) ∷ ShownAs (counter_shown 1 1 7)
         ∷ Answered (Finished None) 2 (Dropped 1 ∷ []) ∷ Refused NoObject ∷ []) }
     ensures held_by_another_module { Replies
         (Load m (1 ∷ []) ∷ Load k (2 ∷ []) ∷ Call k (codes "f") [] ∷ Global m (codes "g") ∷ []) 1 (started 1 7 ∷ [])
