@@ -44,11 +44,11 @@ abbrev RefusedStays : {F : Type 0} → State → Hosts → Reply F → Step F �
 RefusedStays state hosts (Refused refusal) one = one ≡ replied (Refused refusal) state hosts
 RefusedStays state hosts _ one = Unit {0}
 
-module _ {F : Type 0} (state : State) (hosts : Hosts) where
+module _ (F : Type 0) (state : State) (hosts : Hosts) where
   stays_of : (this one : Step F) → RefusedStays state hosts this.reply this → Some this ≡ Some one → RefusedStays state hosts one.reply one
   stays_of this one h e = subst (λ (s : Step F). RefusedStays state hosts s.reply s) (ap (λ (o : Option (Step F)). unwrap_or o this) e) h
 
-  of_load : (name source : List ℕ) (end : End) (world : World) → RefusedStays {F} state hosts (after_load_with name source state end world).reply (after_load_with name source state end world)
+  of_load : (name source : List ℕ) (end : End) (world : World) → RefusedStays {F = F} state hosts (after_load_with name source state end world).reply (after_load_with name source state end world)
   of_load name source (Finished value) world = tt
   of_load name source (Threw x function line) world = tt
   of_load name source (Aborted function line) world = tt
@@ -75,7 +75,7 @@ module _ {F : Type 0} (state : State) (hosts : Hosts) where
   unless budget (Err refusal) one e = stays_of (replied (Refused refusal) state hosts) one refl e
 
 pub refusal_keeps : {F : Type 0} (embedding : Embedding F) (budget : ℕ) (request : Request) (state : State) (hosts : Hosts) (one : Step F) (refusal : Refusal F) → Steps embedding budget request state hosts one → one.reply ≡ Refused refusal → one ≡ replied (Refused refusal) state hosts
-refusal_keeps {F} embedding budget request state hosts one refusal (performed e) f = subst (λ (r : Reply F). RefusedStays state hosts r one) f (unless state hosts budget (task_of embedding request state) one e)
+refusal_keeps {F} embedding budget request state hosts one refusal (performed e) f = subst (λ (r : Reply F). RefusedStays state hosts r one) f (unless F state hosts budget (task_of embedding request state) one e)
 refusal_keeps {F} embedding budget request state hosts one refusal (put_off {refusal = other} off e) f =
     let same : Refused other ≡ Refused refusal = sym (ap (λ (s : Step F). s.reply) e) ∙ f in
     e ∙ ap (λ (r : Reply F). replied r state hosts) same

@@ -1,3 +1,5 @@
 pub mod Computing
 mod Refused
 mod Counted
+mod Determined
+mod Numbers

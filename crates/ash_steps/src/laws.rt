@@ -32,7 +32,7 @@ pub fn answers_are_counted<F>()
 /// A step is determined by what is registered, the budget, the request, the state, the pool and what hosts answer, but
 /// for refusals whose cause is not in the state.
 pub fn steps_are_determined<F>()
-    ensures { (embedding : Embedding F) (budget : ℕ) (request : Request)
+    ensures steps { (embedding : Embedding F) (budget : ℕ) (request : Request)
         (state : State) (hosts : Hosts) (one other : Step F)
         → Steps embedding budget request state hosts one
         → Steps embedding budget request state hosts other
