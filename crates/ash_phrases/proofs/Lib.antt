@@ -9,4 +9,5 @@ pub mod Ticks
 pub mod Lives
 pub mod Numbers
 pub mod Departures
+pub mod Fits
 pub mod Endings

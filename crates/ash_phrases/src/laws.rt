@@ -5,7 +5,10 @@ ghost use Rattle.ash_phrases.specs.Activity.{World, Activity};
 ghost use Rattle.ash_phrases.specs.Classes.{Program};
 ghost use Rattle.ash_phrases.specs.Traces.{Trace};
 ghost use Rattle.ash_phrases.specs.Laws.{DepthIsNoPart, ReleasesTheUnreachable, PhrasesAreTraces, TicksFall};
+ghost use Rattle.ash_phrases.specs.Answers.{Answerers, HostsFit};
 ghost use Rattle.ash_phrases.specs.Laws.{NumbersLiveOnce, GoAtReleases, RunsStay, MoreTicksGoOn, BudgetSuffices};
+
+use ash_host::HostObject;
 
 /// The depth is no part of the meaning: from any depth at least the ticks left, the same.
 pub fn depth_is_no_part()
@@ -52,4 +55,13 @@ pub fn effects_stay()
 pub fn more_ticks_go_on()
     ensures phrases { (program : Program) (depth : ℕ) → MoreTicksGoOn program depth }
     ensures runs { (program : Program) (budget more : ℕ) (world : World) → BudgetSuffices program budget more world }
+{}
+
+/// The states of host objects, of services and of free boxes stay no longer than they may be, where hosts answer what
+/// they may.
+pub fn host_states_fit<B: HostObject>()
+    ensures { (answerers : Answerers B) (first last : Activity) → Trace first last
+        → AreNumbered first.world.last first.world.objects
+        → HostsFit B.HostObject answerers first.world
+        → HostsFit B.HostObject answerers last.world }
 {}
