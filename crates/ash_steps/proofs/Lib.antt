@@ -3,3 +3,4 @@ mod Refused
 mod Counted
 mod Determined
 mod Numbers
+mod Fits

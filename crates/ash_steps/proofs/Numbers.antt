@@ -20,7 +20,7 @@ use Rattle.ash_steps.specs.Steps.{Step, replied, without_globals, after_load_wit
 use Rattle.ash_steps.specs.Laws.{events_of_reply, events_of}
 
 -- what a step does to numbers
-abbrev StepLives : {F : Type 0} → State → Step F → Type 0
+abbrev pub StepLives : {F : Type 0} → State → Step F → Type 0
 StepLives old one = Lives (numbering_of old) (events_of_reply one.reply) (numbering_of one.state)
 
 of_this : {F : Type 0} (old : State) (this one : Step F) → StepLives old this → Some this ≡ Some one → StepLives old one
@@ -33,7 +33,7 @@ still state numbered = same_lives (numbering_of state) (numbering_of state) [] n
 swept_onward : (world : World) → AreNumbered world.last world.objects → NumbersLiveOnce world (sweep [] world)
 swept_onward world numbered = released_onward [] world (sweep [] world) (swept_by [] world numbered.in_order) numbered
 
-outcome_onward : (first : Activity) (outcome : Outcome) → AreNumbered (first.world).last (first.world).objects → EffectsStay first outcome → NumbersLiveOnce first.world outcome.world
+pub outcome_onward : (first : Activity) (outcome : Outcome) → AreNumbered (first.world).last (first.world).objects → EffectsStay first outcome → NumbersLiveOnce first.world outcome.world
 outcome_onward first outcome numbered stays =
     let begin : NumbersLiveOnce first.world (stays.last).world = along stays.trace numbered in
     onward_from numbered begin (released_onward [] (stays.last).world outcome.world stays.released (begin.lives).numbered)
@@ -92,7 +92,7 @@ module _ (F : Type 0) (old : State) (numbered : AreNumbered old.last old.objects
   unless budget (Ok task) hosts one e = carried budget task hosts one e
   unless budget (Err refusal) hosts one e = of_this old (replied (Refused refusal) old hosts) one (still old numbered) e
 
-step_lives : {F : Type 0} (embedding : Embedding F) (budget : ℕ) (request : Request) (old : State) (hosts : Hosts) (one : Step F) → Steps embedding budget request old hosts one → AreNumbered old.last old.objects → StepLives old one
+pub step_lives : {F : Type 0} (embedding : Embedding F) (budget : ℕ) (request : Request) (old : State) (hosts : Hosts) (one : Step F) → Steps embedding budget request old hosts one → AreNumbered old.last old.objects → StepLives old one
 step_lives embedding budget request old hosts one (performed e) numbered = unless _ old numbered budget (task_of embedding request old) hosts one e
 step_lives {F} embedding budget request old hosts one (put_off {refusal} off e) numbered = subst (λ (s : Step F). StepLives old s) (sym e) (still old numbered)
 

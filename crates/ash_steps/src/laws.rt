@@ -2,11 +2,15 @@
 //! sources.
 ghost use Rattle.std.specs.Prelude.{◌≡◌, ◌+◌, ℕ, List, Some};
 ghost use Rattle.ash_host.specs.Objects.{AreNumbered};
+ghost use Rattle.ash_phrases.specs.Answers.{Answerers};
 ghost use Rattle.ash_steps.specs.States.{State, Hosts, Embedding};
 ghost use Rattle.ash_steps.specs.Requests.{Request, Refusal, Refused};
 ghost use Rattle.ash_steps.specs.Laws.{CountsAnswers, AreOneUnlessPutOff, NumbersLiveOnce};
 ghost use Rattle.ash_steps.specs.Tasks.{first_refusal};
 ghost use Rattle.ash_steps.specs.Steps.{Step, History, step, replied, run, Steps, Runs};
+ghost use Rattle.ash_steps.specs.Premises.{HostsAnswer};
+
+use ash_host::HostObject;
 
 /// A request that is refused changes nothing, and its reply is the first cause, or one that is not in the state.
 pub fn refusal_changes_nothing<F>()
@@ -50,4 +54,15 @@ pub fn numbers_live_once<F>()
         → Runs embedding budget requests state hosts history
         → AreNumbered state.last state.objects
         → NumbersLiveOnce state history }
+{}
+
+/// The states of host objects, of services and of free boxes stay no longer than they may be, where hosts answer what
+/// they may.
+pub fn host_states_fit<F, B: HostObject>()
+    ensures { (embedding : Embedding F) (budget : ℕ) (requests : List Request)
+        (state : State) (hosts : Hosts) (history : History F) (answerers : Answerers B)
+        → Runs embedding budget requests state hosts history
+        → AreNumbered state.last state.objects
+        → HostsAnswer B.HostObject answerers state hosts
+        → HostsAnswer B.HostObject answerers history.state history.hosts }
 {}
