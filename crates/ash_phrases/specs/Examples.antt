@@ -18,7 +18,7 @@ use Rattle.ash_typed.specs.Tree.{Expr, Truth, Read, Operate, Lazily, Conditional
 use Rattle.ash_typed.specs.StatementTree.{Return, Stmt, Declare, Block, If, no_branch, declared_head, Repeat, For, repeated, Switch, Break, Continue, stmts, Case, cases, labelled}
 use Rattle.ash_typed.specs.Modules.{Function, Class}
 use Rattle.ash_phrases.specs.Classes.{Program}
-use Rattle.ash_phrases.specs.ExampleParts.{int, handle_of_class, number, local, global, calculate, variable, give, evaluate, function, module_of, program, counter, counter_value, f, only}
+use Rattle.ash_phrases.specs.ExampleParts.{int, handle_of_class, number, local, global, calculate, variable, named, alone, give, evaluate, function, module_of, program, counter, counter_value, f, only}
 
 -- `int f() { return 1 + 2; }`
 abbrev pub sum : Program
@@ -34,7 +34,7 @@ endless = only (Some int) [] (give (Call (targets.Function 0 (Some int)) [] (exp
 
 -- `Counter@ g; int f() { return g.value; }`
 abbrev pub through_null : Program
-through_null = program (module_of [] (record { line = 1; values = variable counter None ∷ [] } ∷ []) (function f (Some int) [] (give (Read (counter_value (Read (global 0 counter)))) ∷ []) ∷ []))
+through_null = program (module_of [] (alone (named (codes "g") counter None) ∷ []) (function f (Some int) [] (give (Read (counter_value (Read (global 0 counter)))) ∷ []) ∷ []))
 
 -- `int f(int k) { switch (k) { case 1: k += 10; case 2: k += 100; break; default: k = 0; } return k; }`
 abbrev pub falling : Program
@@ -58,13 +58,13 @@ falling = only (Some int) (int ∷ []) (Switch 1 kinds.Int (Read k) (cases (one 
 -- `class P { int v; } P@ o = P(); int n = 0; P@ pick() { n = n * 10 + 1; return o; }`
 -- `int next() { n = n * 10 + 2; return n; } int f() { pick().v = next(); return n; }`
 abbrev pub right_side_first : Program
-right_side_first = program (module_of (p ∷ []) (record { line = 1; values = variable handle (Some (Call (targets.Class 0) [] (exprs []))) ∷ [] } ∷ record { line = 1; values = variable int (Some (number 0)) ∷ [] } ∷ []) (pick ∷ next ∷ main ∷ []))
+right_side_first = program (module_of (p ∷ []) (alone (named (codes "o") handle (Some (Call (targets.Class 0) [] (exprs [])))) ∷ alone (named (codes "n") int (Some (number 0))) ∷ []) (pick ∷ next ∷ main ∷ []))
   where
     handle : VarType
     handle = handle_of_class 0
 
     p : Class
-    p = record { name = codes "P"; line = 1; interfaces = []; fields = variable int None ∷ []; constructor = None; methods = [] }
+    p = record { name = codes "P"; line = 1; interfaces = []; fields = named (codes "v") int None ∷ []; constructor = None; methods = [] }
 
     n : Place
     n = global 1 int

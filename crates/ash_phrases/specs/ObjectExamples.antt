@@ -29,7 +29,7 @@ use Rattle.ash_host.specs.Objects.{Script}
 use Rattle.ash_phrases.specs.Activity.{World}
 use Rattle.ash_phrases.specs.Classes.{Program}
 use Rattle.ash_phrases.specs.Ends.{Outcome, call_function, load_module}
-use Rattle.ash_phrases.specs.ExampleParts.{empty_world, counters, started, int, handle_of_class, number, local, global, calculate, variable, give, evaluate, function, module_of, program, counter, new_counter, add, counter_value, f, only}
+use Rattle.ash_phrases.specs.ExampleParts.{empty_world, counters, started, int, handle_of_class, number, local, global, calculate, variable, give, named, alone, evaluate, function, module_of, program, tallied_by, tally, counter, new_counter, add, counter_value, f, only}
 
 -- `int two(Counter@ h, int k) { return k; }`
 -- `int f() { Counter@ a = Counter(1); Counter@ c = Counter(5); int r = two(@a = null, c.add(1)); c.add(1); return r; }`
@@ -91,13 +91,13 @@ answered method argument answer = record { target = hosts.Object 1; call = calls
 -- `class P { Q q; Q@ r; int v = 2; P(int k) { v = v + k; @r = q; } }`
 -- `P@ g = P(5); int f() { return g.v; }`
 abbrev pub constructed : Program
-constructed = program (module_of (q ∷ p ∷ []) (record { line = 1; values = variable (handle_of_class 1) (Some (Call (targets.Class 1) (int ∷ []) (exprs (number 5 ∷ [])))) ∷ [] } ∷ []) (main ∷ []))
+constructed = program (module_of (q ∷ p ∷ []) (alone (named (codes "g") (handle_of_class 1) (Some (Call (targets.Class 1) (int ∷ []) (exprs (number 5 ∷ []))))) ∷ []) (main ∷ []))
   where
     own : VarType
     own = vars.Object (objects.Class 0)
 
     q : Class
-    q = record { name = codes "Q"; line = 1; interfaces = []; fields = variable int (Some (number 1)) ∷ []; constructor = None; methods = [] }
+    q = record { name = codes "Q"; line = 1; interfaces = []; fields = named (codes "w") int (Some (number 1)) ∷ []; constructor = None; methods = [] }
 
     field : ℕ → VarType → Place
     field place of = Held (This 1) (members.Field 1 place of)
@@ -106,7 +106,7 @@ constructed = program (module_of (q ∷ p ∷ []) (record { line = 1; values = v
     body = evaluate (Assign (field 2 int) (calculate calculators.Add (Read (field 2 int)) (Read (local 0 int)))) ∷ evaluate (Assign (field 1 (handle_of_class 0)) (Read (field 0 own))) ∷ []
 
     p : Class
-    p = record { name = codes "P"; line = 1; interfaces = []; fields = variable own (Some (Call (targets.Class 0) [] (exprs []))) ∷ variable (handle_of_class 0) None ∷ variable int (Some (number 2)) ∷ []; constructor = Some (function (codes "P") None (int ∷ []) body); methods = [] }
+    p = record { name = codes "P"; line = 1; interfaces = []; fields = named (codes "q") own (Some (Call (targets.Class 0) [] (exprs []))) ∷ named (codes "r") (handle_of_class 0) None ∷ named (codes "v") int (Some (number 2)) ∷ []; constructor = Some (function (codes "P") None (int ∷ []) body); methods = [] }
 
     main : Function
     main = function f (Some int) [] (give (Read (Held (Read (global 0 (handle_of_class 1))) (members.Field 1 2 int))) ∷ [])
@@ -143,10 +143,10 @@ through_an_interface = program (record { interfaces = i ∷ []; classes = a ∷ 
     test : Function
     test = function (codes "c") (Some vars.Bool) [] (Declare 1 (variable (handle_of_class 0) (Some (Cast (objects.Class 0) (Read g))) ∷ []) ∷ give is_null ∷ [])
 
--- `array<Counter@> l; int f() { l.insertLast(Counter(5)); return l.length(); } void g() { l.removeLast(); }`
+-- `array<Counter@> l; int f(int k) { l.insertLast(Counter(k)); return l.length(); } void g() { l.removeLast(); }`
 -- `int h(uint i) { return l[i].value; }`
 abbrev pub in_an_array : Program
-in_an_array = program (module_of [] (record { line = 1; values = variable array (Some (Call (targets.Array (elements.Host 1)) [] (exprs []))) ∷ [] } ∷ []) (f_of ∷ g_of ∷ h_of ∷ []))
+in_an_array = program (module_of [] (alone (named (codes "l") array (Some (Call (targets.Array (elements.Host 1)) [] (exprs [])))) ∷ []) (f_of ∷ g_of ∷ h_of ∷ []))
   where
     array : VarType
     array = vars.Object (objects.Array (elements.Host 1))
@@ -160,18 +160,17 @@ in_an_array = program (module_of [] (record { line = 1; values = variable array 
     uint : VarType
     uint = vars.Integer kinds.Uint
 
+    made : Expr
+    made = Call (targets.Host 1) (int ∷ []) (exprs (Read (local 0 int) ∷ []))
+
     f_of : Function
-    f_of = function f (Some int) [] (evaluate (of_l arrays.InsertLast (counter ∷ []) (new_counter 5 ∷ [])) ∷ give (Convert (record { from = kinds.Uint; to = kinds.Int }) (of_l arrays.Length [] [])) ∷ [])
+    f_of = function f (Some int) (int ∷ []) (evaluate (of_l arrays.InsertLast (counter ∷ []) (made ∷ [])) ∷ give (Convert (record { from = kinds.Uint; to = kinds.Int }) (of_l arrays.Length [] [])) ∷ [])
 
     g_of : Function
     g_of = function (codes "g") None [] (evaluate (of_l arrays.RemoveLast [] []) ∷ [])
 
     h_of : Function
     h_of = function (codes "h") (Some int) (uint ∷ []) (give (Read (counter_value (Read (Indexed l (Read (local 0 uint)) (elements.Host 1))))) ∷ [])
-
--- a record of a call of the service's function 1 with 3, which was at 0
-abbrev pub tallied : HostRecord
-tallied = record { target = hosts.Service 0; call = calls.Invoke 1 (words.Int (pos 3) ∷ []); before = int_bytes (pos 0); answer = answers.Value (words.Int (pos 3)); after = int_bytes (pos 3) }
 
 -- `array<int> a; int f(uint n) { a.resize(n); return a[0]; }`
 abbrev pub resized : Program
@@ -182,7 +181,7 @@ resized = program (module_of [] (record { line = 1; values = variable of (Some (
 
 -- `int a = tally(3); int b = 1; int c = 1 / 0;`
 abbrev pub unfinished : Program
-unfinished = program (module_of [] (declared (Call (targets.Service 0 1 (Some int)) (int ∷ []) (exprs (number 3 ∷ []))) ∷ declared (number 1) ∷ declared (calculate calculators.Divide (number 1) (number 0)) ∷ []) [])
+unfinished = program (module_of [] (declared (tally 3) ∷ declared (number 1) ∷ declared (calculate calculators.Divide (number 1) (number 0)) ∷ []) [])
   where
     declared : Expr → Variables
     declared e = record { line = 1; values = variable int (Some e) ∷ [] }
@@ -191,7 +190,7 @@ unfinished = program (module_of [] (declared (Call (targets.Service 0 1 (Some in
 
 -- what a load of `unfinished` comes to, with one service
 abbrev pub unfinished_load : Option Outcome
-unfinished_load = load_module unfinished 9 (record empty_world { services = int_bytes (pos 0) ∷ []; answers = tallied ∷ [] })
+unfinished_load = load_module unfinished 9 (record empty_world { services = int_bytes (pos 0) ∷ []; answers = tallied_by 3 0 3 ∷ [] })
 
 -- `g` is an object of the class at this place in the source
 abbrev pub with_object_of : ℕ → World

@@ -96,7 +96,7 @@ pub fn worked_object_examples()
         (Word.Bool false) }
     ensures cast_to_another { Gives (call_function objects.through_an_interface 1 [] 9 (with_object_of 2))
         (Word.Bool true) }
-    ensures inserted { Gives (call_function objects.in_an_array 0 [] 9
+    ensures inserted { Gives (call_function objects.in_an_array 0 (Word.Int (pos 5) ∷ []) 9
         (with_counters 1 (started 2 5 ∷ []) (loaded objects.in_an_array)))
         (Word.Int (pos 1)) }
     ensures removed { Throws (call_function objects.in_an_array 1 [] 9 (loaded objects.in_an_array))

@@ -3,11 +3,10 @@ use Rattle.std.specs.Prelude.{◌≡◌, ◌==◌, if◌then◌else◌, ℕ, pos
 use Rattle.ash_host.specs.Ints.{int_bytes}
 use Rattle.ash_host.specs.Records.{HostRecord}
 use Rattle.ash_typed.specs.declared.types.Kind.TheVariants as kinds
-use Rattle.ash_typed.specs.declared.types.VarType.{VarType}
 use Rattle.ash_typed.specs.declared.tree.operations.Calculator.TheVariants as calculators
-use Rattle.ash_typed.specs.Tree.{Expr, Read, Update, Place}
+use Rattle.ash_typed.specs.Tree.{Read, Update, Place}
 use Rattle.ash_typed.specs.StatementTree.{Stmt}
-use Rattle.ash_typed.specs.Modules.{Variables, Module}
+use Rattle.ash_typed.specs.Modules.{Module}
 use Rattle.ash_phrases.specs.ExampleParts as parts
 use Rattle.ash_phrases.specs.ExampleParts.{counters}
 use Rattle.ash_phrases.specs.Examples as examples
@@ -24,13 +23,9 @@ m = codes "m"
 abbrev pub k : List ℕ
 k = codes "k"
 
--- a global with this name
-abbrev pub named : List ℕ → VarType → Expr → Variables
-named name of value = record { line = 1; values = record { name = name; of = of; value = Some value } ∷ [] }
-
 -- `int n = 2; int f(int k) { n += k; return n; }`
 abbrev pub adding : Module
-adding = parts.module_of [] (named (codes "n") parts.int (parts.number 2) ∷ []) (parts.function parts.f (Some parts.int) (parts.int ∷ []) (more ∷ parts.give (Read n) ∷ []) ∷ [])
+adding = parts.module_of [] (parts.alone (parts.named (codes "n") parts.int (Some (parts.number 2))) ∷ []) (parts.function parts.f (Some parts.int) (parts.int ∷ []) (more ∷ parts.give (Read n) ∷ []) ∷ [])
   where
     n : Place
     n = parts.global 0 parts.int
@@ -39,13 +34,13 @@ adding = parts.module_of [] (named (codes "n") parts.int (parts.number 2) ∷ []
     more = parts.evaluate (Update n kinds.Int (record { operator = calculators.Add; of = kinds.Int }) (Read (parts.local 0 parts.int)))
 
 -- `Counter@ g = Counter(7);`
-abbrev pub holding : Module
-holding = parts.module_of [] (named (codes "g") parts.counter (parts.new_counter 7) ∷ []) []
+abbrev pub with_counter : Module
+with_counter = parts.module_of [] (parts.alone (parts.named (codes "g") parts.counter (Some (parts.new_counter 7))) ∷ []) []
 
 -- sources of one byte, which these modules have; no other is a source
 abbrev pub read : List ℕ → Result Module (Unit {0})
 read [] = Err tt
-read (byte ∷ more) = if byte == 1 then Ok holding else if byte == 2 then Ok (examples.right_side_first).tree else if byte == 3 then Ok (objects.unfinished).tree else if byte == 4 then Ok adding else Err tt
+read (byte ∷ more) = if byte == 1 then Ok with_counter else if byte == 2 then Ok (examples.right_side_first).tree else if byte == 3 then Ok (objects.unfinished).tree else if byte == 4 then Ok adding else Err tt
 
 -- the program that embeds these: its kinds are Counter, 1, and Tally
 abbrev pub embedding : Embedding (Unit {0})

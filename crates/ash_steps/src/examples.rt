@@ -6,8 +6,7 @@ ghost use Rattle.ash_host.specs.declared.event.Target.{Target};
 ghost use Rattle.ash_host.specs.Ints.{int_bytes};
 ghost use Rattle.ash_phrases.specs.declared.exception.Exception.{Exception};
 ghost use Rattle.ash_phrases.specs.Ends.{Finished, Threw};
-ghost use Rattle.ash_phrases.specs.ExampleParts.{started};
-ghost use Rattle.ash_phrases.specs.ObjectExamples.{tallied};
+ghost use Rattle.ash_phrases.specs.ExampleParts.{started, tallied_by};
 ghost use Rattle.ash_steps.specs.declared.argument.Argument.{Argument};
 ghost use Rattle.ash_steps.specs.Requests.{Load, Call, Discard, Global, Object, Seq};
 ghost use Rattle.ash_steps.specs.Requests.{Answered, Value, ShownAs, Number, Refused};
@@ -31,7 +30,7 @@ pub fn worked_runs()
         (Answered (Finished None) 1 (Drew 1 ∷ []) ∷ Answered (Finished None) 2 []
         ∷ Answered (Finished (Some (Word.Int (pos 21)))) 3 [] ∷ Value (Word.Object 1) ∷ []) }
     ensures not_finished { Replies
-        (Load m (3 ∷ []) ∷ Call m (codes "f") [] ∷ Seq ∷ []) 0 (tallied ∷ [])
+        (Load m (3 ∷ []) ∷ Call m (codes "f") [] ∷ Seq ∷ []) 0 (tallied_by 3 0 3 ∷ [])
         (Answered (Threw Exception.DivideByZero (codes "(init)") 1) 1 (Called (Target.Service 0) 1 ∷ [])
         ∷ Refused NoModule ∷ Number 1 ∷ []) }
     ensures in_order { Replies
