@@ -129,6 +129,18 @@ started object n = record { target = host_targets.Object object; call = calls.St
 abbrev pub added : ℕ → ℕ → ℕ → ℕ → HostRecord
 added object n old sum = record { target = host_targets.Object object; call = calls.Invoke 1 (words.Int (pos n) ∷ []); before = int_bytes (pos old); answer = Value (words.Int (pos sum)); after = int_bytes (pos sum) }
 
+abbrev pub counter : VarType
+counter = handle_of_kind 1
+
+abbrev pub new_counter : ℕ → Expr
+new_counter n = Call (targets.Host 1) (int ∷ []) (exprs (number n ∷ []))
+
+abbrev pub add : Expr → ℕ → Expr
+add object n = Invoke object (methods.Host 1 (Some int)) (int ∷ []) (exprs (number n ∷ []))
+
+abbrev pub counter_value : Expr → Place
+counter_value object = Held object (members.Property 1 int)
+
 -- the service that adds: its functions 1, which adds, and 2, which gives the total
 
 abbrev pub tallied_by : ℕ → ℕ → ℕ → HostRecord
@@ -143,17 +155,7 @@ tally n = Call (targets.Service 0 1 (Some int)) (int ∷ []) (exprs (number n �
 abbrev pub total : Expr
 total = Call (targets.Service 0 2 (Some int)) [] (exprs [])
 
-abbrev pub counter : VarType
-counter = handle_of_kind 1
-
-abbrev pub new_counter : ℕ → Expr
-new_counter n = Call (targets.Host 1) (int ∷ []) (exprs (number n ∷ []))
-
-abbrev pub add : Expr → ℕ → Expr
-add object n = Invoke object (methods.Host 1 (Some int)) (int ∷ []) (exprs (number n ∷ []))
-
-abbrev pub counter_value : Expr → Place
-counter_value object = Held object (members.Property 1 int)
+-- functions
 
 abbrev pub f : List ℕ
 f = codes "f"

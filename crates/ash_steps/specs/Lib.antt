@@ -5,3 +5,6 @@ pub mod Steps
 pub mod Premises
 pub mod Laws
 pub mod Examples
+pub mod RunExamples
+pub mod IntegerRuns
+pub mod ObjectRuns

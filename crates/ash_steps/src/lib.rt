@@ -16,4 +16,4 @@ mod examples;
 pub mod laws;
 
 pub use argument::Argument;
-pub use examples::worked_runs;
+pub use examples::{worked_integer_runs, worked_object_runs, worked_runs};
