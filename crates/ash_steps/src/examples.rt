@@ -188,7 +188,6 @@ pub fn worked_object_runs()
         (Answered (Finished None) 1 [] ∷ Answered (Threw Exception.NumbersSpent f 1) 2 [] ∷ []) }
     ensures most_objects { RepliesFrom (with_objects 4096 begin) (objects.drawing ∷ []) 20 (Call m f [] ∷ []) 1 []
         (Answered (Threw Exception.ObjectLimit f 1) 1 [] ∷ []) }
-    ensures one_object_more { RepliesFrom (with_objects 4095 begin) (objects.drawing ∷ []) 20
-        (Call m f [] ∷ []) 1 (started 4096 1 ∷ [])
-        (Answered (Finished None) 1 (Drew 4096 ∷ Dropped 4096 ∷ []) ∷ []) }
+    ensures one_object_fewer { RepliesFrom (with_objects 4095 begin) (objects.drawing ∷ []) 20 (Call m f [] ∷ []) 0 []
+        (Answered (Threw Exception.PoolEmpty f 1) 1 [] ∷ []) }
 {}

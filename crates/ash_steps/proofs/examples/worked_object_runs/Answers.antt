@@ -54,6 +54,6 @@ pub returns-clause-most_objects : goal.returns-clause-most_objects
 unfolding computing
 returns-clause-most_objects c = refl
 
-pub returns-clause-one_object_more : goal.returns-clause-one_object_more
+pub returns-clause-one_object_fewer : goal.returns-clause-one_object_fewer
 unfolding computing
-returns-clause-one_object_more c = refl
+returns-clause-one_object_fewer c = refl
