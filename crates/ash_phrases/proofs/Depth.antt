@@ -1,6 +1,5 @@
 -- Walks of all phrases of a module, at a depth, and what follows from them.
-use Rattle.std.proofs.Common.{◌≤◌, ◌<◌, ℕ, zero, suc, Option, arith}
-use Rattle.ash_host.specs.declared.word.Word.{Word}
+use Rattle.std.proofs.Common.{◌≤◌, ◌<◌, ℕ, zero, suc, arith}
 use Rattle.ash_phrases.specs.Runs.{Run}
 use Rattle.ash_phrases.specs.Classes.{Program, Entry}
 use Rattle.ash_phrases.specs.Functions.{body}

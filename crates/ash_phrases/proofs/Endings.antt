@@ -6,9 +6,8 @@ use Rattle.ash_host.specs.Objects.{AreNumbered}
 use Rattle.ash_phrases.specs.Activity.{World, Activity}
 use Rattle.ash_phrases.specs.Runs.{Raising, OutOfTicks, Progress, Done, Ended, NoStep, Run, give, ◌>>◌}
 use Rattle.ash_phrases.specs.Classes.{Program, FreeFunction, Entry, entry_of}
-use Rattle.ash_phrases.specs.Ends.{End, Finished, Threw, Aborted, Outcome, outcome_of, call_entry, call_function, load_module}
-use Rattle.ash_phrases.specs.Traces.{Trace}
-use Rattle.ash_phrases.specs.Laws.{ComesBy, GoesOn, entered, initialized, EndsIn, EffectsStay, first_of_call, first_of_load, RunsStay, IsNotAborted, BudgetSuffices}
+use Rattle.ash_phrases.specs.Ends.{Outcome, outcome_of, call_entry, load_module}
+use Rattle.ash_phrases.specs.Laws.{ComesBy, GoesOn, entered, initialized, EffectsStay, first_of_call, first_of_load, RunsStay, IsNotAborted, BudgetSuffices}
 use Rattle.ash_phrases.proofs.Traces.{ticks_fall}
 use Rattle.ash_phrases.proofs.Walks.{Walk, at_most, followed, given}
 use Rattle.ash_phrases.proofs.Released.{swept_by}

@@ -1,5 +1,5 @@
 -- Along a trace the states of hosts stay no longer than they may be.
-use Rattle.std.proofs.Common.{◌≡◌, ◌∙◌, ℕ, zero, suc, Bool, true, false, cond, nat_eq, List, [], ◌∷◌, ◌++◌, take, drop, remove, slice_get, slice_set, Option, Some, None, refl, sym, subst, ap}
+use Rattle.std.proofs.Common.{◌≡◌, ◌∙◌, ℕ, zero, suc, Bool, true, false, cond, nat_eq, List, [], ◌∷◌, remove, slice_get, slice_set, Option, Some, None, refl, sym, subst, ap}
 use Rattle.std.specs.List.{AllByRecursion}
 use Rattle.std.specs.Option.{option_map_or, option_and_then}
 use Rattle.ash_host.specs.declared.word.Word.{Word}
@@ -8,14 +8,14 @@ use Rattle.ash_host.specs.declared.event.Target.TheVariants as targets
 use Rattle.ash_host.specs.declared.host_object.HostObject.{Ghosts}
 use Rattle.ash_host.specs.Calls.{HostCall}
 use Rattle.ash_host.specs.Objects.{Plain, Script, Array, Host, Objects, object_at, with_at, is_host, AreNumbered}
-use Rattle.ash_host.specs.Records.{HostRecord, IsValidRecord, next_record}
+use Rattle.ash_host.specs.Records.{HostRecord, next_record}
 use Rattle.ash_host.proofs.Order.{object_at-with_at}
 use Rattle.ash_host.proofs.RecordLaws.{next_record_says}
 use Rattle.ash_phrases.specs.Activity.{FreeBox, World, Frame, Activity}
 use Rattle.ash_phrases.specs.Releases.{roots}
 use Rattle.ash_phrases.specs.Frames.{back_in}
 use Rattle.ash_phrases.specs.ObjectSteps.{change_at, with_words}
-use Rattle.ash_phrases.specs.HostSteps.{with_state_in, with_state, state_of, next_answer}
+use Rattle.ash_phrases.specs.HostSteps.{with_state_in, with_state, state_of}
 use Rattle.ash_phrases.specs.Traces.{WorldTransition, WritesGlobal, WritesWords, Makes, Draws, TakesAnswer, Notes, Transition, TakesTick, InFrame, Enters, Leaves, InWorld, Releases, after_release, Trace, Here, Then}
 use Rattle.ash_phrases.specs.Answers.{Answerers, AreValid, StateFits, ObjectFits, HostsFit}
 use Rattle.ash_phrases.specs.Laws.{IsReleased}

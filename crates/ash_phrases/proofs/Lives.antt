@@ -3,7 +3,7 @@ use Rattle.std.proofs.Common.{◌≡◌, ◌≤◌, ◌<◌, ◌+◌, ◌∙◌,
 use Rattle.std.proofs.lemmas.List.Sums.{sum_by-cons, sum_by-append}
 use Rattle.std.specs.Option.{option_map_or}
 use Rattle.ash_host.specs.declared.event.Event.{Event}
-use Rattle.ash_host.specs.Objects.{Plain, Script, Array, Host, object_at, is_host, AreNumbered}
+use Rattle.ash_host.specs.Objects.{Plain, Script, Array, Host, object_at, AreNumbered}
 use Rattle.ash_phrases.specs.Numbers.{is_draw_of, is_drop_of, draws_of, drops_of, Numbering, one_if_host, hosts_at, Life, Lives}
 
 -- a prefix of joined lists ends in the first of them, or in the second

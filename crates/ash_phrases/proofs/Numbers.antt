@@ -12,20 +12,20 @@ use Rattle.ash_host.specs.declared.event.Target.{Target}
 use Rattle.ash_host.specs.declared.event.Target.TheVariants as targets
 use Rattle.ash_host.specs.Objects.{Plain, Script, Array, Host, Objects, object_at, with_at, is_host, IsInOrder, AreNumbered}
 use Rattle.ash_host.specs.Reach.{ReachableIn, Swept, hosts_gone, is_reachable}
-use Rattle.ash_host.proofs.Order.{object_at-with_at, in_order-with_at, object_later, none_behind, in_order_behind}
+use Rattle.ash_host.proofs.Order.{object_at-with_at, in_order-with_at, none_behind, in_order_behind}
 use Rattle.ash_host.proofs.ReachLaws.{is_reachable_says, is_reachable_yes}
 use Rattle.ash_host.proofs.NumberLaws.{put_next, swept_numbered}
-use Rattle.ash_phrases.specs.Activity.{FreeBox, World, Frame, Activity}
+use Rattle.ash_phrases.specs.Activity.{World, Frame, Activity}
 use Rattle.ash_phrases.specs.Releases.{roots}
 use Rattle.ash_phrases.specs.Frames.{back_in}
 use Rattle.ash_phrases.specs.ObjectSteps.{change_at, with_object, with_words, with_new}
 use Rattle.ash_phrases.specs.HostSteps.{with_state_in, with_state, after_answer}
 use Rattle.ash_phrases.specs.Locations.{with_global}
-use Rattle.ash_phrases.specs.Traces.{WorldTransition, WritesGlobal, WritesWords, Makes, Draws, TakesAnswer, Notes, drawn, Transition, TakesTick, InFrame, Enters, Leaves, InWorld, Releases, after_release, Trace, Here, Then}
+use Rattle.ash_phrases.specs.Traces.{WorldTransition, WritesGlobal, WritesWords, Makes, Draws, TakesAnswer, Notes, Transition, TakesTick, InFrame, Enters, Leaves, InWorld, Releases, after_release, Trace, Here, Then}
 use Rattle.ash_phrases.specs.Numbers.{draws_of, drops_of, Numbering, numbering_of, one_if_host, hosts_at, Life, Lives}
 use Rattle.ash_phrases.specs.Laws.{IsReleased, NumbersLiveOnce}
 use Rattle.ash_phrases.proofs.Released.{swept_by}
-use Rattle.ash_phrases.proofs.Lives.{hosts_few, hosts_given, draws-cons, drops-cons, life_of, same_life, joined_lives, same_lives}
+use Rattle.ash_phrases.proofs.Lives.{hosts_given, draws-cons, drops-cons, life_of, same_life, joined_lives, same_lives}
 
 abbrev P : Type 0
 P = Plain (List ℕ)

@@ -1,11 +1,11 @@
 -- No phrase gains ticks, and a call that comes to its end has taken one at least.
-use Rattle.std.proofs.Common.{◌≤◌, ◌<◌, ◌∷◌, refl, ℕ, zero, suc, List, slice_get, Option, arith}
+use Rattle.std.proofs.Common.{◌≤◌, ◌<◌, ◌∷◌, refl, ℕ, zero, suc, List, slice_get, arith}
 use Rattle.ash_host.specs.declared.word.Word.{Word}
 use Rattle.ash_host.specs.declared.word.Word.TheVariants as words
 use Rattle.ash_typed.specs.Modules.{Class}
 use Rattle.ash_phrases.specs.Activity.{Activity, in_frame}
 use Rattle.ash_phrases.specs.Runs.{Progress, Done, Ended, NoStep, Run, give, onward, ◌>>=◌, ◌>>◌, found}
-use Rattle.ash_phrases.specs.Frames.{at_line, spend, demand_frame, frame_of, enter, leave, in_frame_of}
+use Rattle.ash_phrases.specs.Frames.{at_line, spend, demand_frame, frame_of, leave, in_frame_of}
 use Rattle.ash_phrases.specs.ObjectSteps.{demand_number, make}
 use Rattle.ash_phrases.specs.Classes.{Program, Callee, Construction, Entry, entry_of}
 use Rattle.ash_phrases.specs.Calls.{value_or_null, blank, call, construct}

@@ -1,10 +1,10 @@
 -- Traces: how they are put together, and that ticks fall along them.
-use Rattle.std.proofs.Common.{◌≡◌, ◌≤◌, ◌+◌, ℕ, List, [], ◌∷◌, refl, ap, arith}
+use Rattle.std.proofs.Common.{◌≡◌, ◌≤◌, ℕ, List, [], ◌∷◌, refl, ap, arith}
 use Rattle.ash_host.specs.declared.word.Word.{Word}
-use Rattle.ash_phrases.specs.Activity.{World, Frame, Activity}
+use Rattle.ash_phrases.specs.Activity.{Frame, Activity}
 use Rattle.ash_phrases.specs.Runs.{Raising, OutOfTicks, Progress, Done, Ended, NoStep}
 use Rattle.ash_phrases.specs.Frames.{back_in}
-use Rattle.ash_phrases.specs.Traces.{Transition, TakesTick, InFrame, Enters, Leaves, InWorld, Releases, after_release, Trace, Here, Then}
+use Rattle.ash_phrases.specs.Traces.{Transition, TakesTick, InFrame, Enters, Leaves, InWorld, Releases, Trace, Here, Then}
 use Rattle.ash_phrases.specs.Laws.{LeavesAtMost, ComesBy}
 
 pub joined : {a b c : Activity} → Trace a b → Trace b c → Trace a c

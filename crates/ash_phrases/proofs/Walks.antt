@@ -6,7 +6,7 @@ use Rattle.ash_phrases.specs.Activity.{Activity, in_frame}
 use Rattle.ash_phrases.specs.Runs.{Raising, OutOfTicks, Progress, Done, Ended, NoStep, Run, give, onward, ◌>>=◌, ◌>>◌, look, change, raise, demand, no_step, found}
 use Rattle.ash_phrases.specs.Frames.{at_line, spend, tick}
 use Rattle.ash_phrases.specs.Traces.{Transition, TakesTick, InFrame, Trace, Here}
-use Rattle.ash_phrases.specs.Laws.{LeavesAtMost, AreSame, ComesBy, with_more, GoesOn}
+use Rattle.ash_phrases.specs.Laws.{AreSame, ComesBy, with_more, GoesOn}
 use Rattle.ash_phrases.proofs.Traces.{one, ticks_fall, comes_after, leaves}
 
 pub record Walk {A : Type 0} (n : ℕ) (r s : Run A) : Type 0 where

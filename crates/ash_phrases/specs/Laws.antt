@@ -9,19 +9,19 @@ use Rattle.ash_host.specs.Reach.{Swept, hosts_gone}
 use Rattle.ash_typed.specs.Tree.{Expr, Place, Exprs}
 use Rattle.ash_typed.specs.StatementTree.{Stmt}
 use Rattle.ash_phrases.specs.Activity.{World, Frame, Activity}
-use Rattle.ash_phrases.specs.Releases.{roots, sweep, release}
+use Rattle.ash_phrases.specs.Releases.{roots, release}
 use Rattle.ash_phrases.specs.Runs.{Raising, OutOfTicks, Progress, Done, Ended, NoStep, Run, ◌>>◌}
 use Rattle.ash_phrases.specs.Frames.{frame_of, tick}
 use Rattle.ash_phrases.specs.Locations.{Location}
 use Rattle.ash_phrases.specs.Classes.{Program, Callee, FreeFunction, Entry, entry_of}
-use Rattle.ash_phrases.specs.Calls.{Calls, call, construct}
+use Rattle.ash_phrases.specs.Calls.{call, construct}
 use Rattle.ash_phrases.specs.Expressions.{expression, location, arguments}
 use Rattle.ash_phrases.specs.Statements.{Flow, statement}
 use Rattle.ash_phrases.specs.Functions.{body, calls_within, initialize_module}
 use Rattle.ash_phrases.specs.Ends.{End, Finished, Threw, Aborted, Outcome, begun, with_globals, init_frame, call_function, load_module}
 pub use Rattle.ash_phrases.specs.Traces.{after_release}
 use Rattle.ash_phrases.specs.Traces.{Trace}
-use Rattle.ash_phrases.specs.Numbers.{Numbering, numbering_of, Lives}
+use Rattle.ash_phrases.specs.Numbers.{numbering_of, Lives}
 
 -- depth
 

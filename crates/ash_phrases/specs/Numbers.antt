@@ -1,8 +1,8 @@
 -- What events say of the number of a host object: how often it was drawn and dropped, and when.
-use Rattle.std.specs.Prelude.{◌≡◌, ◌≤◌, ◌<◌, ◌+◌, ◌++◌, ◌==◌, ℕ, Bool, true, false, if◌then◌else◌, List, [], count_by}
+use Rattle.std.specs.Prelude.{◌≡◌, ◌≤◌, ◌<◌, ◌+◌, ◌++◌, ◌==◌, ℕ, Bool, false, if◌then◌else◌, List, count_by}
 use Rattle.std.specs.Option.{option_map_or}
 use Rattle.ash_host.specs.declared.event.Event.{Event}
-use Rattle.ash_host.specs.declared.event.Event.TheVariants.{Drew, Called, Dropped}
+use Rattle.ash_host.specs.declared.event.Event.TheVariants.{Drew, Dropped}
 use Rattle.ash_host.specs.Objects.{Plain, Objects, object_at, is_host, AreNumbered}
 use Rattle.ash_phrases.specs.Activity.{World}
 

@@ -1,5 +1,5 @@
 -- What phrases do, as transitions: each changes what runs in one way, and a trace is one transition after another.
-use Rattle.std.specs.Prelude.{◌≡◌, ◌+◌, ℕ, false, List, ◌∷◌, Option, Some, slice_get}
+use Rattle.std.specs.Prelude.{◌≡◌, ◌+◌, ℕ, false, List, ◌∷◌, Some, slice_get}
 use Rattle.ash_host.specs.declared.word.Word.{Word}
 use Rattle.ash_host.specs.declared.event.Event.TheVariants.{Drew, Called}
 use Rattle.ash_host.specs.declared.event.Target.{Target}

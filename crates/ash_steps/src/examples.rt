@@ -148,7 +148,7 @@ pub fn worked_object_runs()
         (Load m (0 ∷ []) ∷ Call m f [] ∷ Global m (codes "g") ∷ Object 1 ∷ Object 2 ∷ []) 0 []
         (Answered (Finished None) 1 [] ∷ Answered (Finished (Some (Word.Int (pos 7)))) 2 [] ∷ Value (Word.Object 1)
         ∷ ShownAs (class_shown 1 (codes "m.P") 1
-            ((codes "q", Word.Object 2) ∷ (codes "r", Word.Object 2) ∷ (codes "v", Word.Int (pos 7)) ∷ []))
+        ((codes "q", Word.Object 2) ∷ (codes "r", Word.Object 2) ∷ (codes "v", Word.Int (pos 7)) ∷ []))
         ∷ ShownAs (class_shown 2 (codes "m.Q") 2 ((codes "w", Word.Int (pos 1)) ∷ [])) ∷ []) }
     ensures two_modules { RepliesOf (adding ∷ [])
         (Load m (0 ∷ []) ∷ Load k (0 ∷ []) ∷ Call m f (Argument.Number (pos 5) ∷ []) ∷ Global k (codes "n")
@@ -160,7 +160,7 @@ pub fn worked_object_runs()
         (started 1 1 ∷ started 2 2 ∷ started 3 3 ∷ [])
         (Answered (Finished None) 1 []
         ∷ Answered (Finished None) 2
-            (Drew 1 ∷ Drew 2 ∷ Dropped 1 ∷ Drew 3 ∷ Dropped 2 ∷ Dropped 3 ∷ []) ∷ []) }
+        (Drew 1 ∷ Drew 2 ∷ Dropped 1 ∷ Drew 3 ∷ Dropped 2 ∷ Dropped 3 ∷ []) ∷ []) }
     ensures behind_an_interface { RepliesOf (objects.behind_an_interface ∷ [])
         (Load m (0 ∷ []) ∷ Call m (codes "c") [] ∷ Call m f [] ∷ Call m (codes "c") [] ∷ Object 1
         ∷ Call m (codes "h") [] ∷ Call m (codes "c") [] ∷ []) 0 []
