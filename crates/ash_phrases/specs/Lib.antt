@@ -22,3 +22,4 @@ pub mod ExampleParts
 pub mod Examples
 pub mod ObjectExamples
 pub mod ReleaseExamples
+pub mod Tables

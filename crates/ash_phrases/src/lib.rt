@@ -18,8 +18,13 @@
 mod examples;
 mod exception;
 pub mod laws;
+mod tables;
 
 pub use examples::{
     worked_examples, worked_host_examples, worked_object_examples, worked_release_examples,
 };
 pub use exception::Exception;
+pub use tables::{
+    worked_conversions, worked_int64_table, worked_int_table, worked_ticks, worked_uint64_table,
+    worked_uint_table,
+};
