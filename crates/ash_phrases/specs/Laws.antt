@@ -6,6 +6,7 @@ use Rattle.ash_host.specs.declared.event.Event.{Event}
 use Rattle.ash_host.specs.declared.event.Event.TheVariants.{Dropped}
 use Rattle.ash_host.specs.Objects.{object_at, Lives as LivesIn}
 use Rattle.ash_host.specs.Reach.{Swept, hosts_gone}
+use Rattle.ash_host.specs.Records.{HostRecord}
 use Rattle.ash_typed.specs.Tree.{Expr, Place, Exprs}
 use Rattle.ash_typed.specs.StatementTree.{Stmt}
 use Rattle.ash_phrases.specs.Activity.{World, Frame, Activity}
@@ -152,14 +153,27 @@ pub record RunsStay (program : Program) (budget : ℕ) (world : World) : Type 0 
   pub calls : (place : ℕ) (args : List Word) (outcome : Outcome) → call_function program place args budget world ≡ Some outcome → (e : Entry) × (entry_of program.tree (FreeFunction place) ≡ Some e) × EffectsStay (first_of_call e args budget world) outcome
   pub loads : (outcome : Outcome) → load_module program budget world ≡ Some outcome → EffectsStay (first_of_load program budget world) outcome
 
--- A run that is not aborted comes to the same within any larger budget.
 abbrev pub IsNotAborted : End → Type 0
 IsNotAborted (Aborted function line) = ⊥
 IsNotAborted _ = Unit {0}
 
+abbrev pub IsAborted : End → Type 0
+IsAborted (Aborted function line) = Unit {0}
+IsAborted _ = ⊥
+
+-- What one outcome leaves is left on the way to another: where the first run ended, the other goes on, with more ticks.
+pub record IsOnTheWay (more : ℕ) (outcome later : Outcome) : Type 0 where
+  pub last : Activity
+  pub released : IsReleased [] last.world outcome.world
+  pub goes_on : EffectsStay (with_more more last) later
+
+-- A run that is not aborted comes to the same within any larger budget; one that is aborted is on the way to what it comes
+-- to there.
 pub record BudgetSuffices (program : Program) (budget more : ℕ) (world : World) : Type 0 where
   pub calls : (place : ℕ) (args : List Word) (outcome : Outcome) → call_function program place args budget world ≡ Some outcome → IsNotAborted outcome.end → call_function program place args (budget + more) world ≡ Some outcome
   pub loads : (outcome : Outcome) → load_module program budget world ≡ Some outcome → IsNotAborted outcome.end → load_module program (budget + more) world ≡ Some outcome
+  pub aborted_calls : (place : ℕ) (args : List Word) (outcome later : Outcome) → call_function program place args budget world ≡ Some outcome → IsAborted outcome.end → call_function program place args (budget + more) world ≡ Some later → IsOnTheWay more outcome later
+  pub aborted_loads : (outcome later : Outcome) → load_module program budget world ≡ Some outcome → IsAborted outcome.end → load_module program (budget + more) world ≡ Some later → IsOnTheWay more outcome later
 
 -- objects and their numbers
 
@@ -180,3 +194,7 @@ pub record WentAtRelease (number : ℕ) (first last : Activity) : Type 0 where
 
 abbrev pub GoAtReleases : Activity → Activity → Type 0
 GoAtReleases first last = (number : ℕ) → LivesIn first.world.objects number → object_at number last.world.objects ≡ None → WentAtRelease number first last
+
+-- The answers of hosts are taken in order: along a trace the first of them, and the others are left.
+abbrev pub TakesInOrder : World → World → Type 0
+TakesInOrder first last = (taken : List HostRecord) × (first.answers ≡ taken ++ last.answers)

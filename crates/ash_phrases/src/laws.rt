@@ -6,7 +6,7 @@ ghost use Rattle.ash_phrases.specs.Classes.{Program};
 ghost use Rattle.ash_phrases.specs.Traces.{Trace};
 ghost use Rattle.ash_phrases.specs.Laws.{DepthIsNoPart, ReleasesTheUnreachable, PhrasesAreTraces, TicksFall};
 ghost use Rattle.ash_phrases.specs.Answers.{Answerers, HostsFit};
-ghost use Rattle.ash_phrases.specs.Laws.{NumbersLiveOnce, GoAtReleases, RunsStay, MoreTicksGoOn, BudgetSuffices};
+ghost use Rattle.ash_phrases.specs.Laws.{NumbersLiveOnce, GoAtReleases, RunsStay, MoreTicksGoOn, BudgetSuffices, TakesInOrder};
 
 use ash_host::HostObject;
 
@@ -51,10 +51,16 @@ pub fn effects_stay()
 {}
 
 /// A phrase that has more ticks does the same, and goes on where it ended for want of a tick. So a run that is not
-/// aborted comes to the same within any larger budget.
+/// aborted comes to the same within any larger budget, and what an aborted one leaves is on the way.
 pub fn more_ticks_go_on()
     ensures phrases { (program : Program) (depth : ℕ) → MoreTicksGoOn program depth }
-    ensures runs { (program : Program) (budget more : ℕ) (world : World) → BudgetSuffices program budget more world }
+    ensures runs { (program : Program) (budget more : ℕ) (world : World) → AreNumbered world.last world.objects
+        → BudgetSuffices program budget more world }
+{}
+
+/// The answers of hosts are taken in order, each at most once.
+pub fn answers_are_taken_in_order()
+    ensures { (first last : Activity) → Trace first last → TakesInOrder first.world last.world }
 {}
 
 /// The states of host objects, of services and of free boxes stay no longer than they may be, where hosts answer what

@@ -178,8 +178,8 @@ pub fn worked_conversions()
         Word.Uint64 18446744073709551615 ∷ Word.Uint64 4294967303 ∷ []) }
 {}
 
-/// The line of each tick of a function with each sort of statement: where the budget is that many ticks, it is aborted
-/// there. With one tick more than that it comes to its end.
+/// The line of each tick of a function with each sort of statement: with as many ticks as are before it, the function
+/// is aborted there, and with all of them it comes to its end.
 pub fn worked_ticks()
     ensures { ends_within every_statement 25
         ≡ aborted_at (1 ∷ 2 ∷ 3 ∷ 4 ∷ 5 ∷ 6 ∷ 7 ∷ 8 ∷ 10 ∷ 10 ∷ 11 ∷ 10 ∷ 11 ∷ 10 ∷ 12 ∷ 13 ∷ 12 ∷
