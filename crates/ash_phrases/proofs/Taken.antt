@@ -40,7 +40,7 @@ back_leaves : (callers : List Frame) (result : Word) (a : Activity) → ((back_i
 back_leaves [] result a = refl
 back_leaves (caller ∷ callers) result a = refl
 
-sweep_leaves : (frames : List Frame) (world : World) → (sweep frames world).answers ≡ world.answers
+pub sweep_leaves : (frames : List Frame) (world : World) → (sweep frames world).answers ≡ world.answers
 unfolding sweep
 sweep_leaves frames world = refl
 

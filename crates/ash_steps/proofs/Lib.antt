@@ -4,3 +4,5 @@ mod Counted
 mod Determined
 mod Numbers
 mod Fits
+mod Budgets
+mod Taken

@@ -1,7 +1,9 @@
 -- The laws of steps.
-use Rattle.std.specs.Prelude.{◌≡◌, ◌⊎◌, ◌+◌, List, [], flat_map}
+use Rattle.std.specs.Prelude.{◌≡◌, ◌⊎◌, ◌+◌, ◌++◌, List, [], flat_map}
 use Rattle.ash_host.specs.declared.event.Event.{Event}
+use Rattle.ash_host.specs.Records.{HostRecord}
 use Rattle.ash_phrases.specs.Numbers.{Lives}
+use Rattle.ash_phrases.specs.Laws.{IsNotAborted as EndIsNotAborted}
 use Rattle.ash_steps.specs.States.{State, Hosts, numbering_of}
 use Rattle.ash_steps.specs.Requests.{Request, Refusal, Reply, Answered, Refused}
 use Rattle.ash_steps.specs.Steps.{Step, History, IsPutOff, replied}
@@ -31,3 +33,12 @@ events_of history = flat_map events_of_reply history.replies
 -- Over requests each number has its life: it is drawn at most once, and dropped at most once and only after it was drawn.
 abbrev pub NumbersLiveOnce : {Fault : Type 0} → State → History Fault → Type 0
 NumbersLiveOnce old history = Lives (numbering_of old) (events_of history) (numbering_of history.state)
+
+-- a reply that does not say that a run was aborted
+abbrev pub IsNotAborted : {Fault : Type 0} → Reply Fault → Type 0
+IsNotAborted (Answered end seq events) = EndIsNotAborted end
+IsNotAborted _ = Unit {0}
+
+-- The answers of hosts are taken in order: over requests the first of them, and the others are left.
+abbrev pub TakesInOrder : {Fault : Type 0} → Hosts → History Fault → Type 0
+TakesInOrder hosts history = (taken : List HostRecord) × (hosts.answers ≡ taken ++ history.hosts.answers)

@@ -6,6 +6,7 @@ ghost use Rattle.ash_phrases.specs.Answers.{Answerers};
 ghost use Rattle.ash_steps.specs.States.{State, Hosts, Embedding};
 ghost use Rattle.ash_steps.specs.Requests.{Request, Refusal, Refused};
 ghost use Rattle.ash_steps.specs.Laws.{CountsAnswers, AreOneUnlessPutOff, NumbersLiveOnce};
+ghost use Rattle.ash_steps.specs.Laws.{IsNotAborted, TakesInOrder};
 ghost use Rattle.ash_steps.specs.Tasks.{first_refusal};
 ghost use Rattle.ash_steps.specs.Steps.{Step, History, step, replied, run, Steps, Runs};
 ghost use Rattle.ash_steps.specs.Premises.{HostsAnswer};
@@ -65,4 +66,23 @@ pub fn host_states_fit<F, B: HostObject>()
         → AreNumbered state.last state.objects
         → HostsAnswer B.HostObject answerers state hosts
         → HostsAnswer B.HostObject answerers history.state history.hosts }
+{}
+
+/// A step whose run is not aborted is the same within any larger budget.
+pub fn budget_suffices<F>()
+    ensures { (embedding : Embedding F) (budget more : ℕ) (request : Request)
+        (state : State) (hosts : Hosts) (one : Step F)
+        → AreNumbered state.last state.objects
+        → step embedding budget request state hosts ≡ Some one
+        → IsNotAborted one.reply
+        → step embedding (budget + more) request state hosts ≡ Some one }
+{}
+
+/// The answers of hosts are taken in order, each at most once.
+pub fn answers_are_taken_in_order<F>()
+    ensures { (embedding : Embedding F) (budget : ℕ) (requests : List Request)
+        (state : State) (hosts : Hosts) (history : History F)
+        → Runs embedding budget requests state hosts history
+        → AreNumbered state.last state.objects
+        → TakesInOrder hosts history }
 {}
