@@ -60,8 +60,8 @@ named name of value = record { name = name; of = of; value = value }
 abbrev pub alone : Initialization → Variables
 alone v = record { line = 1; values = v ∷ [] }
 
-abbrev pub give : Expr → Stmt
-give e = Return 1 (Some e)
+abbrev pub returning : Expr → Stmt
+returning e = Return 1 (Some e)
 
 abbrev pub evaluate : Expr → Stmt
 evaluate e = Evaluate 1 e

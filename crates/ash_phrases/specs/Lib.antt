@@ -22,4 +22,5 @@ pub mod ExampleParts
 pub mod Examples
 pub mod ObjectExamples
 pub mod ReleaseExamples
+pub mod ControlExamples
 pub mod Tables

@@ -28,7 +28,7 @@ use Rattle.ash_host.specs.Objects.{Script}
 use Rattle.ash_phrases.specs.Activity.{World}
 use Rattle.ash_phrases.specs.Classes.{Program}
 use Rattle.ash_phrases.specs.Ends.{Outcome, call_function, load_module}
-use Rattle.ash_phrases.specs.ExampleParts.{empty_world, counters, started, int, handle_of_class, number, local, global, calculate, variable, give, named, alone, evaluate, function, module_of, program, tallied_by, tally, counter, new_counter, add, counter_value, f, only}
+use Rattle.ash_phrases.specs.ExampleParts.{empty_world, counters, started, int, handle_of_class, number, local, global, calculate, variable, returning, named, alone, evaluate, function, module_of, program, tallied_by, tally, counter, new_counter, add, counter_value, f, only}
 
 -- `int two(Counter@ h, int k) { return k; }`
 -- `int f() { Counter@ a = Counter(1); Counter@ c = Counter(5); int r = two(@a = null, c.add(1)); c.add(1); return r; }`
@@ -36,7 +36,7 @@ abbrev pub overwritten_in_an_argument : Program
 overwritten_in_an_argument = program (module_of [] [] (two ∷ main ∷ []))
   where
     two : Function
-    two = function (codes "two") (Some int) (counter ∷ int ∷ []) (give (Read (local 1 int)) ∷ [])
+    two = function (codes "two") (Some int) (counter ∷ int ∷ []) (returning (Read (local 1 int)) ∷ [])
 
     c : Expr
     c = Read (local 1 counter)
@@ -45,7 +45,7 @@ overwritten_in_an_argument = program (module_of [] [] (two ∷ main ∷ []))
     called = Call (targets.Function 0 (Some int)) (counter ∷ int ∷ []) (exprs (Assign (local 0 counter) Null ∷ add c 1 ∷ []))
 
     main : Function
-    main = function f (Some int) [] (Declare 1 (variable counter (Some (new_counter 1)) ∷ []) ∷ Declare 1 (variable counter (Some (new_counter 5)) ∷ []) ∷ Declare 1 (variable int (Some called) ∷ []) ∷ evaluate (add c 1) ∷ give (Read (local 2 int)) ∷ [])
+    main = function f (Some int) [] (Declare 1 (variable counter (Some (new_counter 1)) ∷ []) ∷ Declare 1 (variable counter (Some (new_counter 5)) ∷ []) ∷ Declare 1 (variable int (Some called) ∷ []) ∷ evaluate (add c 1) ∷ returning (Read (local 2 int)) ∷ [])
 
 -- `class B { Counter@ c; }`
 -- `void f() { B@ x = B(); B@ y = B(); @x.c = Counter(1); B@ z = B(); @y.c = Counter(2); @z.c = x.c; }`
@@ -80,7 +80,7 @@ failing = only None [] (Declare 1 (variable (vars.Object (objects.Host 1)) (Some
 
 -- `int f() { Counter c(1); return c.add(1); }`
 abbrev pub adding : Program
-adding = only (Some int) [] (Declare 1 (variable (vars.Object (objects.Host 1)) (Some (new_counter 1)) ∷ []) ∷ give (add (Read (local 0 (vars.Object (objects.Host 1)))) 1) ∷ [])
+adding = only (Some int) [] (Declare 1 (variable (vars.Object (objects.Host 1)) (Some (new_counter 1)) ∷ []) ∷ returning (add (Read (local 0 (vars.Object (objects.Host 1)))) 1) ∷ [])
 
 -- a record of a call of method 1 or 2 of counter 1, which is at 1 and stays there
 abbrev pub answered : ℕ → ℕ → HostAnswer → HostRecord
@@ -108,7 +108,7 @@ constructed = program (module_of (q ∷ p ∷ []) (alone (named (codes "g") (han
     p = record { name = codes "P"; line = 1; interfaces = []; fields = named (codes "q") own (Some (Call (targets.Class 0) [] (exprs []))) ∷ named (codes "r") (handle_of_class 0) None ∷ named (codes "v") int (Some (number 2)) ∷ []; constructor = Some (function (codes "P") None (int ∷ []) body); methods = [] }
 
     main : Function
-    main = function f (Some int) [] (give (Read (Held (Read (global 0 (handle_of_class 1))) (members.Field 1 2 int))) ∷ [])
+    main = function f (Some int) [] (returning (Read (Held (Read (global 0 (handle_of_class 1))) (members.Field 1 2 int))) ∷ [])
 
 -- `interface I { int v(); } class A : I { int v() { return 3; } } class B : I { int v() { return 7; } } I@ g;`
 -- `int f() { @g = B(); return g.v(); } bool c() { A@ a = cast<A>(g); return a is null; }`
@@ -125,7 +125,7 @@ through_an_interface = program (record { interfaces = i ∷ []; classes = a ∷ 
     i = record { name = codes "I"; line = 1; classes_before = 0; methods = record { name = codes "v"; result = Some int; parameters = [] } ∷ [] }
 
     class_named : List ℕ → ℕ → Class
-    class_named name n = record { name = name; line = 1; interfaces = record { interface = 0; methods = 0 ∷ [] } ∷ []; fields = []; constructor = None; methods = function (codes "v") (Some int) [] (give (number n) ∷ []) ∷ [] }
+    class_named name n = record { name = name; line = 1; interfaces = record { interface = 0; methods = 0 ∷ [] } ∷ []; fields = []; constructor = None; methods = function (codes "v") (Some int) [] (returning (number n) ∷ []) ∷ [] }
 
     a : Class
     a = class_named (codes "A") 3
@@ -134,13 +134,13 @@ through_an_interface = program (record { interfaces = i ∷ []; classes = a ∷ 
     b = class_named (codes "B") 7
 
     main : Function
-    main = function f (Some int) [] (evaluate (Assign g (Call (targets.Class 1) [] (exprs []))) ∷ give (Invoke (Read g) (methods.Interface 0 0 (Some int)) [] (exprs [])) ∷ [])
+    main = function f (Some int) [] (evaluate (Assign g (Call (targets.Class 1) [] (exprs []))) ∷ returning (Invoke (Read g) (methods.Interface 0 0 (Some int)) [] (exprs [])) ∷ [])
 
     is_null : Expr
     is_null = Operate (operations.Compare comparators.Is operands.Handles) (Read (local 0 (handle_of_class 0))) Null
 
     test : Function
-    test = function (codes "c") (Some vars.Bool) [] (Declare 1 (variable (handle_of_class 0) (Some (Cast (objects.Class 0) (Read g))) ∷ []) ∷ give is_null ∷ [])
+    test = function (codes "c") (Some vars.Bool) [] (Declare 1 (variable (handle_of_class 0) (Some (Cast (objects.Class 0) (Read g))) ∷ []) ∷ returning is_null ∷ [])
 
 -- `array<Counter@> l; int f(int k) { l.insertLast(Counter(k)); return l.length(); } void g() { l.removeLast(); }`
 -- `int h(uint i) { return l[i].value; }`
@@ -163,17 +163,17 @@ in_an_array = program (module_of [] (alone (named (codes "l") array (Some (Call 
     made = Call (targets.Host 1) (int ∷ []) (exprs (Read (local 0 int) ∷ []))
 
     f_of : Function
-    f_of = function f (Some int) (int ∷ []) (evaluate (of_l arrays.InsertLast (counter ∷ []) (made ∷ [])) ∷ give (Convert (record { from = kinds.Uint; to = kinds.Int }) (of_l arrays.Length [] [])) ∷ [])
+    f_of = function f (Some int) (int ∷ []) (evaluate (of_l arrays.InsertLast (counter ∷ []) (made ∷ [])) ∷ returning (Convert (record { from = kinds.Uint; to = kinds.Int }) (of_l arrays.Length [] [])) ∷ [])
 
     g_of : Function
     g_of = function (codes "g") None [] (evaluate (of_l arrays.RemoveLast [] []) ∷ [])
 
     h_of : Function
-    h_of = function (codes "h") (Some int) (uint ∷ []) (give (Read (counter_value (Read (Indexed l (Read (local 0 uint)) (elements.Host 1))))) ∷ [])
+    h_of = function (codes "h") (Some int) (uint ∷ []) (returning (Read (counter_value (Read (Indexed l (Read (local 0 uint)) (elements.Host 1))))) ∷ [])
 
 -- `array<int> a; int f(uint n) { a.resize(n); return a[0]; }`
 abbrev pub resized : Program
-resized = program (module_of [] (record { line = 1; values = variable of (Some (Call (targets.Array (elements.Integer kinds.Int)) [] (exprs []))) ∷ [] } ∷ []) (function f (Some int) (vars.Integer kinds.Uint ∷ []) (evaluate (Invoke (Read (global 0 of)) (methods.Array arrays.Resize) (vars.Integer kinds.Uint ∷ []) (exprs (Read (local 0 (vars.Integer kinds.Uint)) ∷ []))) ∷ give (Read (Indexed (Read (global 0 of)) (Number kinds.Uint 0) (elements.Integer kinds.Int))) ∷ []) ∷ []))
+resized = program (module_of [] (record { line = 1; values = variable of (Some (Call (targets.Array (elements.Integer kinds.Int)) [] (exprs []))) ∷ [] } ∷ []) (function f (Some int) (vars.Integer kinds.Uint ∷ []) (evaluate (Invoke (Read (global 0 of)) (methods.Array arrays.Resize) (vars.Integer kinds.Uint ∷ []) (exprs (Read (local 0 (vars.Integer kinds.Uint)) ∷ []))) ∷ returning (Read (Indexed (Read (global 0 of)) (Number kinds.Uint 0) (elements.Integer kinds.Int))) ∷ []) ∷ []))
   where
     of : VarType
     of = vars.Object (objects.Array (elements.Integer kinds.Int))

@@ -22,7 +22,7 @@ use Rattle.ash_host.specs.Objects.{Host}
 use Rattle.ash_typed.specs.declared.tree.operations.Method.TheVariants as methods
 use Rattle.ash_phrases.specs.Activity.{World}
 use Rattle.ash_phrases.specs.Classes.{Program}
-use Rattle.ash_phrases.specs.ExampleParts.{empty_world, added, global, int, number, local, calculate, variable, give, evaluate, function, module_of, program, counter, new_counter, add, counter_value, f, only}
+use Rattle.ash_phrases.specs.ExampleParts.{empty_world, added, global, int, number, local, calculate, variable, returning, evaluate, function, module_of, program, counter, new_counter, add, counter_value, f, only}
 
 -- parts
 
@@ -57,7 +57,7 @@ abbrev pub after_a_return : Program
 after_a_return = program (module_of [] [] (make ∷ main ∷ []))
   where
     make : Function
-    make = function (codes "make") (Some counter) [] (declared 1 ∷ declared 2 ∷ give (Read (local 0 counter)) ∷ [])
+    make = function (codes "make") (Some counter) [] (declared 1 ∷ declared 2 ∷ returning (Read (local 0 counter)) ∷ [])
 
     main : Function
     main = function f None [] (evaluate (add (Call (targets.Function 0 (Some counter)) [] (exprs [])) 1) ∷ [])
@@ -88,10 +88,10 @@ abbrev pub overwritten : Program
 overwritten = program (module_of [] [] (two ∷ use_one ∷ main ∷ []))
   where
     two : Function
-    two = function (codes "two") (Some int) (counter ∷ int ∷ []) (give (Read (local 1 int)) ∷ [])
+    two = function (codes "two") (Some int) (counter ∷ int ∷ []) (returning (Read (local 1 int)) ∷ [])
 
     use_one : Function
-    use_one = function (codes "use") (Some int) [] (declared 2 ∷ give (number 1) ∷ [])
+    use_one = function (codes "use") (Some int) [] (declared 2 ∷ returning (number 1) ∷ [])
 
     main : Function
     main = function f None [] (declared 1 ∷ evaluate (Call (targets.Function 0 (Some int)) (counter ∷ int ∷ []) (exprs (Assign (local 0 counter) Null ∷ Call (targets.Function 1 (Some int)) [] (exprs []) ∷ []))) ∷ [])
@@ -101,10 +101,10 @@ abbrev pub read_before : Program
 read_before = program (module_of [] (record { line = 1; values = variable counter (Some (new_counter 1)) ∷ [] } ∷ []) (clear ∷ main ∷ []))
   where
     clear : Function
-    clear = function (codes "clear") (Some int) [] (evaluate (Assign (global 0 counter) Null) ∷ give (number 1) ∷ [])
+    clear = function (codes "clear") (Some int) [] (evaluate (Assign (global 0 counter) Null) ∷ returning (number 1) ∷ [])
 
     main : Function
-    main = function f (Some int) [] (give (Invoke (Read (global 0 counter)) (methods.Host 1 (Some int)) (int ∷ []) (exprs (Call (targets.Function 0 (Some int)) [] (exprs []) ∷ []))) ∷ [])
+    main = function f (Some int) [] (returning (Invoke (Read (global 0 counter)) (methods.Host 1 (Some int)) (int ∷ []) (exprs (Call (targets.Function 0 (Some int)) [] (exprs []) ∷ []))) ∷ [])
 
 -- the world that `read_before` is called in
 abbrev pub one_counter : World

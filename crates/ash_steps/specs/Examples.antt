@@ -25,7 +25,7 @@ k = codes "k"
 
 -- `int n = 2; int f(int k) { n += k; return n; }`
 abbrev pub adding : Module
-adding = parts.module_of [] (parts.alone (parts.named (codes "n") parts.int (Some (parts.number 2))) ∷ []) (parts.function parts.f (Some parts.int) (parts.int ∷ []) (more ∷ parts.give (Read n) ∷ []) ∷ [])
+adding = parts.module_of [] (parts.alone (parts.named (codes "n") parts.int (Some (parts.number 2))) ∷ []) (parts.function parts.f (Some parts.int) (parts.int ∷ []) (more ∷ parts.returning (Read n) ∷ []) ∷ [])
   where
     n : Place
     n = parts.global 0 parts.int

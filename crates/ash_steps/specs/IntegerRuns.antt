@@ -15,7 +15,7 @@ use Rattle.ash_typed.specs.declared.tree.statements.Test.TheVariants as tests
 use Rattle.ash_typed.specs.Tree.{Number, Expr, Read, Convert, Alter, Operate, Assign, Place}
 use Rattle.ash_typed.specs.StatementTree.{Stmt, Evaluate, Block, no_head, For, repeated, Return, stmts}
 use Rattle.ash_typed.specs.Modules.{Function, Module}
-use Rattle.ash_phrases.specs.ExampleParts.{int, number, local, global, calculate, named, alone, give, function, module_of, tally, total, f}
+use Rattle.ash_phrases.specs.ExampleParts.{int, number, local, global, calculate, named, alone, returning, function, module_of, tally, total, f}
 use Rattle.ash_steps.specs.States.{Loaded, State}
 
 -- a module with functions alone
@@ -24,18 +24,18 @@ functions fs = module_of [] [] fs
 
 -- `int f() { return 1; }`
 abbrev pub giving_one : Module
-giving_one = functions (function f (Some int) [] (give (number 1) ∷ []) ∷ [])
+giving_one = functions (function f (Some int) [] (returning (number 1) ∷ []) ∷ [])
 
 -- `int a() { return 2147483647 + 1; } int q(int x, int y) { return x / y; } int r(int x, int y) { return x % y; }`
 abbrev pub dividing : Module
-dividing = functions (function (codes "a") (Some int) [] (give (calculate calculators.Add (number 2147483647) (number 1)) ∷ []) ∷ of (codes "q") calculators.Divide ∷ of (codes "r") calculators.Remainder ∷ [])
+dividing = functions (function (codes "a") (Some int) [] (returning (calculate calculators.Add (number 2147483647) (number 1)) ∷ []) ∷ of (codes "q") calculators.Divide ∷ of (codes "r") calculators.Remainder ∷ [])
   where
     of : List ℕ → Calculator → Function
-    of name operator = function name (Some int) (int ∷ int ∷ []) (give (calculate operator (Read (local 0 int)) (Read (local 1 int))) ∷ [])
+    of name operator = function name (Some int) (int ∷ int ∷ []) (returning (calculate operator (Read (local 0 int)) (Read (local 1 int))) ∷ [])
 
 -- `bool p() { return 1 | 2 == 2; }`, where `|` comes first
 abbrev pub bits_first : Module
-bits_first = functions (function (codes "p") (Some vars.Bool) [] (give (Operate (operations.Compare comparators.Equal (operands.Integers kinds.Int)) (calculate calculators.BitOr (number 1) (number 2)) (number 2)) ∷ []) ∷ [])
+bits_first = functions (function (codes "p") (Some vars.Bool) [] (returning (Operate (operations.Compare comparators.Equal (operands.Integers kinds.Int)) (calculate calculators.BitOr (number 1) (number 2)) (number 2)) ∷ []) ∷ [])
 
 -- on six lines: `int n = 0;`, `int f(int d) {`, `n = 1; tally(4);`, `return 10 / d;`, `}`, `int t() { return total(); }`
 abbrev pub failing_late : Module
@@ -49,7 +49,7 @@ failing_late = module_of [] (alone (named (codes "n") int (Some (number 0))) ∷
 
 -- `int t() { return total(); }`
 abbrev pub totalling : Module
-totalling = functions (function (codes "t") (Some int) [] (give total ∷ []) ∷ [])
+totalling = functions (function (codes "t") (Some int) [] (returning total ∷ []) ∷ [])
 
 -- `void g() { for (;;) {} }`
 abbrev pub unending : Module
@@ -78,20 +78,20 @@ signs = module_of [] (alone (named (codes "x") uint (Some (Number kinds.Uint 400
     negated e = Alter (changes.Negate kinds.Int) e
 
     half : Function
-    half = function f (Some uint) [] (give (Operate (operations.Calculate (record { operator = calculators.Divide; of = kinds.Uint })) x (Number kinds.Uint 2)) ∷ [])
+    half = function f (Some uint) [] (returning (Operate (operations.Calculate (record { operator = calculators.Divide; of = kinds.Uint })) x (Number kinds.Uint 2)) ∷ [])
 
     above : Function
-    above = function (codes "g") (Some vars.Bool) [] (give (Operate (operations.Compare comparators.Greater (operands.Integers kinds.Int)) (Convert (record { from = kinds.Uint; to = kinds.Int }) x) (negated (number 1))) ∷ [])
+    above = function (codes "g") (Some vars.Bool) [] (returning (Operate (operations.Compare comparators.Greater (operands.Integers kinds.Int)) (Convert (record { from = kinds.Uint; to = kinds.Int }) x) (negated (number 1))) ∷ [])
 
     least : Function
-    least = function (codes "h") (Some (vars.Integer kinds.Int64)) [] (give (Convert (record { from = kinds.Int; to = kinds.Int64 }) (negated (Convert (record { from = kinds.Uint; to = kinds.Int }) (Number kinds.Uint 2147483648)))) ∷ [])
+    least = function (codes "h") (Some (vars.Integer kinds.Int64)) [] (returning (Convert (record { from = kinds.Int; to = kinds.Int64 }) (negated (Convert (record { from = kinds.Uint; to = kinds.Int }) (Number kinds.Uint 2147483648)))) ∷ [])
 
 -- `int a(int x) { return x >> 28; } int b(int x) { return x >>> 28; } int c(int x) { return x << 33; }`
 abbrev pub shifting : Module
 shifting = functions (by (codes "a") calculators.ShiftRight 28 ∷ by (codes "b") calculators.ShiftRightArithmetic 28 ∷ by (codes "c") calculators.ShiftLeft 33 ∷ [])
   where
     by : List ℕ → Calculator → ℕ → Function
-    by name operator n = function name (Some int) (int ∷ []) (give (calculate operator (Read (local 0 int)) (number n)) ∷ [])
+    by name operator n = function name (Some int) (int ∷ []) (returning (calculate operator (Read (local 0 int)) (number n)) ∷ [])
 
 -- a state with as many modules as there may be, named `a` to `p`
 abbrev pub full_of_modules : State → State

@@ -18,14 +18,14 @@ use Rattle.ash_typed.specs.declared.tree.operations.Operation.TheVariants as ope
 use Rattle.ash_typed.specs.Tree.{Expr, Null, This, Read, Invoke, Cast, Operate, Assign, Call, Place, Held, exprs}
 use Rattle.ash_typed.specs.StatementTree.{Initialization, Stmt, Declare}
 use Rattle.ash_typed.specs.Modules.{Function, Interface, Class, Module}
-use Rattle.ash_phrases.specs.ExampleParts.{int, handle_of_class, number, local, global, variable, named, alone, give, evaluate, function, module_of, counter, new_counter, add, f}
+use Rattle.ash_phrases.specs.ExampleParts.{int, handle_of_class, number, local, global, variable, named, alone, returning, evaluate, function, module_of, counter, new_counter, add, f}
 use Rattle.ash_steps.specs.States.{State}
 use Rattle.ash_steps.specs.Requests.{Fields, Elements, Shown}
 use Rattle.ash_steps.specs.IntegerRuns.{functions}
 
 -- `int f() { Counter@ a = Counter(1); @a = @a; return a.add(1); }`
 abbrev pub assigned_to_itself : Module
-assigned_to_itself = functions (function f (Some int) [] (Declare 1 (variable counter (Some (new_counter 1)) ∷ []) ∷ evaluate (Assign (local 0 counter) (Read (local 0 counter))) ∷ give (add (Read (local 0 counter)) 1) ∷ []) ∷ [])
+assigned_to_itself = functions (function f (Some int) [] (Declare 1 (variable counter (Some (new_counter 1)) ∷ []) ∷ evaluate (Assign (local 0 counter) (Read (local 0 counter))) ∷ returning (add (Read (local 0 counter)) 1) ∷ []) ∷ [])
 
 -- `void f() { Counter c(1); }`
 abbrev pub drawing : Module
@@ -57,7 +57,7 @@ behind_an_interface = record { interfaces = i ∷ []; classes = a ∷ b ∷ []; 
     i = record { name = codes "I"; line = 1; classes_before = 0; methods = record { name = codes "v"; result = Some int; parameters = [] } ∷ [] }
 
     class_of : List ℕ → List Initialization → Expr → Class
-    class_of name fields e = record { name = name; line = 1; interfaces = record { interface = 0; methods = 0 ∷ [] } ∷ []; fields = fields; constructor = None; methods = function (codes "v") (Some int) [] (give e ∷ []) ∷ [] }
+    class_of name fields e = record { name = name; line = 1; interfaces = record { interface = 0; methods = 0 ∷ [] } ∷ []; fields = fields; constructor = None; methods = function (codes "v") (Some int) [] (returning e ∷ []) ∷ [] }
 
     a : Class
     a = class_of (codes "A") (named (codes "k") int None ∷ []) (Read (Held (This 0) (members.Field 0 0 int)))
@@ -69,7 +69,7 @@ behind_an_interface = record { interfaces = i ∷ []; classes = a ∷ b ∷ []; 
     new class = Call (targets.Class class) [] (exprs [])
 
     called : Stmt
-    called = give (Invoke (Read g) (methods.Interface 0 0 (Some int)) [] (exprs []))
+    called = returning (Invoke (Read g) (methods.Interface 0 0 (Some int)) [] (exprs []))
 
     main : Function
     main = function f (Some int) [] (Declare 1 (variable of_a (Some (new 0)) ∷ []) ∷ evaluate (Assign (Held (Read (local 0 of_a)) (members.Field 0 0 int)) (number 3)) ∷ evaluate (Assign g (Read (local 0 of_a))) ∷ called ∷ [])
@@ -78,7 +78,7 @@ behind_an_interface = record { interfaces = i ∷ []; classes = a ∷ b ∷ []; 
     other = function (codes "h") (Some int) [] (evaluate (Assign g (new 1)) ∷ called ∷ [])
 
     test : Function
-    test = function (codes "c") (Some vars.Bool) [] (Declare 1 (variable of_a (Some (Cast (objects.Class 0) (Read g))) ∷ []) ∷ give (Operate (operations.Compare comparators.Is operands.Handles) (Read (local 0 of_a)) Null) ∷ [])
+    test = function (codes "c") (Some vars.Bool) [] (Declare 1 (variable of_a (Some (Cast (objects.Class 0) (Read g))) ∷ []) ∷ returning (Operate (operations.Compare comparators.Is operands.Handles) (Read (local 0 of_a)) Null) ∷ [])
 
 -- `array<int> a; void f(uint n) { a.resize(n); }`
 abbrev pub resizing : Module
