@@ -4,14 +4,13 @@ use Rattle.ash_tree.specs.declared.tree.statements.Label.TheVariants as labels
 use Rattle.ash_typed.specs.declared.types.Kind.TheVariants as kinds
 use Rattle.ash_typed.specs.declared.tree.operations.Target.TheVariants as targets
 use Rattle.ash_typed.specs.declared.tree.operations.Calculator.TheVariants as calculators
-use Rattle.ash_typed.specs.declared.tree.operations.Comparator.{Comparator}
 use Rattle.ash_typed.specs.declared.tree.operations.Comparator.TheVariants as comparators
 use Rattle.ash_typed.specs.declared.tree.operations.Operands.TheVariants as operands
 use Rattle.ash_typed.specs.declared.tree.operations.Operation.TheVariants as operations
 use Rattle.ash_typed.specs.declared.tree.operations.Step.TheVariants as steps
 use Rattle.ash_typed.specs.declared.tree.statements.Test.TheVariants as tests
-use Rattle.ash_typed.specs.Tree.{Expr, Read, Operate, Assign, Update, Count, Call, Place, exprs}
-use Rattle.ash_typed.specs.StatementTree.{Initialization, Stmt, Empty, Declare, Evaluate, Block, declared_head, no_head, Repeat, For, repeated, Switch, Break, Continue, Return, stmts, Case, cases, labelled}
+use Rattle.ash_typed.specs.Tree.{Expr, Read, Operate, Update, Count, Call, Place, exprs}
+use Rattle.ash_typed.specs.StatementTree.{Initialization, Stmt, Empty, Declare, Evaluate, Block, declared_head, no_head, Repeat, For, repeated, Switch, Break, Continue, stmts, Case, cases, labelled}
 use Rattle.ash_typed.specs.Modules.{Function, Class}
 use Rattle.ash_phrases.specs.Classes.{Program}
 use Rattle.ash_phrases.specs.ExampleParts.{int, number, local, calculate, variable, returning, evaluate, function, module_of, program, f, only}
