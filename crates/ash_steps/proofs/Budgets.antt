@@ -8,7 +8,7 @@ use Rattle.ash_phrases.specs.Ends.{End, Finished, Threw, Aborted, Outcome, call_
 use Rattle.ash_phrases.specs.Laws.{IsNotAborted as EndIsNotAborted}
 use Rattle.ash_phrases.proofs.Endings.{budget_suffices}
 use Rattle.ash_steps.specs.States.{Loaded, State, Hosts, Embedding, without_module, world_of}
-use Rattle.ash_steps.specs.Requests.{Request, Reply}
+use Rattle.ash_steps.specs.Requests.{Request}
 use Rattle.ash_steps.specs.Tasks.{Task, Initialize, Invoke, Remove, Read, Show, Count, Rewrite, TaskResult, task_of}
 use Rattle.ash_steps.specs.Steps.{Step, after_load_with, after_load, after_call, perform, unless_refused, step}
 use Rattle.ash_steps.specs.Laws.{IsNotAborted}

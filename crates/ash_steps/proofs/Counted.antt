@@ -5,7 +5,7 @@ use Rattle.ash_phrases.specs.Ends.{End, Finished, Threw, Aborted, Outcome, call_
 use Rattle.ash_steps.specs.States.{Loaded, State, Hosts, Embedding, without_module, world_of}
 use Rattle.ash_steps.specs.Requests.{Request, Value, ShownAs, Number, Done, Refused}
 use Rattle.ash_steps.specs.Tasks.{Task, Initialize, Invoke, Remove, Read, Show, Count, Rewrite, TaskResult, task_of}
-use Rattle.ash_steps.specs.Steps.{Step, replied, after_load_with, after_load, after_call, after_discard, perform, unless_refused, IsPutOff, Steps, performed, put_off}
+use Rattle.ash_steps.specs.Steps.{Step, replied, after_load_with, after_load, after_call, after_discard, perform, unless_refused, Steps, performed, put_off}
 use Rattle.ash_steps.specs.Laws.{CountsAnswers}
 
 -- what holds of a step holds of what it is equal to

@@ -1,12 +1,12 @@
 -- Steps are determined, but for those that were put off; a refusal leaves everything as it was.
-use Rattle.std.proofs.Common.{◌≡◌, ◌⊎◌, ◌∙◌, inl, inr, ℕ, List, [], ◌∷◌, Option, Some, None, Ok, Err, refl, sym, ap, subst, unwrap_or, option_map}
+use Rattle.std.proofs.Common.{◌≡◌, ◌∙◌, inl, inr, ℕ, List, [], ◌∷◌, Option, Some, None, Ok, Err, refl, sym, ap, subst, unwrap_or, option_map}
 use Rattle.std.specs.Option.{option_and_then}
 use Rattle.ash_phrases.specs.Activity.{World}
 use Rattle.ash_phrases.specs.Ends.{End, Finished, Threw, Aborted, Outcome, call_function, load_module}
 use Rattle.ash_steps.specs.States.{Loaded, State, Hosts, Embedding, without_module, world_of}
 use Rattle.ash_steps.specs.Requests.{Request, Refusal, Reply, Value, ShownAs, Number, Done, Refused}
 use Rattle.ash_steps.specs.Tasks.{Task, Initialize, Invoke, Remove, Read, Show, Count, Rewrite, TaskResult, task_of}
-use Rattle.ash_steps.specs.Steps.{Step, replied, after_load_with, after_load, after_call, after_discard, perform, unless_refused, step, History, begin_history, with_step, run, IsPutOff, Steps, performed, put_off, Runs, no_request, next_request}
+use Rattle.ash_steps.specs.Steps.{Step, replied, after_load_with, after_load, after_call, after_discard, perform, unless_refused, step, History, begin_history, with_step, run, Steps, performed, put_off, Runs, no_request, next_request}
 use Rattle.ash_steps.specs.Laws.{AreOneUnlessPutOff}
 
 -- determined

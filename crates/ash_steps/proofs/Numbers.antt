@@ -1,5 +1,5 @@
 -- Over requests each number has its life.
-use Rattle.std.proofs.Common.{◌≡◌, ◌++◌, ◌∙◌, arith, ℕ, List, [], ◌∷◌, Option, Some, None, Ok, Err, refl, sym, ap, subst, unwrap_or, option_map}
+use Rattle.std.proofs.Common.{◌≡◌, ◌++◌, ◌∙◌, arith, ℕ, List, [], Option, Some, None, Ok, Err, refl, sym, ap, subst, unwrap_or, option_map}
 use Rattle.ash_host.specs.declared.word.Word.{Word}
 use Rattle.ash_host.specs.declared.event.Event.{Event}
 use Rattle.ash_host.specs.Objects.{AreNumbered}
@@ -8,7 +8,7 @@ use Rattle.ash_phrases.specs.Releases.{sweep}
 use Rattle.ash_phrases.specs.Classes.{Program}
 use Rattle.ash_phrases.specs.Ends.{End, Finished, Threw, Aborted, Outcome, call_function, load_module}
 use Rattle.ash_phrases.specs.Numbers.{Numbering, numbering_of as numbering_in, Lives}
-use Rattle.ash_phrases.specs.Laws.{EffectsStay, NumbersLiveOnce, RunsStay}
+use Rattle.ash_phrases.specs.Laws.{EffectsStay, NumbersLiveOnce}
 use Rattle.ash_phrases.proofs.Released.{swept_by}
 use Rattle.ash_phrases.proofs.Lives.{joined_lives, same_lives}
 use Rattle.ash_phrases.proofs.Numbers.{along, onward_from, released_onward}

@@ -42,12 +42,13 @@ abbrev pub read : List ℕ → Result Module (Unit {0})
 read [] = Err tt
 read (byte ∷ more) = if byte == 1 then Ok with_counter else if byte == 2 then Ok (examples.right_side_first).tree else if byte == 3 then Ok (objects.unfinished).tree else if byte == 4 then Ok adding else Err tt
 
--- the program that embeds these: its kinds are Counter, 1, and Tally
+-- the kinds are Counter, 1, and Tally
+abbrev pub name_of_kind : ℕ → List ℕ
+name_of_kind kind = if kind == 1 then codes "Counter" else codes "Tally"
+
+-- the program that embeds these
 abbrev pub embedding : Embedding (Unit {0})
 embedding = record { read = read; name_of_kind = name_of_kind }
-  where
-    name_of_kind : ℕ → List ℕ
-    name_of_kind kind = if kind == 1 then codes "Counter" else codes "Tally"
 
 -- a host with one service, this many counters, and these answers
 abbrev pub hosts : ℕ → List HostRecord → Hosts

@@ -1,7 +1,6 @@
 -- Small modules of integers and services, which requests load and call.
-use Rattle.std.specs.Prelude.{ℕ, ◌+◌, List, [], ◌∷◌, codes, map, replicate, Option, Some, None}
+use Rattle.std.specs.Prelude.{ℕ, ◌+◌, List, [], ◌∷◌, codes, map, Some, None}
 use Rattle.std.specs.List.{range_with_len}
-use Rattle.ash_typed.specs.declared.types.Kind.{Kind}
 use Rattle.ash_typed.specs.declared.types.Kind.TheVariants as kinds
 use Rattle.ash_typed.specs.declared.types.VarType.{VarType}
 use Rattle.ash_typed.specs.declared.types.VarType.TheVariants as vars
@@ -12,11 +11,11 @@ use Rattle.ash_typed.specs.declared.tree.operations.Operands.TheVariants as oper
 use Rattle.ash_typed.specs.declared.tree.operations.Operation.TheVariants as operations
 use Rattle.ash_typed.specs.declared.tree.operations.Change.TheVariants as changes
 use Rattle.ash_typed.specs.declared.tree.statements.Test.TheVariants as tests
-use Rattle.ash_typed.specs.Tree.{Number, Expr, Read, Convert, Alter, Operate, Assign, Place}
-use Rattle.ash_typed.specs.StatementTree.{Stmt, Evaluate, Block, no_head, For, repeated, Return, stmts}
+use Rattle.ash_typed.specs.Tree.{Number, Expr, Read, Convert, Alter, Operate, Assign}
+use Rattle.ash_typed.specs.StatementTree.{Evaluate, Block, no_head, For, repeated, Return, stmts}
 use Rattle.ash_typed.specs.Modules.{Function, Module}
 use Rattle.ash_phrases.specs.ExampleParts.{int, number, local, global, calculate, named, alone, returning, function, module_of, tally, total, f}
-use Rattle.ash_steps.specs.States.{Loaded, State}
+use Rattle.ash_steps.specs.States.{State}
 
 -- a module with functions alone
 abbrev pub functions : List Function → Module

@@ -1,5 +1,5 @@
 -- Small modules with objects, which requests load and call.
-use Rattle.std.specs.Prelude.{ℕ, List, [], ◌∷◌, codes, map, replicate, Option, Some, None}
+use Rattle.std.specs.Prelude.{ℕ, List, [], ◌∷◌, codes, map, Some, None}
 use Rattle.std.specs.List.{range_with_len}
 use Rattle.ash_host.specs.declared.word.Word.{Word}
 use Rattle.ash_host.specs.Objects.{Script}

@@ -1,5 +1,5 @@
 -- What statements about requests may take as given: how sources are read, and what hosts answer.
-use Rattle.std.specs.Prelude.{◌≡◌, ℕ, List, [], Result, Ok}
+use Rattle.std.specs.Prelude.{◌≡◌, ℕ, List, [], Ok}
 use Rattle.ash_host.specs.declared.host_object.HostObject.{Ghosts}
 use Rattle.ash_typed.specs.Modules.{Module}
 use Rattle.ash_typed.specs.Signatures.{Host}

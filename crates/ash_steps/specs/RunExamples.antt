@@ -1,23 +1,18 @@
 -- Runs over requests, where sources of one byte are given modules.
-use Rattle.std.specs.Prelude.{◌≡◌, ◌==◌, if◌then◌else◌, ℕ, pos, List, [], ◌∷◌, codes, slice_get, Option, Some, option_map, Result, Ok, Err}
+use Rattle.std.specs.Prelude.{◌≡◌, ℕ, pos, List, [], ◌∷◌, slice_get, Some, option_map, Result, Ok, Err}
 use Rattle.std.specs.Option.{option_map_or}
 use Rattle.ash_host.specs.Ints.{int_bytes}
-use Rattle.ash_host.specs.Objects.{Objects}
 use Rattle.ash_host.specs.Records.{HostRecord}
 use Rattle.ash_typed.specs.Modules.{Module}
-use Rattle.ash_steps.specs.States.{Loaded, State, Hosts, Embedding, empty}
+use Rattle.ash_steps.specs.States.{State, Embedding, empty}
 use Rattle.ash_steps.specs.Requests.{Request, Reply}
 use Rattle.ash_steps.specs.Steps.{History, run}
-use Rattle.ash_steps.specs.Examples.{hosts}
+use Rattle.ash_steps.specs.Examples.{name_of_kind, hosts}
 
 -- sources of one byte, which is the place of a module among these; no other is a source
 abbrev pub module_at : List Module → List ℕ → Result Module (Unit {0})
 module_at modules [] = Err tt
 module_at modules (place ∷ more) = option_map_or (λ (m : Module). Ok m) (slice_get modules place) (Err tt)
-
--- the kinds are Counter, 1, and Tally
-abbrev pub name_of_kind : ℕ → List ℕ
-name_of_kind kind = if kind == 1 then codes "Counter" else codes "Tally"
 
 abbrev pub embedding_of : List Module → Embedding (Unit {0})
 embedding_of modules = record { read = module_at modules; name_of_kind = name_of_kind }

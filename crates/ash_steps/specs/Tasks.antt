@@ -140,8 +140,8 @@ abbrev pub shown_fields : Class → List Word → List (List ℕ × Word)
 shown_fields c fields = zip (map name_of c.fields) fields
 
 module _ {Fault : Type 0} (embedding : Embedding Fault) where
-  -- The typed tree of a module that is loaded. Each loaded module has one, since its source had one when it was loaded: that
-  -- there is none for want of a tree is never the refusal of a state to which requests lead.
+  -- The typed tree of a module that is loaded. In every state that requests lead to there is one, since the source had one
+  -- when it was loaded; so no request is refused for want of it.
   abbrev pub tree_of : Loaded → Option Module
   tree_of m = tree_in (embedding.read m.source)
 
