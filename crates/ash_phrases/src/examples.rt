@@ -7,7 +7,7 @@ ghost use Rattle.ash_host.specs.declared.event.Target.{Target};
 ghost use Rattle.ash_host.specs.Ints.{int_bytes};
 ghost use Rattle.ash_host.specs.Objects.{Script};
 ghost use Rattle.ash_phrases.specs.declared.exception.Exception.{Exception};
-ghost use Rattle.ash_phrases.specs.Ends.{call_function};
+ghost use Rattle.ash_phrases.specs.Ends.{call_function, load_module};
 ghost use Rattle.ash_phrases.specs.ControlExamples as control;
 ghost use Rattle.ash_phrases.specs.Examples as examples;
 ghost use Rattle.ash_phrases.specs.ObjectExamples as objects;
@@ -141,6 +141,21 @@ pub fn worked_release_examples()
         (Drew 1 ∷ Drew 2 ∷ Dropped 2 ∷ Dropped 1 ∷ []) }
     ensures read_before { HasEvents (call_function releases.read_before 1 [] 9 one_counter)
         (Called (Target.Object 1) 1 ∷ Dropped 1 ∷ []) }
+    ensures switch_value { HasEvents (call_function releases.after_a_switch_value 0 [] 9
+        (counters 2 (started 1 1 ∷ value_read 1 1 ∷ started 2 2 ∷ [])))
+        (Drew 1 ∷ Dropped 1 ∷ Drew 2 ∷ Dropped 2 ∷ []) }
+    ensures each_variable { HasEvents (call_function releases.after_each_variable 0 [] 9
+        (counters 2 (started 1 1 ∷ value_read 1 1 ∷ started 2 2 ∷ value_read 2 2 ∷ [])))
+        (Drew 1 ∷ Dropped 1 ∷ Drew 2 ∷ Dropped 2 ∷ []) }
+    ensures each_global { HasEvents (load_module releases.after_each_global 9
+        (counters 2 (started 1 1 ∷ value_read 1 1 ∷ started 2 2 ∷ value_read 2 2 ∷ [])))
+        (Drew 1 ∷ Dropped 1 ∷ Drew 2 ∷ Dropped 2 ∷ []) }
+    ensures argument { HasEvents
+        (call_function releases.held_by_an_argument 1 [] 9 (counters 1 (started 1 1 ∷ [])))
+        (Drew 1 ∷ Dropped 1 ∷ []) }
+    ensures exception_of_an_argument { Throws
+        (call_function releases.held_by_an_argument 1 [] 9 (counters 1 (started 1 1 ∷ [])))
+        Exception.DivideByZero f }
 {}
 
 /// Where jumps lead in nested statements, and which function and line an exception names. A line is that of the last
