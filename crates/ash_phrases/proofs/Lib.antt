@@ -1,6 +1,14 @@
 pub mod Computing
-pub mod Same
-pub mod SameSteps
-pub mod SamePhrases
+pub mod Traces
+pub mod Walks
+pub mod StepWalks
+pub mod PhraseWalks
 pub mod Depth
 pub mod Released
+pub mod Ticks
+pub mod Lives
+pub mod Numbers
+pub mod Departures
+pub mod Fits
+pub mod Taken
+pub mod Endings

@@ -3,7 +3,7 @@ use Rattle.std.specs.Prelude.{ℕ, if◌then◌else◌, List, map, slice_get, Op
 use Rattle.std.specs.Option.{option_map_or, option_and_then}
 use Rattle.ash_host.specs.declared.word.Word.{Word}
 use Rattle.ash_host.specs.declared.word.Word.TheVariants as words
-use Rattle.ash_host.specs.declared.event.Target.TheVariants as hosts
+use Rattle.ash_host.specs.declared.event.Target.TheVariants as host_targets
 use Rattle.ash_host.specs.Objects.{Plain, Script, object_at}
 use Rattle.ash_typed.specs.declared.types.ObjectType.{ObjectType}
 use Rattle.ash_typed.specs.declared.tree.operations.Method.{Method}
@@ -42,7 +42,7 @@ call calls callee this args =
     >>= (λ e. demand_frame
     >> in_frame_of e.name e.line this args (calls.body e >>= (λ value. give (value_or_null value))))
 
--- a new object of a class, with nothing in its fields
+-- a new object of a class, whose fields are zero, `false` or null
 abbrev pub blank : Program → ℕ → Class → Plain (List ℕ)
 blank p place c = Script p.name (place_of_class p.tree place) (map (λ (v : Initialization). zero_of v.of) c.fields)
 
@@ -71,12 +71,12 @@ call_through calls interface method number args =
 abbrev pub invoke : Calls → Method → ℕ → List Word → Run Word
 invoke calls (methods.Script class method result) number args = call calls (ClassMethod class method) (words.Object number) args
 invoke calls (methods.Interface interface method result) number args = call_through calls interface method number args
-invoke calls (methods.Host id result) number args = invoke_host (hosts.Object number) id result args
+invoke calls (methods.Host id result) number args = invoke_host (host_targets.Object number) id result args
 invoke calls (methods.Array method) number args = invoke_array method number args
 
 abbrev pub call_target : Calls → Target → List Word → Run Word
 call_target calls (targets.Function function result) args = call calls (FreeFunction function) words.Null args
-call_target calls (targets.Service service id result) args = invoke_host (hosts.Service service) id result args
+call_target calls (targets.Service service id result) args = invoke_host (host_targets.Service service) id result args
 call_target calls (targets.Class class) args = construct calls class args
 call_target calls (targets.Host kind) args = construct_host kind args
 call_target calls (targets.Array of) args = construct_array (element_of calls.program of) args

@@ -1,4 +1,7 @@
 -- How a run of a function, or of the initializers of a module, ends, and what it leaves.
+--
+-- A phrase makes progress: it is done, or ended by an interrupt, in some activity. The progress of a whole run has an end, as
+-- a reply shows it, and the end with the world that is left is its outcome.
 use Rattle.std.specs.Prelude.{ℕ, List, [], codes, map, Option, Some, None}
 use Rattle.std.specs.Option.{option_and_then}
 use Rattle.ash_host.specs.declared.word.Word.{Word}

@@ -5,7 +5,7 @@ use Rattle.ash_host.specs.declared.word.Word.{Word}
 use Rattle.ash_host.specs.declared.word.Word.TheVariants as words
 use Rattle.ash_host.specs.declared.answer.HostAnswer.TheVariants.{Value, Nothing}
 use Rattle.ash_host.specs.declared.event.Event.{Event}
-use Rattle.ash_host.specs.declared.event.Target.TheVariants as hosts
+use Rattle.ash_host.specs.declared.event.Target.TheVariants as host_targets
 use Rattle.ash_host.specs.Calls as calls
 use Rattle.ash_host.specs.Ints.{int_bytes}
 use Rattle.ash_host.specs.Records.{HostRecord}
@@ -53,8 +53,15 @@ calculate operator a b = Operate (operations.Calculate (record { operator = oper
 abbrev pub variable : VarType → Option Expr → Initialization
 variable of value = record { name = []; of = of; value = value }
 
-abbrev pub give : Expr → Stmt
-give e = Return 1 (Some e)
+abbrev pub named : List ℕ → VarType → Option Expr → Initialization
+named name of value = record { name = name; of = of; value = value }
+
+-- variables of a module with one of them
+abbrev pub alone : Initialization → Variables
+alone v = record { line = 1; values = v ∷ [] }
+
+abbrev pub returning : Expr → Stmt
+returning e = Return 1 (Some e)
 
 abbrev pub evaluate : Expr → Stmt
 evaluate e = Evaluate 1 e
@@ -117,10 +124,10 @@ abbrev pub counters : ℕ → List HostRecord → World
 counters count answers = with_counters count answers empty_world
 
 abbrev pub started : ℕ → ℕ → HostRecord
-started object n = record { target = hosts.Object object; call = calls.Start (words.Int (pos n) ∷ []); before = int_bytes (pos 0); answer = Nothing; after = int_bytes (pos n) }
+started object n = record { target = host_targets.Object object; call = calls.Start (words.Int (pos n) ∷ []); before = int_bytes (pos 0); answer = Nothing; after = int_bytes (pos n) }
 
 abbrev pub added : ℕ → ℕ → ℕ → ℕ → HostRecord
-added object n old sum = record { target = hosts.Object object; call = calls.Invoke 1 (words.Int (pos n) ∷ []); before = int_bytes (pos old); answer = Value (words.Int (pos sum)); after = int_bytes (pos sum) }
+added object n old sum = record { target = host_targets.Object object; call = calls.Invoke 1 (words.Int (pos n) ∷ []); before = int_bytes (pos old); answer = Value (words.Int (pos sum)); after = int_bytes (pos sum) }
 
 abbrev pub counter : VarType
 counter = handle_of_kind 1
@@ -133,6 +140,22 @@ add object n = Invoke object (methods.Host 1 (Some int)) (int ∷ []) (exprs (nu
 
 abbrev pub counter_value : Expr → Place
 counter_value object = Held object (members.Property 1 int)
+
+-- the service that adds: its functions 1, which adds, and 2, which gives the total
+
+abbrev pub tallied_by : ℕ → ℕ → ℕ → HostRecord
+tallied_by n old sum = record { target = host_targets.Service 0; call = calls.Invoke 1 (words.Int (pos n) ∷ []); before = int_bytes (pos old); answer = Value (words.Int (pos sum)); after = int_bytes (pos sum) }
+
+abbrev pub totalled : ℕ → HostRecord
+totalled n = record { target = host_targets.Service 0; call = calls.Invoke 2 []; before = int_bytes (pos n); answer = Value (words.Int (pos n)); after = int_bytes (pos n) }
+
+abbrev pub tally : ℕ → Expr
+tally n = Call (targets.Service 0 1 (Some int)) (int ∷ []) (exprs (number n ∷ []))
+
+abbrev pub total : Expr
+total = Call (targets.Service 0 2 (Some int)) [] (exprs [])
+
+-- functions
 
 abbrev pub f : List ℕ
 f = codes "f"

@@ -26,7 +26,7 @@ tick line = change (in_frame (at_line line)) >> look (λ activity. activity.tick
 abbrev pub max_frames : ℕ
 max_frames = 256
 
--- Raises an exception in the frame that runs, where there is room for no other.
+-- Raises an exception in the frame that runs, unless fewer than the most frames are there, `(init)` among them.
 abbrev pub demand_frame : Run (Unit {0})
 demand_frame = look (λ activity. nat_lt (length activity.callers + 1) max_frames) >>= (λ room. demand room StackOverflow)
 

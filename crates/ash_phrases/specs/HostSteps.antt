@@ -39,7 +39,7 @@ abbrev pub with_state_in : List ℕ → Plain (List ℕ) → Plain (List ℕ)
 with_state_in state (Host kind old) = Host kind state
 with_state_in state object = object
 
--- the state of whom a call goes to
+-- the state of the object or the service that a call goes to
 abbrev pub state_of : Target → World → Option (List ℕ)
 state_of (targets.Object number) world = option_and_then state_in (object_at number world.objects)
 state_of (targets.Service index) world = slice_get world.services index

@@ -1,3 +1,4 @@
+pub mod Exceptions
 pub mod Activity
 pub mod Runs
 pub mod Releases
@@ -13,8 +14,13 @@ pub mod Expressions
 pub mod Statements
 pub mod Functions
 pub mod Ends
+pub mod Traces
+pub mod Numbers
+pub mod Answers
 pub mod Laws
 pub mod ExampleParts
 pub mod Examples
 pub mod ObjectExamples
 pub mod ReleaseExamples
+pub mod ControlExamples
+pub mod Tables

@@ -2,7 +2,6 @@
 use Rattle.std.specs.Prelude.{ℕ, pos, List, [], ◌∷◌, codes, Option, Some, None}
 use Rattle.ash_host.specs.declared.word.Word.TheVariants as words
 use Rattle.ash_host.specs.declared.answer.HostAnswer.{HostAnswer}
-use Rattle.ash_host.specs.declared.answer.HostAnswer.TheVariants as answers
 use Rattle.ash_host.specs.declared.event.Target.TheVariants as hosts
 use Rattle.ash_host.specs.Calls as calls
 use Rattle.ash_host.specs.Ints.{int_bytes}
@@ -29,7 +28,7 @@ use Rattle.ash_host.specs.Objects.{Script}
 use Rattle.ash_phrases.specs.Activity.{World}
 use Rattle.ash_phrases.specs.Classes.{Program}
 use Rattle.ash_phrases.specs.Ends.{Outcome, call_function, load_module}
-use Rattle.ash_phrases.specs.ExampleParts.{empty_world, counters, started, int, handle_of_class, number, local, global, calculate, variable, give, evaluate, function, module_of, program, counter, new_counter, add, counter_value, f, only}
+use Rattle.ash_phrases.specs.ExampleParts.{empty_world, counters, started, int, handle_of_class, number, local, global, calculate, variable, returning, named, alone, evaluate, function, module_of, program, tallied_by, tally, counter, new_counter, add, counter_value, f, only}
 
 -- `int two(Counter@ h, int k) { return k; }`
 -- `int f() { Counter@ a = Counter(1); Counter@ c = Counter(5); int r = two(@a = null, c.add(1)); c.add(1); return r; }`
@@ -37,7 +36,7 @@ abbrev pub overwritten_in_an_argument : Program
 overwritten_in_an_argument = program (module_of [] [] (two ∷ main ∷ []))
   where
     two : Function
-    two = function (codes "two") (Some int) (counter ∷ int ∷ []) (give (Read (local 1 int)) ∷ [])
+    two = function (codes "two") (Some int) (counter ∷ int ∷ []) (returning (Read (local 1 int)) ∷ [])
 
     c : Expr
     c = Read (local 1 counter)
@@ -46,7 +45,7 @@ overwritten_in_an_argument = program (module_of [] [] (two ∷ main ∷ []))
     called = Call (targets.Function 0 (Some int)) (counter ∷ int ∷ []) (exprs (Assign (local 0 counter) Null ∷ add c 1 ∷ []))
 
     main : Function
-    main = function f (Some int) [] (Declare 1 (variable counter (Some (new_counter 1)) ∷ []) ∷ Declare 1 (variable counter (Some (new_counter 5)) ∷ []) ∷ Declare 1 (variable int (Some called) ∷ []) ∷ evaluate (add c 1) ∷ give (Read (local 2 int)) ∷ [])
+    main = function f (Some int) [] (Declare 1 (variable counter (Some (new_counter 1)) ∷ []) ∷ Declare 1 (variable counter (Some (new_counter 5)) ∷ []) ∷ Declare 1 (variable int (Some called) ∷ []) ∷ evaluate (add c 1) ∷ returning (Read (local 2 int)) ∷ [])
 
 -- `class B { Counter@ c; }`
 -- `void f() { B@ x = B(); B@ y = B(); @x.c = Counter(1); B@ z = B(); @y.c = Counter(2); @z.c = x.c; }`
@@ -81,7 +80,7 @@ failing = only None [] (Declare 1 (variable (vars.Object (objects.Host 1)) (Some
 
 -- `int f() { Counter c(1); return c.add(1); }`
 abbrev pub adding : Program
-adding = only (Some int) [] (Declare 1 (variable (vars.Object (objects.Host 1)) (Some (new_counter 1)) ∷ []) ∷ give (add (Read (local 0 (vars.Object (objects.Host 1)))) 1) ∷ [])
+adding = only (Some int) [] (Declare 1 (variable (vars.Object (objects.Host 1)) (Some (new_counter 1)) ∷ []) ∷ returning (add (Read (local 0 (vars.Object (objects.Host 1)))) 1) ∷ [])
 
 -- a record of a call of method 1 or 2 of counter 1, which is at 1 and stays there
 abbrev pub answered : ℕ → ℕ → HostAnswer → HostRecord
@@ -91,13 +90,13 @@ answered method argument answer = record { target = hosts.Object 1; call = calls
 -- `class P { Q q; Q@ r; int v = 2; P(int k) { v = v + k; @r = q; } }`
 -- `P@ g = P(5); int f() { return g.v; }`
 abbrev pub constructed : Program
-constructed = program (module_of (q ∷ p ∷ []) (record { line = 1; values = variable (handle_of_class 1) (Some (Call (targets.Class 1) (int ∷ []) (exprs (number 5 ∷ [])))) ∷ [] } ∷ []) (main ∷ []))
+constructed = program (module_of (q ∷ p ∷ []) (alone (named (codes "g") (handle_of_class 1) (Some (Call (targets.Class 1) (int ∷ []) (exprs (number 5 ∷ []))))) ∷ []) (main ∷ []))
   where
     own : VarType
     own = vars.Object (objects.Class 0)
 
     q : Class
-    q = record { name = codes "Q"; line = 1; interfaces = []; fields = variable int (Some (number 1)) ∷ []; constructor = None; methods = [] }
+    q = record { name = codes "Q"; line = 1; interfaces = []; fields = named (codes "w") int (Some (number 1)) ∷ []; constructor = None; methods = [] }
 
     field : ℕ → VarType → Place
     field place of = Held (This 1) (members.Field 1 place of)
@@ -106,10 +105,10 @@ constructed = program (module_of (q ∷ p ∷ []) (record { line = 1; values = v
     body = evaluate (Assign (field 2 int) (calculate calculators.Add (Read (field 2 int)) (Read (local 0 int)))) ∷ evaluate (Assign (field 1 (handle_of_class 0)) (Read (field 0 own))) ∷ []
 
     p : Class
-    p = record { name = codes "P"; line = 1; interfaces = []; fields = variable own (Some (Call (targets.Class 0) [] (exprs []))) ∷ variable (handle_of_class 0) None ∷ variable int (Some (number 2)) ∷ []; constructor = Some (function (codes "P") None (int ∷ []) body); methods = [] }
+    p = record { name = codes "P"; line = 1; interfaces = []; fields = named (codes "q") own (Some (Call (targets.Class 0) [] (exprs []))) ∷ named (codes "r") (handle_of_class 0) None ∷ named (codes "v") int (Some (number 2)) ∷ []; constructor = Some (function (codes "P") None (int ∷ []) body); methods = [] }
 
     main : Function
-    main = function f (Some int) [] (give (Read (Held (Read (global 0 (handle_of_class 1))) (members.Field 1 2 int))) ∷ [])
+    main = function f (Some int) [] (returning (Read (Held (Read (global 0 (handle_of_class 1))) (members.Field 1 2 int))) ∷ [])
 
 -- `interface I { int v(); } class A : I { int v() { return 3; } } class B : I { int v() { return 7; } } I@ g;`
 -- `int f() { @g = B(); return g.v(); } bool c() { A@ a = cast<A>(g); return a is null; }`
@@ -126,7 +125,7 @@ through_an_interface = program (record { interfaces = i ∷ []; classes = a ∷ 
     i = record { name = codes "I"; line = 1; classes_before = 0; methods = record { name = codes "v"; result = Some int; parameters = [] } ∷ [] }
 
     class_named : List ℕ → ℕ → Class
-    class_named name n = record { name = name; line = 1; interfaces = record { interface = 0; methods = 0 ∷ [] } ∷ []; fields = []; constructor = None; methods = function (codes "v") (Some int) [] (give (number n) ∷ []) ∷ [] }
+    class_named name n = record { name = name; line = 1; interfaces = record { interface = 0; methods = 0 ∷ [] } ∷ []; fields = []; constructor = None; methods = function (codes "v") (Some int) [] (returning (number n) ∷ []) ∷ [] }
 
     a : Class
     a = class_named (codes "A") 3
@@ -135,18 +134,18 @@ through_an_interface = program (record { interfaces = i ∷ []; classes = a ∷ 
     b = class_named (codes "B") 7
 
     main : Function
-    main = function f (Some int) [] (evaluate (Assign g (Call (targets.Class 1) [] (exprs []))) ∷ give (Invoke (Read g) (methods.Interface 0 0 (Some int)) [] (exprs [])) ∷ [])
+    main = function f (Some int) [] (evaluate (Assign g (Call (targets.Class 1) [] (exprs []))) ∷ returning (Invoke (Read g) (methods.Interface 0 0 (Some int)) [] (exprs [])) ∷ [])
 
     is_null : Expr
     is_null = Operate (operations.Compare comparators.Is operands.Handles) (Read (local 0 (handle_of_class 0))) Null
 
     test : Function
-    test = function (codes "c") (Some vars.Bool) [] (Declare 1 (variable (handle_of_class 0) (Some (Cast (objects.Class 0) (Read g))) ∷ []) ∷ give is_null ∷ [])
+    test = function (codes "c") (Some vars.Bool) [] (Declare 1 (variable (handle_of_class 0) (Some (Cast (objects.Class 0) (Read g))) ∷ []) ∷ returning is_null ∷ [])
 
--- `array<Counter@> l; int f() { l.insertLast(Counter(5)); return l.length(); } void g() { l.removeLast(); }`
+-- `array<Counter@> l; int f(int k) { l.insertLast(Counter(k)); return l.length(); } void g() { l.removeLast(); }`
 -- `int h(uint i) { return l[i].value; }`
 abbrev pub in_an_array : Program
-in_an_array = program (module_of [] (record { line = 1; values = variable array (Some (Call (targets.Array (elements.Host 1)) [] (exprs []))) ∷ [] } ∷ []) (f_of ∷ g_of ∷ h_of ∷ []))
+in_an_array = program (module_of [] (alone (named (codes "l") array (Some (Call (targets.Array (elements.Host 1)) [] (exprs [])))) ∷ []) (f_of ∷ g_of ∷ h_of ∷ []))
   where
     array : VarType
     array = vars.Object (objects.Array (elements.Host 1))
@@ -160,29 +159,28 @@ in_an_array = program (module_of [] (record { line = 1; values = variable array 
     uint : VarType
     uint = vars.Integer kinds.Uint
 
+    made : Expr
+    made = Call (targets.Host 1) (int ∷ []) (exprs (Read (local 0 int) ∷ []))
+
     f_of : Function
-    f_of = function f (Some int) [] (evaluate (of_l arrays.InsertLast (counter ∷ []) (new_counter 5 ∷ [])) ∷ give (Convert (record { from = kinds.Uint; to = kinds.Int }) (of_l arrays.Length [] [])) ∷ [])
+    f_of = function f (Some int) (int ∷ []) (evaluate (of_l arrays.InsertLast (counter ∷ []) (made ∷ [])) ∷ returning (Convert (record { from = kinds.Uint; to = kinds.Int }) (of_l arrays.Length [] [])) ∷ [])
 
     g_of : Function
     g_of = function (codes "g") None [] (evaluate (of_l arrays.RemoveLast [] []) ∷ [])
 
     h_of : Function
-    h_of = function (codes "h") (Some int) (uint ∷ []) (give (Read (counter_value (Read (Indexed l (Read (local 0 uint)) (elements.Host 1))))) ∷ [])
-
--- a record of a call of the service's function 1 with 3, which was at 0
-abbrev pub tallied : HostRecord
-tallied = record { target = hosts.Service 0; call = calls.Invoke 1 (words.Int (pos 3) ∷ []); before = int_bytes (pos 0); answer = answers.Value (words.Int (pos 3)); after = int_bytes (pos 3) }
+    h_of = function (codes "h") (Some int) (uint ∷ []) (returning (Read (counter_value (Read (Indexed l (Read (local 0 uint)) (elements.Host 1))))) ∷ [])
 
 -- `array<int> a; int f(uint n) { a.resize(n); return a[0]; }`
 abbrev pub resized : Program
-resized = program (module_of [] (record { line = 1; values = variable of (Some (Call (targets.Array (elements.Integer kinds.Int)) [] (exprs []))) ∷ [] } ∷ []) (function f (Some int) (vars.Integer kinds.Uint ∷ []) (evaluate (Invoke (Read (global 0 of)) (methods.Array arrays.Resize) (vars.Integer kinds.Uint ∷ []) (exprs (Read (local 0 (vars.Integer kinds.Uint)) ∷ []))) ∷ give (Read (Indexed (Read (global 0 of)) (Number kinds.Uint 0) (elements.Integer kinds.Int))) ∷ []) ∷ []))
+resized = program (module_of [] (record { line = 1; values = variable of (Some (Call (targets.Array (elements.Integer kinds.Int)) [] (exprs []))) ∷ [] } ∷ []) (function f (Some int) (vars.Integer kinds.Uint ∷ []) (evaluate (Invoke (Read (global 0 of)) (methods.Array arrays.Resize) (vars.Integer kinds.Uint ∷ []) (exprs (Read (local 0 (vars.Integer kinds.Uint)) ∷ []))) ∷ returning (Read (Indexed (Read (global 0 of)) (Number kinds.Uint 0) (elements.Integer kinds.Int))) ∷ []) ∷ []))
   where
     of : VarType
     of = vars.Object (objects.Array (elements.Integer kinds.Int))
 
 -- `int a = tally(3); int b = 1; int c = 1 / 0;`
 abbrev pub unfinished : Program
-unfinished = program (module_of [] (declared (Call (targets.Service 0 1 (Some int)) (int ∷ []) (exprs (number 3 ∷ []))) ∷ declared (number 1) ∷ declared (calculate calculators.Divide (number 1) (number 0)) ∷ []) [])
+unfinished = program (module_of [] (declared (tally 3) ∷ declared (number 1) ∷ declared (calculate calculators.Divide (number 1) (number 0)) ∷ []) [])
   where
     declared : Expr → Variables
     declared e = record { line = 1; values = variable int (Some e) ∷ [] }
@@ -191,7 +189,7 @@ unfinished = program (module_of [] (declared (Call (targets.Service 0 1 (Some in
 
 -- what a load of `unfinished` comes to, with one service
 abbrev pub unfinished_load : Option Outcome
-unfinished_load = load_module unfinished 9 (record empty_world { services = int_bytes (pos 0) ∷ []; answers = tallied ∷ [] })
+unfinished_load = load_module unfinished 9 (record empty_world { services = int_bytes (pos 0) ∷ []; answers = tallied_by 3 0 3 ∷ [] })
 
 -- `g` is an object of the class at this place in the source
 abbrev pub with_object_of : ℕ → World

@@ -6,6 +6,7 @@ use Rattle.ash_host.specs.declared.event.Target.TheVariants as hosts
 use Rattle.ash_host.specs.Calls as calls
 use Rattle.ash_host.specs.Ints.{int_bytes}
 use Rattle.ash_host.specs.Records.{HostRecord}
+use Rattle.ash_tree.specs.declared.tree.statements.Label.TheVariants as labels
 use Rattle.ash_typed.specs.declared.types.Kind.TheVariants as kinds
 use Rattle.ash_typed.specs.declared.tree.operations.Calculator.TheVariants as calculators
 use Rattle.ash_typed.specs.declared.tree.operations.Comparator.TheVariants as comparators
@@ -16,13 +17,13 @@ use Rattle.ash_typed.specs.declared.tree.operations.Step.TheVariants as steps
 use Rattle.ash_typed.specs.declared.tree.operations.Target.TheVariants as targets
 use Rattle.ash_typed.specs.declared.tree.statements.Test.TheVariants as tests
 use Rattle.ash_typed.specs.Tree.{Invoke, Expr, Null, This, Read, Operate, Assign, Count, Call, Place, Held, exprs}
-use Rattle.ash_typed.specs.StatementTree.{Stmt, Declare, Block, If, no_branch, declared_head, For, repeated, Continue, stmts}
+use Rattle.ash_typed.specs.StatementTree.{Stmt, Declare, Block, If, no_branch, declared_head, For, repeated, Switch, Continue, stmts, cases, labelled}
 use Rattle.ash_typed.specs.Modules.{Function, Class}
 use Rattle.ash_host.specs.Objects.{Host}
 use Rattle.ash_typed.specs.declared.tree.operations.Method.TheVariants as methods
 use Rattle.ash_phrases.specs.Activity.{World}
 use Rattle.ash_phrases.specs.Classes.{Program}
-use Rattle.ash_phrases.specs.ExampleParts.{empty_world, added, global, int, number, local, calculate, variable, give, evaluate, function, module_of, program, counter, new_counter, add, counter_value, f, only}
+use Rattle.ash_phrases.specs.ExampleParts.{empty_world, added, global, int, number, local, calculate, variable, alone, returning, evaluate, function, module_of, program, counter, new_counter, add, counter_value, f, only}
 
 -- parts
 
@@ -57,7 +58,7 @@ abbrev pub after_a_return : Program
 after_a_return = program (module_of [] [] (make ∷ main ∷ []))
   where
     make : Function
-    make = function (codes "make") (Some counter) [] (declared 1 ∷ declared 2 ∷ give (Read (local 0 counter)) ∷ [])
+    make = function (codes "make") (Some counter) [] (declared 1 ∷ declared 2 ∷ returning (Read (local 0 counter)) ∷ [])
 
     main : Function
     main = function f None [] (evaluate (add (Call (targets.Function 0 (Some counter)) [] (exprs [])) 1) ∷ [])
@@ -88,10 +89,10 @@ abbrev pub overwritten : Program
 overwritten = program (module_of [] [] (two ∷ use_one ∷ main ∷ []))
   where
     two : Function
-    two = function (codes "two") (Some int) (counter ∷ int ∷ []) (give (Read (local 1 int)) ∷ [])
+    two = function (codes "two") (Some int) (counter ∷ int ∷ []) (returning (Read (local 1 int)) ∷ [])
 
     use_one : Function
-    use_one = function (codes "use") (Some int) [] (declared 2 ∷ give (number 1) ∷ [])
+    use_one = function (codes "use") (Some int) [] (declared 2 ∷ returning (number 1) ∷ [])
 
     main : Function
     main = function f None [] (declared 1 ∷ evaluate (Call (targets.Function 0 (Some int)) (counter ∷ int ∷ []) (exprs (Assign (local 0 counter) Null ∷ Call (targets.Function 1 (Some int)) [] (exprs []) ∷ []))) ∷ [])
@@ -101,10 +102,36 @@ abbrev pub read_before : Program
 read_before = program (module_of [] (record { line = 1; values = variable counter (Some (new_counter 1)) ∷ [] } ∷ []) (clear ∷ main ∷ []))
   where
     clear : Function
-    clear = function (codes "clear") (Some int) [] (evaluate (Assign (global 0 counter) Null) ∷ give (number 1) ∷ [])
+    clear = function (codes "clear") (Some int) [] (evaluate (Assign (global 0 counter) Null) ∷ returning (number 1) ∷ [])
 
     main : Function
-    main = function f (Some int) [] (give (Invoke (Read (global 0 counter)) (methods.Host 1 (Some int)) (int ∷ []) (exprs (Call (targets.Function 0 (Some int)) [] (exprs []) ∷ []))) ∷ [])
+    main = function f (Some int) [] (returning (Invoke (Read (global 0 counter)) (methods.Host 1 (Some int)) (int ∷ []) (exprs (Call (targets.Function 0 (Some int)) [] (exprs []) ∷ []))) ∷ [])
+
+-- `Counter(n).value`
+abbrev pub value_of_new : ℕ → Expr
+value_of_new n = Read (counter_value (new_counter n))
+
+-- `void f() { switch (Counter(1).value) { case 1: Counter(2); } }`
+abbrev pub after_a_switch_value : Program
+after_a_switch_value = only None [] (Switch 1 kinds.Int (value_of_new 1) (cases (labelled (labels.Case 1) (stmts (evaluate (new_counter 2) ∷ [])) ∷ [])) ∷ [])
+
+-- `void f() { int a = Counter(1).value, b = Counter(2).value; }`
+abbrev pub after_each_variable : Program
+after_each_variable = only None [] (Declare 1 (variable int (Some (value_of_new 1)) ∷ variable int (Some (value_of_new 2)) ∷ []) ∷ [])
+
+-- `int a = Counter(1).value; int b = Counter(2).value;`
+abbrev pub after_each_global : Program
+after_each_global = program (module_of [] (alone (variable int (Some (value_of_new 1))) ∷ alone (variable int (Some (value_of_new 2))) ∷ []) [])
+
+-- `int two(Counter@ h, int k) { return k; } void f() { two(Counter(1), 1 / 0); }`
+abbrev pub held_by_an_argument : Program
+held_by_an_argument = program (module_of [] [] (two ∷ main ∷ []))
+  where
+    two : Function
+    two = function (codes "two") (Some int) (counter ∷ int ∷ []) (returning (Read (local 1 int)) ∷ [])
+
+    main : Function
+    main = function f None [] (evaluate (Call (targets.Function 0 (Some int)) (counter ∷ int ∷ []) (exprs (new_counter 1 ∷ calculate calculators.Divide (number 1) (number 0) ∷ []))) ∷ [])
 
 -- the world that `read_before` is called in
 abbrev pub one_counter : World

@@ -28,7 +28,7 @@ give_held word = hold word >> give word
 abbrev pub roots_of_frame : Frame → List ℕ
 roots_of_frame frame = handles (frame.this ∷ frame.locals) ++ frame.held
 
--- from where everything is reached: from outside, from the globals and from these frames
+-- from where everything is reached: from the globals of other modules, from those of this one and from these frames
 abbrev pub roots : List Frame → World → List ℕ
 roots frames world = world.outside ++ handles world.globals ++ flat_map roots_of_frame frames
 

@@ -7,7 +7,8 @@ ghost use Rattle.ash_host.specs.declared.event.Target.{Target};
 ghost use Rattle.ash_host.specs.Ints.{int_bytes};
 ghost use Rattle.ash_host.specs.Objects.{Script};
 ghost use Rattle.ash_phrases.specs.declared.exception.Exception.{Exception};
-ghost use Rattle.ash_phrases.specs.Ends.{call_function};
+ghost use Rattle.ash_phrases.specs.Ends.{call_function, load_module};
+ghost use Rattle.ash_phrases.specs.ControlExamples as control;
 ghost use Rattle.ash_phrases.specs.Examples as examples;
 ghost use Rattle.ash_phrases.specs.ObjectExamples as objects;
 ghost use Rattle.ash_phrases.specs.ObjectExamples.{with_answer, with_object_of};
@@ -96,7 +97,7 @@ pub fn worked_object_examples()
         (Word.Bool false) }
     ensures cast_to_another { Gives (call_function objects.through_an_interface 1 [] 9 (with_object_of 2))
         (Word.Bool true) }
-    ensures inserted { Gives (call_function objects.in_an_array 0 [] 9
+    ensures inserted { Gives (call_function objects.in_an_array 0 (Word.Int (pos 5) ∷ []) 9
         (with_counters 1 (started 2 5 ∷ []) (loaded objects.in_an_array)))
         (Word.Int (pos 1)) }
     ensures removed { Throws (call_function objects.in_an_array 1 [] 9 (loaded objects.in_an_array))
@@ -140,4 +141,41 @@ pub fn worked_release_examples()
         (Drew 1 ∷ Drew 2 ∷ Dropped 2 ∷ Dropped 1 ∷ []) }
     ensures read_before { HasEvents (call_function releases.read_before 1 [] 9 one_counter)
         (Called (Target.Object 1) 1 ∷ Dropped 1 ∷ []) }
+    ensures switch_value { HasEvents (call_function releases.after_a_switch_value 0 [] 9
+        (counters 2 (started 1 1 ∷ value_read 1 1 ∷ started 2 2 ∷ [])))
+        (Drew 1 ∷ Dropped 1 ∷ Drew 2 ∷ Dropped 2 ∷ []) }
+    ensures each_variable { HasEvents (call_function releases.after_each_variable 0 [] 9
+        (counters 2 (started 1 1 ∷ value_read 1 1 ∷ started 2 2 ∷ value_read 2 2 ∷ [])))
+        (Drew 1 ∷ Dropped 1 ∷ Drew 2 ∷ Dropped 2 ∷ []) }
+    ensures each_global { HasEvents (load_module releases.after_each_global 9
+        (counters 2 (started 1 1 ∷ value_read 1 1 ∷ started 2 2 ∷ value_read 2 2 ∷ [])))
+        (Drew 1 ∷ Dropped 1 ∷ Drew 2 ∷ Dropped 2 ∷ []) }
+    ensures argument { HasEvents
+        (call_function releases.held_by_an_argument 1 [] 9 (counters 1 (started 1 1 ∷ [])))
+        (Drew 1 ∷ Dropped 1 ∷ []) }
+    ensures exception_of_an_argument { Throws
+        (call_function releases.held_by_an_argument 1 [] 9 (counters 1 (started 1 1 ∷ [])))
+        Exception.DivideByZero f }
+{}
+
+/// Where jumps lead in nested statements, and which function and line an exception names. A line is that of the last
+/// tick: the steps of a `for` take none.
+pub fn worked_control_examples()
+    ensures inner_switch { Gives (call_function control.inner_switch 0 [] 9 empty_world) (Word.Int (pos 11)) }
+    ensures continue_in_a_switch { Gives
+        (call_function control.continue_in_a_switch 0 [] 30 empty_world) (Word.Int (pos 2)) }
+    ensures break_in_a_switch { Gives
+        (call_function control.break_in_a_switch 0 [] 30 empty_world) (Word.Int (pos 3)) }
+    ensures break_of_the_inner_loop { Gives
+        (call_function control.break_of_the_inner_loop 0 [] 40 empty_world) (Word.Int (pos 3)) }
+    ensures in_a_field { ThrowsAt (call_function control.failing_field 0 [] 9 empty_world)
+        Exception.DivideByZero (codes "A.A") 3 }
+    ensures in_a_constructor { ThrowsAt (call_function control.failing_constructor 0 [] 9 empty_world)
+        Exception.DivideByZero (codes "A.A") 4 }
+    ensures in_an_argument { ThrowsAt (call_function control.failing_argument 0 [] 9 empty_world)
+        Exception.DivideByZero f 1 }
+    ensures in_a_condition { ThrowsAt (call_function control.failing_condition 0 [] 9 empty_world)
+        Exception.DivideByZero f 2 }
+    ensures in_a_step { ThrowsAt (call_function control.failing_step 0 [] 9 empty_world)
+        Exception.DivideByZero f 3 }
 {}

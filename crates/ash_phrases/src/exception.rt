@@ -1,4 +1,6 @@
 //! What a script can raise (AngelScript manual, "Exception handling").
+ghost use Rattle.std.specs.Prelude.{◌≡◌};
+ghost use Rattle.ash_phrases.specs.Exceptions.{number_of, name_of};
 
 /// Why a script ended before it came to its end.
 #[derive(Clone, Copy, Debug)]
@@ -25,4 +27,44 @@ pub enum Exception {
     IndexOutOfBounds,
     /// An array would have been longer than it may be.
     ArrayLimit,
+}
+
+impl Exception {
+    /// Its number, from 1 to 11.
+    pub fn number(self) -> u8
+        ensures { result ≡ number_of self }
+    {
+        match self {
+            Exception::NullPointerAccess => 1,
+            Exception::DivideByZero => 2,
+            Exception::DivideOverflow => 3,
+            Exception::StackOverflow => 4,
+            Exception::PoolEmpty => 5,
+            Exception::ObjectLimit => 6,
+            Exception::BadHostAnswer => 7,
+            Exception::Raised(_) => 8,
+            Exception::NumbersSpent => 9,
+            Exception::IndexOutOfBounds => 10,
+            Exception::ArrayLimit => 11,
+        }
+    }
+
+    /// Its name, without the code that a host object raised.
+    pub fn name(self) -> &'static str
+        ensures { result.now ≡ name_of self }
+    {
+        match self {
+            Exception::NullPointerAccess => "NullPointerAccess",
+            Exception::DivideByZero => "DivideByZero",
+            Exception::DivideOverflow => "DivideOverflow",
+            Exception::StackOverflow => "StackOverflow",
+            Exception::PoolEmpty => "PoolEmpty",
+            Exception::ObjectLimit => "ObjectLimit",
+            Exception::BadHostAnswer => "BadHostAnswer",
+            Exception::Raised(_) => "Raised",
+            Exception::NumbersSpent => "NumbersSpent",
+            Exception::IndexOutOfBounds => "IndexOutOfBounds",
+            Exception::ArrayLimit => "ArrayLimit",
+        }
+    }
 }

@@ -6,20 +6,27 @@
 //! in `specs/`, in reading order: `Activity` (what runs), `Runs` (how phrases are put together), `Releases` (what
 //! is held, and release points), `Frames` (ticks, frames), `ObjectSteps`, `HostSteps`, `ArraySteps`, `Operators`,
 //! `Locations` (what is read and written), `Classes` (what names stand for), `Calls`, `Expressions`, `Statements`,
-//! `Functions`, `Ends`; then `Laws`, and `Examples` with those beside it. The crate stands on typed trees, on
-//! objects as plain data and on the integers of scripts, and knows no parser and no rule of typing; of trees it
-//! names the labels of a `switch`, in an example. A call and a turn of a loop each take a tick, so that the
-//! definitions go by how many are left.
+//! `Functions`, `Ends`; then what laws speak of: `Traces` (what phrases do, one transition at a time), `Numbers`
+//! (what events say of the number of a host object), `Answers` (what may be relied on of hosts), `Laws`; and
+//! `Examples` with those beside it. The crate stands on typed trees, on objects as plain data and on the integers
+//! of scripts, and knows no parser and no rule of typing; of trees it names the labels of a `switch`, in an
+//! example. A call and a turn of a loop each take a tick, so that the definitions go by how many are left.
 //!
 //! In reading order: `exception` (what a script can raise), `laws` (of the meaning), `examples` (phrases whose
-//! meaning is computed).
+//! meaning is computed), `tables` (of integers and of ticks).
 #![tactic(auto)]
 
 mod examples;
 mod exception;
 pub mod laws;
+mod tables;
 
 pub use examples::{
-    worked_examples, worked_host_examples, worked_object_examples, worked_release_examples,
+    worked_control_examples, worked_examples, worked_host_examples, worked_object_examples,
+    worked_release_examples,
 };
 pub use exception::Exception;
+pub use tables::{
+    worked_conversions, worked_int_table, worked_int64_table, worked_ticks, worked_uint_table,
+    worked_uint64_table,
+};

@@ -2,5 +2,9 @@ pub mod States
 pub mod Requests
 pub mod Tasks
 pub mod Steps
+pub mod Premises
 pub mod Laws
 pub mod Examples
+pub mod RunExamples
+pub mod IntegerRuns
+pub mod ObjectRuns

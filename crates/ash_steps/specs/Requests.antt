@@ -12,8 +12,10 @@ pub data Request : Type 0 where
   Global : (module_name name : List ℕ) → Request
   Object : (number : ℕ) → Request
   Seq : Request
+  Snapshot : Request
 
--- why a request is refused; a source is refused for its first fault
+-- Why a request is refused; a source is refused for its first fault. The last four causes are not in the state: the host
+-- must be opened again, a disk failed, memory was refused, or the number of the store's generation is the greatest.
 pub data Refusal (Fault : Type 0) : Type 0 where
   SequenceSpent : Refusal Fault
   BadName : Refusal Fault
@@ -26,13 +28,24 @@ pub data Refusal (Fault : Type 0) : Type 0 where
   BadArguments : Refusal Fault
   NoGlobal : Refusal Fault
   NoObject : Refusal Fault
+  Reopen : Refusal Fault
+  DeviceFailed : Refusal Fault
+  NoMemory : Refusal Fault
+  GenerationSpent : Refusal Fault
 
--- An object as a reply shows it, with its count. One of a class has the names of its module and its class, and its fields
--- by name; a host object has its kind and its state; an array has its elements.
-pub data Shown : Type 0 where
-  OfClass : (module_name class : List ℕ) (count : ℕ) (fields : List (List ℕ × Word)) → Shown
-  OfKind : (kind count : ℕ) (state : List ℕ) → Shown
-  AnArray : (count : ℕ) (elements : List Word) → Shown
+-- what is in an object: its fields by name, the state of a host object, or the elements of an array
+pub data Contents : Type 0 where
+  Fields : (fields : List (List ℕ × Word)) → Contents
+  HostState : (state : List ℕ) → Contents
+  Elements : (elements : List Word) → Contents
+
+-- An object as a reply shows it: its number, the name of its type, its count and what is in it. A class has the name of its
+-- module before its own, `m.C`.
+pub record Shown : Type 0 where
+  pub number : ℕ
+  pub type_name : List ℕ
+  pub count : ℕ
+  pub contents : Contents
 
 -- an answer has how a run ended, how many requests have been answered, and the events
 pub data Reply (Fault : Type 0) : Type 0 where
@@ -40,4 +53,5 @@ pub data Reply (Fault : Type 0) : Type 0 where
   Value : (word : Word) → Reply Fault
   ShownAs : (shown : Shown) → Reply Fault
   Number : (seq : ℕ) → Reply Fault
+  Done : Reply Fault
   Refused : (refusal : Refusal Fault) → Reply Fault

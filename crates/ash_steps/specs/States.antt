@@ -1,5 +1,5 @@
 -- What outlives a request, and what hosts bring to one.
-use Rattle.std.specs.Prelude.{ℕ, ◌+◌, Bool, not, if◌then◌else◌, List, [], ◌∷◌, map, filter, find, flat_map, Option}
+use Rattle.std.specs.Prelude.{ℕ, ◌+◌, Bool, not, if◌then◌else◌, List, [], ◌∷◌, map, filter, find, flat_map, Option, Result}
 use Rattle.std.specs.declared.cmp.Ordering.{Ordering}
 use Rattle.std.specs.Ordering.{is_lt, nat_cmp}
 use Rattle.std.specs.Cmp.Lexicographic.{slice_cmp}
@@ -7,7 +7,9 @@ use Rattle.std.specs.Str.{bytes_eq}
 use Rattle.ash_host.specs.declared.word.Word.{Word}
 use Rattle.ash_host.specs.Objects.{Objects, handles}
 use Rattle.ash_host.specs.Records.{HostRecord}
+use Rattle.ash_typed.specs.Modules.{Module}
 use Rattle.ash_phrases.specs.Activity.{FreeBox, World}
+use Rattle.ash_phrases.specs.Numbers.{Numbering}
 
 -- a module that is loaded: its name, its source, and what its globals hold, in source order
 pub record Loaded : Type 0 where
@@ -33,6 +35,12 @@ pub record Hosts : Type 0 where
   pub pool : List FreeBox
   pub answers : List HostRecord
 
+-- What the embedding program has registered, as far as requests see it: the typed tree that a source is checked to be, or
+-- the first fault for which it is none, and the name of the type of each kind.
+pub record Embedding (Fault : Type 0) : Type 0 where
+  pub read : List ℕ → Result Module Fault
+  pub name_of_kind : ℕ → List ℕ
+
 -- modules by name
 
 -- Names compare byte by byte, and a name comes before those that begin with it.
@@ -55,8 +63,8 @@ abbrev pub without_module : List ℕ → List Loaded → List Loaded
 without_module name ms = filter (λ m. not (has_name name m)) ms
 
 -- the modules with what a run left in the globals of the one of this name
-abbrev pub with_globals : List ℕ → List Word → List Loaded → List Loaded
-with_globals name globals ms = map (λ (m : Loaded). if has_name name m then record m { globals = globals } else m) ms
+abbrev pub update_globals : List ℕ → List Word → List Loaded → List Loaded
+update_globals name globals ms = map (λ (m : Loaded). if has_name name m then record m { globals = globals } else m) ms
 
 -- the globals of all modules
 abbrev pub globals_of : List Loaded → List Word
@@ -71,3 +79,7 @@ world_of globals others state hosts = record { globals = globals; outside = hand
 -- the state that a run leaves, with these modules: one request more is answered
 abbrev pub state_after : List Loaded → World → State → State
 state_after ms world old = record { modules = ms; objects = world.objects; services = world.services; last = world.last; seq = old.seq + 1 }
+
+-- the objects of a state by their numbers, and the last number that was given
+abbrev pub numbering_of : State → Numbering
+numbering_of state = record { last = state.last; objects = state.objects }

@@ -1,7 +1,5 @@
 -- What a request asks for, once all that it names is found, or the first cause for which it is refused.
---
--- `read` gives the typed tree that a source is checked to be, or the first fault for which it is none.
-use Rattle.std.specs.Prelude.{ℕ, ◌-◌, ◌^◌, ◌==◌, ◌&&◌, ◌||◌, nat_le, nat_lt, Bool, true, false, not, if◌then◌else◌, List, [], ◌∷◌, length, map, zip, position, slice_get, Option, Some, None, is_some, option_map, Result, Ok, Err}
+use Rattle.std.specs.Prelude.{ℕ, ◌-◌, ◌^◌, ◌==◌, ◌&&◌, ◌||◌, nat_le, nat_lt, Bool, true, false, not, if◌then◌else◌, List, [], ◌∷◌, codes, length, map, zip, position, slice_get, Option, Some, None, is_some, option_map, Result, Ok, Err}
 use Rattle.std.specs.List.{list_all}
 use Rattle.std.specs.Option.{option_map_or, option_and_then}
 use Rattle.std.specs.Ordering.{int_eq}
@@ -17,11 +15,11 @@ use Rattle.ash_typed.specs.StatementTree.{Initialization}
 use Rattle.ash_typed.specs.Modules.{Function, Class, Module}
 use Rattle.ash_typed.specs.SoundModules.{names_of_globals}
 use Rattle.ash_phrases.specs.Operators.{int_type, word_at}
-use Rattle.ash_phrases.specs.Classes.{places_of_classes}
+use Rattle.ash_phrases.specs.Classes.{places_of_classes, dotted}
 use Rattle.ash_steps.specs.declared.argument.Argument.{Argument}
 use Rattle.ash_steps.specs.declared.argument.Argument.TheVariants as arguments
-use Rattle.ash_steps.specs.States.{Loaded, State, find_module, globals_of}
-use Rattle.ash_steps.specs.Requests.{Request, Load, Call, Discard, Global, Object, Seq, Refusal, SequenceSpent, BadName, ModuleTaken, TooManyModules, BadSource, NoModule, NoFunction, NotCallable, BadArguments, NoGlobal, NoObject, Shown, OfClass, OfKind, AnArray}
+use Rattle.ash_steps.specs.States.{Loaded, State, Embedding, find_module, globals_of}
+use Rattle.ash_steps.specs.Requests.{Request, Load, Call, Discard, Global, Object, Seq, Snapshot, Refusal, SequenceSpent, BadName, ModuleTaken, TooManyModules, BadSource, NoModule, NoFunction, NotCallable, BadArguments, NoGlobal, NoObject, Contents, Fields, HostState, Elements, Shown}
 
 -- names of modules: a letter or `_`, then letters, digits and `_`, at most 64 bytes
 
@@ -81,58 +79,59 @@ is_callable f = list_all is_primitive f.parameters && option_map_or is_primitive
 
 pub data Task : Type 0 where
   Initialize : (name source : List ℕ) (tree : Module) → Task
-  Run : (loaded : Loaded) (tree : Module) (function : ℕ) (args : List Word) → Task
+  Invoke : (loaded : Loaded) (tree : Module) (function : ℕ) (args : List Word) → Task
   Remove : (name : List ℕ) → Task
   Read : (word : Word) → Task
   Show : (shown : Shown) → Task
   Count : Task
+  Rewrite : Task
 
 -- a task, or why there is none
-abbrev pub Demand : Type 0 → Type 0
-Demand Fault = Result Task (Refusal Fault)
+abbrev pub TaskResult : Type 0 → Type 0
+TaskResult Fault = Result Task (Refusal Fault)
 
 module _ {Fault : Type 0} where
   -- what must be there, or a refusal
-  abbrev pub demand_some : {A : Type 0} → Option A → Refusal Fault → (A → Demand Fault) → Demand Fault
-  demand_some (Some one) refusal next = next one
-  demand_some None refusal next = Err refusal
+  abbrev pub require_some : {A : Type 0} → Option A → Refusal Fault → (A → TaskResult Fault) → TaskResult Fault
+  require_some (Some one) refusal next = next one
+  require_some None refusal next = Err refusal
 
   -- what must hold, or a refusal
-  abbrev pub demand : Bool → Refusal Fault → Demand Fault → Demand Fault
-  demand true refusal next = next
-  demand false refusal next = Err refusal
+  abbrev pub require : Bool → Refusal Fault → TaskResult Fault → TaskResult Fault
+  require true refusal next = next
+  require false refusal next = Err refusal
 
   -- a request that changes the state, for which a sequence number is left
-  abbrev pub numbered : State → Demand Fault → Demand Fault
-  numbered state next = demand (nat_lt state.seq max_seq) SequenceSpent next
+  abbrev pub numbered : State → TaskResult Fault → TaskResult Fault
+  numbered state next = require (nat_lt state.seq max_seq) SequenceSpent next
 
   -- the typed tree of a source that has one
   abbrev pub tree_in : Result Module Fault → Option Module
   tree_in (Ok tree) = Some tree
   tree_in (Err fault) = None
 
-  abbrev pub initialize : List ℕ → List ℕ → Result Module Fault → Demand Fault
+  abbrev pub initialize : List ℕ → List ℕ → Result Module Fault → TaskResult Fault
   initialize name source (Ok tree) = Ok (Initialize name source tree)
   initialize name source (Err fault) = Err (BadSource fault)
 
-  abbrev pub call_in : Loaded → Module → List ℕ → List Argument → Demand Fault
+  abbrev pub call_in : Loaded → Module → List ℕ → List Argument → TaskResult Fault
   call_in m tree name args =
-      demand_some (position (λ (f : Function). bytes_eq f.name name) tree.functions) NoFunction
-      (λ place. demand_some (slice_get tree.functions place) NoFunction
-      (λ f. demand (is_callable f) NotCallable
-      (demand_some (arguments_of f.parameters args) BadArguments
-      (λ given. Ok (Run m tree place given)))))
+      require_some (position (λ (f : Function). bytes_eq f.name name) tree.functions) NoFunction
+      (λ place. require_some (slice_get tree.functions place) NoFunction
+      (λ f. require (is_callable f) NotCallable
+      (require_some (arguments_of f.parameters args) BadArguments
+      (λ given. Ok (Invoke m tree place given)))))
 
-  abbrev pub discarding : List ℕ → State → Demand Fault
-  discarding name state = demand_some (find_module name state) NoModule (λ m. Ok (Remove name))
+  abbrev pub discarding : List ℕ → State → TaskResult Fault
+  discarding name state = require_some (find_module name state) NoModule (λ m. Ok (Remove name))
 
 -- what a global of a module holds
 abbrev pub word_named : List ℕ → Module → List Word → Option Word
 word_named name tree globals = option_and_then (λ place. slice_get globals place) (position (λ other. bytes_eq other name) (names_of_globals tree.globals))
 
 -- the class at a place in the source of a module
-abbrev pub class_at : ℕ → Module → Option Class
-class_at place tree = option_and_then (λ class. slice_get tree.classes class) (position (λ other. other == place) (places_of_classes tree))
+abbrev pub class_placed : ℕ → Module → Option Class
+class_placed place tree = option_and_then (λ class. slice_get tree.classes class) (position (λ other. other == place) (places_of_classes tree))
 
 abbrev pub name_of : Initialization → List ℕ
 name_of v = v.name
@@ -140,55 +139,61 @@ name_of v = v.name
 abbrev pub shown_fields : Class → List Word → List (List ℕ × Word)
 shown_fields c fields = zip (map name_of c.fields) fields
 
-module _ {Fault : Type 0} (read : List ℕ → Result Module Fault) where
-  -- the typed tree of a module that is loaded
+module _ {Fault : Type 0} (embedding : Embedding Fault) where
+  -- The typed tree of a module that is loaded. In every state that requests lead to there is one, since the source had one
+  -- when it was loaded; so no request is refused for want of it.
   abbrev pub tree_of : Loaded → Option Module
-  tree_of m = tree_in (read m.source)
+  tree_of m = tree_in (embedding.read m.source)
 
   -- the refusals of each request, in the order in which they are tested
 
-  abbrev pub loading : List ℕ → List ℕ → State → Demand Fault
+  abbrev pub loading : List ℕ → List ℕ → State → TaskResult Fault
   loading name source state =
-      demand (is_module_name name) BadName
-      (demand (not (is_some (find_module name state))) ModuleTaken
-      (demand (nat_lt (length state.modules) max_modules) TooManyModules
-      (initialize name source (read source))))
+      require (is_module_name name) BadName
+      (require (not (is_some (find_module name state))) ModuleTaken
+      (require (nat_lt (length state.modules) max_modules) TooManyModules
+      (initialize name source (embedding.read source))))
 
-  abbrev pub calling : List ℕ → List ℕ → List Argument → State → Demand Fault
+  abbrev pub calling : List ℕ → List ℕ → List Argument → State → TaskResult Fault
   calling name function args state =
-      demand_some (find_module name state) NoModule
-      (λ m. demand_some (tree_of m) NoModule (λ tree. call_in m tree function args))
+      require_some (find_module name state) NoModule
+      (λ m. require_some (tree_of m) NoModule (λ tree. call_in m tree function args))
 
-  abbrev pub reading : List ℕ → List ℕ → State → Demand Fault
+  abbrev pub reading : List ℕ → List ℕ → State → TaskResult Fault
   reading name global state =
-      demand_some (find_module name state) NoModule
-      (λ m. demand_some (option_and_then (λ tree. word_named global tree m.globals) (tree_of m)) NoGlobal
+      require_some (find_module name state) NoModule
+      (λ m. require_some (option_and_then (λ tree. word_named global tree m.globals) (tree_of m)) NoGlobal
       (λ word. Ok (Read word)))
 
   -- the class of an object, by the name of its module and the place in its source
-  abbrev pub class_of : List ℕ → ℕ → State → Option Class
-  class_of owner place state = option_and_then (class_at place) (option_and_then tree_of (find_module owner state))
+  abbrev pub class_named : List ℕ → ℕ → State → Option Class
+  class_named owner place state = option_and_then (class_placed place) (option_and_then tree_of (find_module owner state))
 
-  abbrev pub shown : ℕ → Plain (List ℕ) → State → Option Shown
-  shown count (Script owner place fields) state = option_map (λ (c : Class). OfClass owner c.name count (shown_fields c fields)) (class_of owner place state)
-  shown count (Array of elements) state = Some (AnArray count elements)
-  shown count (Host kind bytes) state = Some (OfKind kind count bytes)
+  -- the name of the type of an object, and what is in it
+  abbrev pub described : Plain (List ℕ) → State → Option (List ℕ × Contents)
+  described (Script owner place fields) state = option_map (λ (c : Class). (dotted owner c.name, Fields (shown_fields c fields))) (class_named owner place state)
+  described (Array of elements) state = Some (codes "array", Elements elements)
+  described (Host kind bytes) state = Some (embedding.name_of_kind kind, HostState bytes)
 
-  abbrev pub showing : ℕ → State → Demand Fault
+  abbrev pub shown : ℕ → State → List ℕ × Contents → Shown
+  shown number state of = record { number = number; type_name = of.0; count = count_of number (globals_of state.modules) state.objects; contents = of.1 }
+
+  abbrev pub showing : ℕ → State → TaskResult Fault
   showing number state =
-      demand_some (object_at number state.objects) NoObject
-      (λ object. demand_some (shown (count_of number (globals_of state.modules) state.objects) object state) NoObject
-      (λ one. Ok (Show one)))
+      require_some (object_at number state.objects) NoObject
+      (λ object. require_some (described object state) NoObject
+      (λ of. Ok (Show (shown number state of))))
 
   -- The task of a request in a state, or the first cause for which it is refused. No budget, no free box, no answer of a
   -- host and no memory has a part in it.
-  abbrev pub task_of : Request → State → Demand Fault
+  abbrev pub task_of : Request → State → TaskResult Fault
   task_of (Load name source) state = numbered state (loading name source state)
   task_of (Call name function args) state = numbered state (calling name function args state)
   task_of (Discard name) state = numbered state (discarding name state)
   task_of (Global name global) state = reading name global state
   task_of (Object number) state = showing number state
   task_of Seq state = Ok Count
+  task_of Snapshot state = Ok Rewrite
 
   -- why a request is refused, if it is
   abbrev pub first_refusal : Request → State → Option (Refusal Fault)

@@ -1,27 +1,88 @@
 //! The laws of steps. A function without a body does nothing: its contract is the law. `F` is the type of the faults of
 //! sources.
-ghost use Rattle.std.specs.Prelude.{◌≡◌, ◌+◌, ℕ, List, Result, Some};
-ghost use Rattle.ash_host.specs.declared.event.Event.{Event};
-ghost use Rattle.ash_typed.specs.Modules.{Module};
-ghost use Rattle.ash_phrases.specs.Ends.{End};
-ghost use Rattle.ash_steps.specs.States.{State, Hosts};
+ghost use Rattle.std.specs.Prelude.{◌≡◌, ◌+◌, ℕ, List, Some};
+ghost use Rattle.ash_host.specs.Objects.{AreNumbered};
+ghost use Rattle.ash_phrases.specs.Answers.{Answerers};
+ghost use Rattle.ash_steps.specs.States.{State, Hosts, Embedding};
 ghost use Rattle.ash_steps.specs.Requests.{Request, Refusal, Refused};
-ghost use Rattle.ash_steps.specs.Laws.{CountsAnswers};
+ghost use Rattle.ash_steps.specs.Laws.{CountsAnswers, AreOneUnlessPutOff, NumbersLiveOnce};
+ghost use Rattle.ash_steps.specs.Laws.{IsNotAborted, TakesInOrder};
 ghost use Rattle.ash_steps.specs.Tasks.{first_refusal};
-ghost use Rattle.ash_steps.specs.Steps.{Step, step, replied};
+ghost use Rattle.ash_steps.specs.Steps.{Step, History, step, replied, run, Steps, Runs};
+ghost use Rattle.ash_steps.specs.Premises.{HostsAnswer};
 
-/// A request that is refused changes nothing, and its reply is the first cause.
+use ash_host::HostObject;
+
+/// A request that is refused changes nothing, and its reply is the first cause, or one that is not in the state.
 pub fn refusal_changes_nothing<F>()
-    ensures { (read : List ℕ → Result Module F) (budget : ℕ) (request : Request)
+    ensures first { (embedding : Embedding F) (budget : ℕ) (request : Request)
         (state : State) (hosts : Hosts) (refusal : Refusal F)
-        → first_refusal read request state ≡ Some refusal
-        → step read budget request state hosts ≡ Some (replied (Refused refusal) state hosts) }
+        → first_refusal embedding request state ≡ Some refusal
+        → step embedding budget request state hosts ≡ Some (replied (Refused refusal) state hosts) }
+    ensures every { (embedding : Embedding F) (budget : ℕ) (request : Request)
+        (state : State) (hosts : Hosts) (one : Step F) (refusal : Refusal F)
+        → Steps embedding budget request state hosts one
+        → one.reply ≡ Refused refusal
+        → one ≡ replied (Refused refusal) state hosts }
 {}
 
 /// An answer raises the sequence number by one, and every other reply leaves the state as it was.
 pub fn answers_are_counted<F>()
-    ensures { (read : List ℕ → Result Module F) (budget : ℕ) (request : Request)
+    ensures { (embedding : Embedding F) (budget : ℕ) (request : Request)
         (state : State) (hosts : Hosts) (one : Step F)
-        → step read budget request state hosts ≡ Some one
+        → Steps embedding budget request state hosts one
         → CountsAnswers state one.reply one.state }
+{}
+
+/// A step is determined by what is registered, the budget, the request, the state, the pool and what hosts answer, but
+/// for refusals whose cause is not in the state.
+pub fn steps_are_determined<F>()
+    ensures steps { (embedding : Embedding F) (budget : ℕ) (request : Request)
+        (state : State) (hosts : Hosts) (one other : Step F)
+        → Steps embedding budget request state hosts one
+        → Steps embedding budget request state hosts other
+        → AreOneUnlessPutOff request state hosts one other }
+    ensures runs { (embedding : Embedding F) (budget : ℕ) (requests : List Request)
+        (state : State) (hosts : Hosts) (history : History F)
+        → run embedding budget requests state hosts ≡ Some history
+        → Runs embedding budget requests state hosts history }
+{}
+
+/// Over requests each number is drawn at most once, and dropped at most once and only after it was drawn.
+pub fn numbers_live_once<F>()
+    ensures { (embedding : Embedding F) (budget : ℕ) (requests : List Request)
+        (state : State) (hosts : Hosts) (history : History F)
+        → Runs embedding budget requests state hosts history
+        → AreNumbered state.last state.objects
+        → NumbersLiveOnce state history }
+{}
+
+/// The states of host objects, of services and of free boxes stay no longer than they may be, where hosts answer what
+/// they may.
+pub fn host_states_fit<F, B: HostObject>()
+    ensures { (embedding : Embedding F) (budget : ℕ) (requests : List Request)
+        (state : State) (hosts : Hosts) (history : History F) (answerers : Answerers B)
+        → Runs embedding budget requests state hosts history
+        → AreNumbered state.last state.objects
+        → HostsAnswer B.HostObject answerers state hosts
+        → HostsAnswer B.HostObject answerers history.state history.hosts }
+{}
+
+/// A step whose run is not aborted is the same within any larger budget.
+pub fn budget_suffices<F>()
+    ensures { (embedding : Embedding F) (budget more : ℕ) (request : Request)
+        (state : State) (hosts : Hosts) (one : Step F)
+        → AreNumbered state.last state.objects
+        → step embedding budget request state hosts ≡ Some one
+        → IsNotAborted one.reply
+        → step embedding (budget + more) request state hosts ≡ Some one }
+{}
+
+/// The answers of hosts are taken in order, each at most once.
+pub fn answers_are_taken_in_order<F>()
+    ensures { (embedding : Embedding F) (budget : ℕ) (requests : List Request)
+        (state : State) (hosts : Hosts) (history : History F)
+        → Runs embedding budget requests state hosts history
+        → AreNumbered state.last state.objects
+        → TakesInOrder hosts history }
 {}

@@ -2,11 +2,12 @@
 //!
 //! A state has the modules that are loaded, each with its globals, the objects, the states of the services, the
 //! last number that was given to an object, and how many requests have been answered. A request is refused for its
-//! first cause, which changes nothing, or does what it asks for, and raises that number where it is answered. The
-//! crate stands on the meaning of typed trees, and leaves open how a source is read: its definitions take the
-//! function that gives the typed tree of a source, or its first fault. They are in `specs/`, in reading order:
+//! first cause, which changes nothing, or does what it asks for, and raises that number where it is answered; or it is
+//! refused for a cause that is not in the state, as where memory runs out. The crate stands on the meaning of typed
+//! trees, and leaves open how a source is read: its definitions take what the embedding program has registered, with
+//! the function that gives the typed tree of a source, or its first fault. They are in `specs/`, in reading order:
 //! `States`, `Requests`, `Tasks` (the refusals of each request, in order), `Steps` (what is done, and runs over
-//! requests), `Examples`.
+//! requests), `Premises` (what statements may take as given), `Laws`, and `Examples` with those beside it.
 //!
 //! In reading order: `argument` (what a call is handed), `laws` (of steps), `examples` (runs that are computed).
 #![tactic(auto)]
@@ -16,4 +17,4 @@ mod examples;
 pub mod laws;
 
 pub use argument::Argument;
-pub use examples::worked_runs;
+pub use examples::{worked_integer_runs, worked_object_runs, worked_runs};

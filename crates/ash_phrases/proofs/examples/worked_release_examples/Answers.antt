@@ -41,3 +41,23 @@ returns-clause-overwritten c = refl
 pub returns-clause-read_before : goal.returns-clause-read_before
 unfolding computing
 returns-clause-read_before c = refl
+
+pub returns-clause-switch_value : goal.returns-clause-switch_value
+unfolding computing
+returns-clause-switch_value c = refl
+
+pub returns-clause-each_variable : goal.returns-clause-each_variable
+unfolding computing
+returns-clause-each_variable c = refl
+
+pub returns-clause-each_global : goal.returns-clause-each_global
+unfolding computing
+returns-clause-each_global c = refl
+
+pub returns-clause-argument : goal.returns-clause-argument
+unfolding computing
+returns-clause-argument c = refl
+
+pub returns-clause-exception_of_an_argument : goal.returns-clause-exception_of_an_argument
+unfolding computing
+returns-clause-exception_of_an_argument c = refl

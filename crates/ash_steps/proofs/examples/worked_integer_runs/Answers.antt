@@ -1,0 +1,67 @@
+use Rattle.std.proofs.Common.{refl}
+use Rattle.ash_steps.proofs.Computing.{computing}
+use Rattle.ash_steps.proofs.examples.worked_integer_runs.Goals as goal
+
+pub returns-clause-enough_ticks : goal.returns-clause-enough_ticks
+unfolding computing
+returns-clause-enough_ticks c = refl
+
+pub returns-clause-one_tick_too_few : goal.returns-clause-one_tick_too_few
+unfolding computing
+returns-clause-one_tick_too_few c = refl
+
+pub returns-clause-wrapped_sum : goal.returns-clause-wrapped_sum
+unfolding computing
+returns-clause-wrapped_sum c = refl
+
+pub returns-clause-quotients : goal.returns-clause-quotients
+unfolding computing
+returns-clause-quotients c = refl
+
+pub returns-clause-least_by_minus_one : goal.returns-clause-least_by_minus_one
+unfolding computing
+returns-clause-least_by_minus_one c = refl
+
+pub returns-clause-bits_before_comparison : goal.returns-clause-bits_before_comparison
+unfolding computing
+returns-clause-bits_before_comparison c = refl
+
+pub returns-clause-effects_stay : goal.returns-clause-effects_stay
+unfolding computing
+returns-clause-effects_stay c = refl
+
+pub returns-clause-another_load : goal.returns-clause-another_load
+unfolding computing
+returns-clause-another_load c = refl
+
+pub returns-clause-unending_loop : goal.returns-clause-unending_loop
+unfolding computing
+returns-clause-unending_loop c = refl
+
+pub returns-clause-empty_module : goal.returns-clause-empty_module
+unfolding computing
+returns-clause-empty_module c = refl
+
+pub returns-clause-greatest_number : goal.returns-clause-greatest_number
+unfolding computing
+returns-clause-greatest_number c = refl
+
+pub returns-clause-signs_that_meet : goal.returns-clause-signs_that_meet
+unfolding computing
+returns-clause-signs_that_meet c = refl
+
+pub returns-clause-shifts : goal.returns-clause-shifts
+unfolding computing
+returns-clause-shifts c = refl
+
+pub returns-clause-refusals : goal.returns-clause-refusals
+unfolding computing
+returns-clause-refusals c = refl
+
+pub returns-clause-seventeenth_module : goal.returns-clause-seventeenth_module
+unfolding computing
+returns-clause-seventeenth_module c = refl
+
+pub returns-clause-last_answer : goal.returns-clause-last_answer
+unfolding computing
+returns-clause-last_answer c = refl

@@ -1,0 +1,59 @@
+use Rattle.std.proofs.Common.{refl}
+use Rattle.ash_steps.proofs.Computing.{computing}
+use Rattle.ash_steps.proofs.examples.worked_object_runs.Goals as goal
+
+pub returns-clause-right_side_first : goal.returns-clause-right_side_first
+unfolding computing
+returns-clause-right_side_first c = refl
+
+pub returns-clause-assigned_to_itself : goal.returns-clause-assigned_to_itself
+unfolding computing
+returns-clause-assigned_to_itself c = refl
+
+pub returns-clause-empty_pool : goal.returns-clause-empty_pool
+unfolding computing
+returns-clause-empty_pool c = refl
+
+pub returns-clause-through_null : goal.returns-clause-through_null
+unfolding computing
+returns-clause-through_null c = refl
+
+pub returns-clause-shown_with_snapshot : goal.returns-clause-shown_with_snapshot
+unfolding computing
+returns-clause-shown_with_snapshot c = refl
+
+pub returns-clause-counts : goal.returns-clause-counts
+unfolding computing
+returns-clause-counts c = refl
+
+pub returns-clause-two_modules : goal.returns-clause-two_modules
+unfolding computing
+returns-clause-two_modules c = refl
+
+pub returns-clause-let_go_early : goal.returns-clause-let_go_early
+unfolding computing
+returns-clause-let_go_early c = refl
+
+pub returns-clause-behind_an_interface : goal.returns-clause-behind_an_interface
+unfolding computing
+returns-clause-behind_an_interface c = refl
+
+pub returns-clause-in_an_array : goal.returns-clause-in_an_array
+unfolding computing
+returns-clause-in_an_array c = refl
+
+pub returns-clause-longest_array : goal.returns-clause-longest_array
+unfolding computing
+returns-clause-longest_array c = refl
+
+pub returns-clause-last_number : goal.returns-clause-last_number
+unfolding computing
+returns-clause-last_number c = refl
+
+pub returns-clause-most_objects : goal.returns-clause-most_objects
+unfolding computing
+returns-clause-most_objects c = refl
+
+pub returns-clause-one_object_fewer : goal.returns-clause-one_object_fewer
+unfolding computing
+returns-clause-one_object_fewer c = refl

@@ -1,0 +1,5 @@
+use Rattle.ash_steps.proofs.Taken as lemmas
+use Rattle.ash_steps.proofs.laws.answers_are_taken_in_order.Goals as goal
+
+pub returns : goal.returns
+returns g c = lemmas.runs_take

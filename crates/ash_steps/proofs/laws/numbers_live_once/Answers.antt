@@ -1,0 +1,5 @@
+use Rattle.ash_steps.proofs.Numbers as numbers
+use Rattle.ash_steps.proofs.laws.numbers_live_once.Goals as goal
+
+pub returns : goal.returns
+returns g c = numbers.runs_live
