@@ -1,0 +1,30 @@
+//! The laws of well-formed worlds. A function without a body does nothing: its contract is the law.
+ghost use Rattle.std.specs.Prelude.{ℕ};
+ghost use Rattle.ash_wellformed.specs.WellFormed.{Context, IsContext};
+ghost use Rattle.ash_wellformed.specs.Laws.{ExpressionsKeep, StatementsKeep, BlocksKeep, CallsKeep, MethodsKeep};
+ghost use Rattle.ash_wellformed.specs.Laws.{RunsKeep, LoadsKeep, MoreModulesKeep, FewerModulesKeep};
+ghost use Rattle.ash_wellformed.specs.Laws.{ValuesAreOfTheirModule, ValuesKeepTheirTypes};
+
+/// A phrase of a sound module leaves what is well-formed, at each of its ends: an expression gives a value of its type,
+/// and so does a call; a statement is left by a jump that its scope allows, with what its function gives.
+pub fn sound_stays_sound()
+    ensures expressions { (c : Context) (depth : ℕ) → IsContext c → ExpressionsKeep c depth }
+    ensures statements { (c : Context) (depth : ℕ) → IsContext c → StatementsKeep c depth }
+    ensures blocks { (c : Context) (depth : ℕ) → IsContext c → BlocksKeep c depth }
+    ensures calls { (c : Context) (depth : ℕ) → IsContext c → CallsKeep c depth }
+    ensures methods { (c : Context) (depth : ℕ) → IsContext c → MethodsKeep c depth }
+{}
+
+/// A run of a sound module, however it ends, leaves a well-formed world in which every object can be reached.
+pub fn runs_leave_settled_worlds()
+    ensures calls { (c : Context) → IsContext c → RunsKeep c }
+    ensures loads { (c : Context) → IsContext c → LoadsKeep c }
+{}
+
+/// Objects stay well-formed where modules are loaded and where they go, and words of other modules keep their types.
+pub fn modules_come_and_go()
+    ensures more { MoreModulesKeep }
+    ensures fewer { FewerModulesKeep }
+    ensures own { ValuesAreOfTheirModule }
+    ensures others { ValuesKeepTheirTypes }
+{}
