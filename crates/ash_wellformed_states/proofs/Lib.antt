@@ -1,0 +1,9 @@
+pub mod Named
+pub mod Ascending
+pub mod SourceOrder
+pub mod Asked
+pub mod Left
+pub mod Called
+pub mod Came
+pub mod Stepped
+pub mod First

@@ -1,0 +1,45 @@
+use Rattle.std.proofs.Common.{◌≡◌, [], refl, subst, inr, arith}
+use Rattle.std.specs.Prelude.{Result, Ok}
+use Rattle.std.specs.List.{IsDistinct}
+use Rattle.ash_typed.specs.Modules.{Module}
+use Rattle.ash_typed.specs.Signatures as signatures
+use Rattle.ash_typed.specs.SoundExpressions as expressions
+use Rattle.ash_typed.specs.SoundStatements as statements
+use Rattle.ash_typed.specs.SoundModules.{IsSound}
+use Rattle.ash_typed.specs.Returning.{returned, first_returns, later_returns}
+use Rattle.ash_steps.specs.Examples.{adding}
+use Rattle.ash_wellformed_states.specs.Examples.{no_host, read_adding}
+use Rattle.ash_wellformed_states.proofs.First.{empty_well}
+use Rattle.ash_wellformed_states.proofs.examples.worked_premises.Goals as goal
+
+adding_is_sound : IsSound no_host adding
+unfolding IsDistinct
+adding_is_sound = record {
+  few_types = omega arith;
+  few_globals = omega arith;
+  functions_differ = (tt, tt);
+  globals_differ = (tt, tt);
+  interfaces = tt;
+  interfaces_in_order = tt;
+  classes = tt;
+  functions = (
+    record {
+      parameters = (signatures.passed_integer, tt);
+      result = signatures.passed_integer;
+      body = statements.more_stmts (statements.evaluate (_, expressions.update (expressions.global refl) (expressions.read (expressions.local refl))))
+          (statements.more_stmts (statements.return_value refl (expressions.fits (expressions.read (expressions.global refl)) signatures.same)) statements.no_stmts);
+      returns = inr (later_returns (first_returns returned));
+    },
+    tt,
+  );
+  globals = ((record { type = signatures.integer; value = statements.stored tt (expressions.fits (expressions.number (omega arith)) signatures.same) }, tt), tt);
+}
+
+read_is : (tree : Module) → ◌≡◌ {A = Result Module (Unit {0})} (Ok adding) (Ok tree) → adding ≡ tree
+read_is tree e = cc
+
+pub returns-clause-sound : goal.returns-clause-sound
+returns-clause-sound c = λ source tree e. subst (IsSound no_host) (read_is tree e) adding_is_sound
+
+pub returns-clause-first : goal.returns-clause-first
+returns-clause-first c = empty_well read_adding no_host [] tt

@@ -1,0 +1,2 @@
+pub mod WellFormedStates
+pub mod Examples

@@ -1,0 +1,13 @@
+//! That the premises of the laws can be met. The function does nothing when it runs.
+ghost use Rattle.std.specs.Prelude.{[]};
+ghost use Rattle.ash_steps.specs.States.{empty};
+ghost use Rattle.ash_steps.specs.Premises.{ReadsSound};
+ghost use Rattle.ash_wellformed_states.specs.WellFormedStates.{IsWellFormedState};
+ghost use Rattle.ash_wellformed_states.specs.Examples.{no_host, read_adding};
+
+/// Where each source is read as one small module, sources are read as sound modules, so that whatever requests leave is
+/// well-formed.
+pub fn worked_premises()
+    ensures sound { ReadsSound no_host read_adding }
+    ensures first { IsWellFormedState read_adding no_host (empty []) }
+{}

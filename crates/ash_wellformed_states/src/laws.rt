@@ -1,0 +1,18 @@
+//! The laws of well-formed states. A function without a body does nothing: its contract is the law. `F` is the type of
+//! the faults of sources.
+ghost use Rattle.std.specs.Prelude.{ℕ, List};
+ghost use Rattle.std.specs.List.{AllByRecursion};
+ghost use Rattle.ash_typed.specs.Signatures.{Host};
+ghost use Rattle.ash_wellformed.specs.WellFormed.{IsState};
+ghost use Rattle.ash_steps.specs.States.{Embedding, empty};
+ghost use Rattle.ash_wellformed_states.specs.WellFormedStates.{IsWellFormedState, StepsKeep, RunsKeep};
+
+/// A request leaves a well-formed state where it finds one, however it ends, and where it is refused for a cause that
+/// is not in the state; so do all requests of a run; and the state before any request is well-formed.
+pub fn states_stay_well_formed<F>()
+    ensures first { (embedding : Embedding F) (host : Host) (services : List (List ℕ))
+        → AllByRecursion IsState services
+        → IsWellFormedState embedding host (empty services) }
+    ensures steps { (embedding : Embedding F) (host : Host) → StepsKeep embedding host }
+    ensures runs { (embedding : Embedding F) (host : Host) → RunsKeep embedding host }
+{}
