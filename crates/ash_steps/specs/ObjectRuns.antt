@@ -41,8 +41,8 @@ let_go_early = functions (function f None [] (declared 1 ∷ declared 2 ∷ eval
 -- `interface I { int v(); } class A : I { int k; int v() { return k; } } class B : I { int v() { return 7; } } I@ g;`
 -- `int f() { A@ a = A(); a.k = 3; @g = a; return g.v(); } int h() { @g = B(); return g.v(); }`
 -- `bool c() { A@ a = cast<A>(g); return a is null; }`
-abbrev pub behind_an_interface : Module
-behind_an_interface = record { interfaces = i ∷ []; classes = a ∷ b ∷ []; functions = main ∷ other ∷ test ∷ []; globals = alone (named (codes "g") of_i None) ∷ [] }
+abbrev pub through_an_interface : Module
+through_an_interface = record { interfaces = i ∷ []; classes = a ∷ b ∷ []; functions = main ∷ other ∷ test ∷ []; globals = alone (named (codes "g") of_i None) ∷ [] }
   where
     of_i : VarType
     of_i = vars.Handle (objects.Interface 0)

@@ -161,7 +161,7 @@ pub fn worked_object_runs()
         (Answered (Finished None) 1 []
         ∷ Answered (Finished None) 2
         (Drew 1 ∷ Drew 2 ∷ Dropped 1 ∷ Drew 3 ∷ Dropped 2 ∷ Dropped 3 ∷ []) ∷ []) }
-    ensures behind_an_interface { RepliesOf (objects.behind_an_interface ∷ [])
+    ensures through_an_interface { RepliesOf (objects.through_an_interface ∷ [])
         (Load m (0 ∷ []) ∷ Call m (codes "c") [] ∷ Call m f [] ∷ Call m (codes "c") [] ∷ Object 1
         ∷ Call m (codes "h") [] ∷ Call m (codes "c") [] ∷ []) 0 []
         (Answered (Finished None) 1 [] ∷ Answered (Finished (Some (Word.Bool true))) 2 []

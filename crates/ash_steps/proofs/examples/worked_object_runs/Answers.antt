@@ -34,9 +34,9 @@ pub returns-clause-let_go_early : goal.returns-clause-let_go_early
 unfolding computing
 returns-clause-let_go_early c = refl
 
-pub returns-clause-behind_an_interface : goal.returns-clause-behind_an_interface
+pub returns-clause-through_an_interface : goal.returns-clause-through_an_interface
 unfolding computing
-returns-clause-behind_an_interface c = refl
+returns-clause-through_an_interface c = refl
 
 pub returns-clause-in_an_array : goal.returns-clause-in_an_array
 unfolding computing
