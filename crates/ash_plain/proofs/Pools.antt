@@ -1,0 +1,57 @@
+-- The pool, as the code has it and as the definitions see it, and boxes that are drawn from it.
+use Rattle.std.proofs.Common.{◌≡◌, ◌<◌, ◌≤◌, ℕ, zero, suc, Bool, true, false, List, [], ◌∷◌, length, get_or, Option, Some, None, refl, sym, ap, ◌∙◌, map, nat_eq, nat_lt, arith, cond, ◌-◌, ◌+◌, ◌++◌, take, drop, Vec, Global, slice_set}
+use Rattle.std.specs.List.{position, position_from, range_with_len, remove, slice_get}
+use Rattle.std.proofs.lemmas.Iterator.Adapters.{position_from-zero}
+use Rattle.std.proofs.lemmas.List.{map-append, take-map, drop-map}
+use Rattle.ash_host.specs.declared.event.Event.TheVariants.{Drew}
+use Rattle.ash_host.specs.Objects.{Host}
+use Rattle.ash_phrases.specs.declared.exception.Exception.TheVariants.{PoolEmpty}
+use Rattle.ash_phrases.specs.Activity.{FreeBox, Activity, in_world}
+use Rattle.ash_phrases.specs.Runs.{Progress, Done, Ended, Raising, Run, give, onward, ◌>>=◌, ◌>>◌, change, found}
+use Rattle.ash_phrases.specs.ObjectSteps.{demand_number, make}
+use Rattle.ash_phrases.specs.HostSteps.{note, place_of_kind, without_box, box_in, box_of_kind, draw}
+
+-- the first element that passes a test, found from the front
+
+pub position_is : {A : Type 0} (p : A → Bool) (xs : List A) → position p xs ≡ position_from p 0 xs
+position_is p xs = position_from-zero p xs
+
+pub ranged_more : (f : ℕ → ℕ) (p : ℕ → Bool) (n i : ℕ) → i < n → position_from p i (map f (range_with_len i (n - i))) ≡ cond (p (f i)) (Some i) (position_from p (i + 1) (map f (range_with_len (i + 1) (n - (i + 1)))))
+ranged_more f p n i low =
+    let k : n - i ≡ suc (n - (i + 1)) = omega arith in
+    ap (λ (m : ℕ). position_from p i (map f (range_with_len i m))) k
+
+pub ranged_end : (f : ℕ → ℕ) (p : ℕ → Bool) (n i : ℕ) → n ≤ i → position_from p i (map f (range_with_len i (n - i))) ≡ None
+ranged_end f p n i over =
+    let k : n - i ≡ 0 = omega arith in
+    ap (λ (m : ℕ). position_from p i (map f (range_with_len i m))) k
+
+pub states_set : (states : List (Vec ℕ Global)) (i : ℕ) (state : Vec ℕ Global) → map (λ (s : Vec ℕ Global). s.items) (slice_set states i state) ≡ slice_set (map (λ (s : Vec ℕ Global). s.items) states) i state.items
+states_set [] i state = refl
+states_set (s ∷ states) zero state = refl
+states_set (s ∷ states) (suc i) state = ap (λ (l : List (List ℕ)). s.items ∷ l) (states_set states i state)
+
+pub remove_map : {A B : Type 0} (f : A → B) (xs : List A) (i : ℕ) → map f (remove xs i) ≡ remove (map f xs) i
+remove_map f xs i =
+    map-append f (take i xs) (drop (suc i) xs)
+    ∙ ap (λ (l : List _). l ++ map f (drop (suc i) xs)) (sym (take-map f i xs))
+    ∙ ap (λ (l : List _). take i (map f xs) ++ l) (sym (drop-map f (suc i) xs))
+
+-- boxes that are drawn
+
+abbrev pub put_box : ℕ × FreeBox → Run ℕ
+put_box box = change (in_world (without_box box.0)) >> make (Host (box.1).kind (box.1).state)
+
+abbrev pub noted : ℕ → Run ℕ
+noted number = note (Drew number) >> give number
+
+pub draw_empty : (kind : ℕ) (a : Activity) → demand_number a ≡ Done tt a → place_of_kind kind a.world ≡ None → draw kind a ≡ Ended (Raising PoolEmpty) a
+draw_empty kind a h e =
+    ap (λ (p : Progress (Unit {0})). onward (onward (onward p (λ _. box_of_kind kind)) put_box) noted) h
+    ∙ ap (λ (o : Option ℕ). onward (onward (box_in a.world o a) put_box) noted) e
+
+pub draw_box : (kind place : ℕ) (box : FreeBox) (a : Activity) → demand_number a ≡ Done tt a → place_of_kind kind a.world ≡ Some place → slice_get (a.world).pool place ≡ Some box → draw kind a ≡ onward (make (Host box.kind box.state) (in_world (without_box place) a)) noted
+draw_box kind place box a h e free =
+    ap (λ (p : Progress (Unit {0})). onward (onward (onward p (λ _. box_of_kind kind)) put_box) noted) h
+    ∙ ap (λ (o : Option ℕ). onward (onward (box_in a.world o a) put_box) noted) e
+    ∙ ap (λ (o : Option FreeBox). onward (onward (onward (found o a) (λ (b : FreeBox). give (place, b))) put_box) noted) free

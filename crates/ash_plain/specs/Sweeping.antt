@@ -1,0 +1,19 @@
+-- How the code finds what can be reached, and what goes.
+use Rattle.std.specs.Prelude.{ℕ, Bool, not, ◌&&◌, if◌then◌else◌, List, [], ◌∷◌, ◌++◌, is_some, filter}
+use Rattle.std.specs.Map.{keys_of}
+use Rattle.ash_host.specs.Objects.{Objects, object_at, is_host}
+use Rattle.ash_host.specs.Reach.{is_among}
+use Rattle.ash_plain.specs.declared.object.Object as object
+use Rattle.ash_plain.specs.ObjectViews.{object_seen}
+
+-- one more number, where an object lives by it that is not found yet
+abbrev pub with_one : Objects (List ℕ) → ℕ → List ℕ → List ℕ
+with_one objects number found = if is_some (object_at number objects) && not (is_among found number) then found ++ number ∷ [] else found
+
+abbrev pub with_found : Objects (List ℕ) → List ℕ → List ℕ → List ℕ
+with_found objects [] found = found
+with_found objects (number ∷ numbers) found = with_found objects numbers (with_one objects number found)
+
+-- the host objects that are not found, in the order of the entries
+abbrev pub gone : List ℕ → List (ℕ × object.Object) → List ℕ
+gone found entries = keys_of (filter (λ e. is_host (object_seen e.1) && not (is_among found e.0)) entries)

@@ -1,0 +1,81 @@
+//! Ticks, and frames that are entered and left.
+#![tactic(auto, unfolding(crate::specs::Views::activity_seen))]
+
+ghost use Rattle.std.specs.Prelude.{◌≡◌, ◌∷◌, OnOk, string_bytes};
+ghost use Rattle.ash_phrases.specs.Frames.{tick, demand_frame, frame_of, leave};
+ghost use Rattle.ash_plain.specs.Views.{activity_seen};
+ghost use Rattle.ash_plain.specs.Running.{RunsAs};
+
+use crate::activity::{Activity, Frame};
+use crate::run_error::{RunError, RunResult};
+use ash_host::Word;
+use ash_phrases::Exception;
+use std::alloc::AllocError;
+use std::mem;
+
+/// How many frames there are at most.
+pub const MAX_FRAMES: usize = 256;
+
+impl Activity {
+    /// Takes a tick for what begins at this line. Where none is left the run ends; the line is set either way.
+    pub(crate) fn tick(&mut self, line: usize) -> RunResult<()>
+        ensures { RunsAs (λ _. tt) result (activity_seen self.new) (tick line (activity_seen self.old)) }
+    {
+        self.frame.line = line;
+        if self.ticks == 0 {
+            return Err(RunError::OutOfTicks);
+        }
+        self.ticks -= 1;
+        Ok(())
+    }
+
+    /// Raises an exception in the frame that runs, where there is room for no other.
+    pub(crate) fn demand_frame(&self) -> RunResult<()>
+        ensures { RunsAs (λ _. tt) result (activity_seen self.now) (demand_frame (activity_seen self.now)) }
+    {
+        if self.callers.len() + 1 < MAX_FRAMES {
+            Ok(())
+        } else {
+            Err(RunError::Raised(Exception::StackOverflow))
+        }
+    }
+
+    /// Enters a frame.
+    pub(crate) fn enter(
+        &mut self,
+        function: String,
+        line: usize,
+        this: Word,
+        locals: Vec<Word>,
+    ) -> Result<(), AllocError>
+        ensures { OnOk result (activity_seen self.new ≡ record (activity_seen self.old) {
+          frame = frame_of (string_bytes function) line this locals.items;
+          callers = (activity_seen self.old).frame ∷ (activity_seen self.old).callers;
+        }) }
+    {
+        let frame = Frame {
+            function,
+            line,
+            this,
+            locals,
+            held: Vec::new(self.alloc),
+        };
+        let caller = mem::replace(&mut self.frame, frame);
+        self.callers.insert(0, caller)?;
+        Ok(())
+    }
+
+    /// Leaves a frame: the value passes into what the caller holds, then the whole frame is given up.
+    #[tactic(auto, unfolding(crate::specs::Views::activity_seen, ash_phrases::specs::Frames::leave))]
+    pub(crate) fn leave(&mut self, value: Word) -> RunResult<Word>
+        ensures { RunsAs (λ w. w) result (activity_seen self.new) (leave value (activity_seen self.old)) }
+    {
+        if !self.callers.is_empty() {
+            let mut caller = self.callers.remove(0);
+            caller.hold(value)?;
+            self.frame = caller;
+        }
+        self.release()?;
+        Ok(value)
+    }
+}

@@ -1,0 +1,208 @@
+//! Calls of host objects and services, what is made of their answers, and boxes that are drawn from the pool.
+#![tactic(auto, unfolding(crate::specs::Views::activity_seen))]
+
+ghost use Rattle.std.specs.Prelude.{◌≡◌, ◌<◌, Some, OnOk, IfSome, map, length, option_map, nat_eq, slice_get, slice_set, vec_len};
+ghost use Rattle.std.specs.List.{position_from};
+ghost use Rattle.ash_phrases.specs.Activity.{in_world};
+ghost use Rattle.ash_phrases.specs.HostSteps.{with_event, state_of, with_state, call_host, is_of as is_of_type, accept, invoke_host, get_property, set_property, place_of_kind, without_box, draw, construct_host};
+ghost use Rattle.ash_plain.specs.Views.{activity_seen, box_seen, call_seen};
+ghost use Rattle.ash_plain.specs.Running.{RunsAs};
+
+use crate::activity::{Activity, FreeBox};
+use crate::host_call::HostCall;
+use crate::object::Object;
+use crate::run_error::{RunError, RunResult};
+use crate::same::is_of;
+use ash_host::{Event, HostAnswer, Target, Word};
+use ash_phrases::Exception;
+use ash_typed::{Kind, VarType};
+use std::alloc::AllocError;
+
+/// Whether a word is a value of this type; hosts give no handles.
+fn is_of_type(of: VarType, word: Word) -> bool
+    ensures { result ≡ is_of_type of word }
+{
+    match (of, word) {
+        (VarType::Bool, Word::Bool(_)) => true,
+        (VarType::Integer(Kind::Int), Word::Int(_)) => true,
+        (VarType::Integer(Kind::Uint), Word::Uint(_)) => true,
+        (VarType::Integer(Kind::Int64), Word::Int64(_)) => true,
+        (VarType::Integer(Kind::Uint64), Word::Uint64(_)) => true,
+        _ => false,
+    }
+}
+
+impl Activity {
+    fn note(&mut self, event: Event) -> Result<(), AllocError>
+        ensures { OnOk result (activity_seen self.new ≡ in_world (with_event event) (activity_seen self.old)) }
+    {
+        self.world.events.push(event)?;
+        Ok(())
+    }
+
+    /// The state of whom a call goes to.
+    fn state_of(&self, target: Target) -> Option<&[u8]>
+        ensures { option_map (λ state. state.now) result ≡ state_of target (activity_seen self.now).world }
+    {
+        match target {
+            Target::Object(number) => match self.world.objects.get(number) {
+                Some(Object::Host { state, .. }) => Some(state.as_slice()),
+                _ => None,
+            },
+            Target::Service(index) => match self.world.services.get(usize::from(index)) {
+                Some(state) => Some(state.as_slice()),
+                None => None,
+            },
+        }
+    }
+
+    fn put_state(&mut self, target: Target, state: Vec<u8>) -> Result<(), AllocError>
+        ensures { OnOk result (activity_seen self.new ≡ in_world (with_state target state.items) (activity_seen self.old)) }
+    {
+        match target {
+            Target::Object(number) => self.world.objects.change_state(self.alloc, number, state),
+            Target::Service(index) => {
+                put_at(&mut self.world.services, usize::from(index), state);
+                Ok(())
+            }
+        }
+    }
+
+    /// Calls a host object or a service. What the host did stays, whatever it answers.
+    pub(crate) fn call_host(&mut self, target: Target, call: &HostCall) -> RunResult<HostAnswer>
+        ensures { RunsAs (λ answer. answer) result (activity_seen self.new) (call_host target (call_seen call.now) (activity_seen self.old)) }
+    {
+        let Some(before) = self.state_of(target) else {
+            return Err(RunError::NoStep);
+        };
+        let Some(next) = self.world.answers.front() else {
+            return Err(RunError::NoStep);
+        };
+        if !is_of(target, call, before, next) {
+            return Err(RunError::NoStep);
+        }
+        let Some(taken) = self.world.answers.pop_front() else {
+            return Err(RunError::NoStep);
+        };
+        self.put_state(target, taken.after)?;
+        Ok(taken.answer)
+    }
+
+    /// What is made of an answer where a result of this type is declared, or none. What gives no value gives null.
+    pub(crate) fn accept(&self, of: Option<VarType>, answer: HostAnswer) -> RunResult<Word>
+        ensures { RunsAs (λ w. w) result (activity_seen self.now) (accept of answer (activity_seen self.now)) }
+    {
+        match (answer, of) {
+            (HostAnswer::Nothing, None) => Ok(Word::Null),
+            (HostAnswer::Value(word), Some(of)) if is_of_type(of, word) => Ok(word),
+            (HostAnswer::Nothing | HostAnswer::Value(_), _) => {
+                Err(RunError::Raised(Exception::BadHostAnswer))
+            }
+            (HostAnswer::Raise(code), _) => Err(RunError::Raised(Exception::Raised(code))),
+            (HostAnswer::NoMemory, _) => Err(RunError::NoStep),
+        }
+    }
+
+    /// Runs a method of a host object, or a function of a service.
+    pub(crate) fn invoke_host(
+        &mut self,
+        target: Target,
+        id: u16,
+        of: Option<VarType>,
+        args: Vec<Word>,
+    ) -> RunResult<Word>
+        ensures { RunsAs (λ w. w) result (activity_seen self.new) (invoke_host target id of args.items (activity_seen self.old)) }
+    {
+        let call = HostCall::Invoke { method: id, args };
+        let answer = self.call_host(target, &call)?;
+        self.note(Event::Called(target, id))?;
+        self.accept(of, answer)
+    }
+
+    pub(crate) fn get_property(&mut self, number: u64, id: u16, of: VarType) -> RunResult<Word>
+        ensures { RunsAs (λ w. w) result (activity_seen self.new) (get_property number id of (activity_seen self.old)) }
+    {
+        let call = HostCall::Get { property: id };
+        let answer = self.call_host(Target::Object(number), &call)?;
+        self.accept(Some(of), answer)
+    }
+
+    pub(crate) fn set_property(&mut self, number: u64, id: u16, word: Word) -> RunResult<()>
+        ensures { RunsAs (λ _. tt) result (activity_seen self.new) (set_property number id word (activity_seen self.old)) }
+    {
+        let call = HostCall::Set {
+            property: id,
+            value: word,
+        };
+        let answer = self.call_host(Target::Object(number), &call)?;
+        self.accept(None, answer)?;
+        Ok(())
+    }
+
+    /// The place of the first free box of the kind, in the pool's order.
+    fn place_of_kind(&self, kind: u16) -> Option<usize>
+        ensures place { result ≡ place_of_kind kind (activity_seen self.now).world }
+        ensures within { IfSome result (λ place. place < vec_len self.now.world.pool) }
+    {
+        place_in(&self.world.pool, kind)
+    }
+
+    #[tactic(auto, using(crate::proofs::Pools::remove_map), unfolding(crate::specs::Views::activity_seen))]
+    fn take_box(&mut self, place: usize) -> FreeBox
+        requires { place < vec_len self.old.world.pool }
+        ensures free { slice_get (activity_seen self.old).world.pool place ≡ Some (box_seen result) }
+        ensures taken { activity_seen self.new ≡ in_world (without_box place) (activity_seen self.old) }
+    {
+        self.world.pool.remove(place)
+    }
+
+    /// Takes a box from the pool, as the object of the next number.
+    #[tactic(auto)]
+    fn draw(&mut self, kind: u16) -> RunResult<u64>
+        ensures { RunsAs (λ n. n) result (activity_seen self.new) (draw kind (activity_seen self.old)) }
+    {
+        self.demand_number()?;
+        let Some(place) = self.place_of_kind(kind) else {
+            return Err(RunError::Raised(Exception::PoolEmpty));
+        };
+        let FreeBox { kind, state } = self.take_box(place);
+        let number = self.make(Object::Host { kind, state })?;
+        self.note(Event::Drew(number))?;
+        Ok(number)
+    }
+
+    /// Constructs an object of a registered type: it is held before it is started.
+    pub(crate) fn construct_host(&mut self, kind: u16, args: Vec<Word>) -> RunResult<Word>
+        ensures { RunsAs (λ w. w) result (activity_seen self.new) (construct_host kind args.items (activity_seen self.old)) }
+    {
+        let number = self.draw(kind)?;
+        self.hold(Word::Object(number))?;
+        let call = HostCall::Start { args };
+        let answer = self.call_host(Target::Object(number), &call)?;
+        self.accept(None, answer)?;
+        Ok(Word::Object(number))
+    }
+}
+
+/// The place of the first free box of the kind, in the pool's order.
+fn place_in(pool: &[FreeBox], kind: u16) -> Option<usize>
+    ensures place { result ≡ position_from (λ b. nat_eq b.kind kind) 0 (map box_seen pool.now) }
+    ensures within { IfSome result (λ place. place < length pool.now) }
+{
+    for (place, free) in pool.iter().enumerate() {
+        if free.kind == kind {
+            return Some(place);
+        }
+    }
+    None
+}
+
+/// Puts a state at an index, where there is one.
+#[tactic(auto, using(crate::proofs::Pools::states_set))]
+fn put_at(states: &mut Vec<Vec<u8>>, index: usize, state: Vec<u8>)
+    ensures { map (λ s. s.items) states.new.items ≡ slice_set (map (λ s. s.items) states.old.items) index state.items }
+{
+    if let Some(old) = states.get_mut(index) {
+        *old = state;
+    }
+}

@@ -1,0 +1,197 @@
+//! The objects that live, and the sweep.
+
+ghost use Rattle.std.specs.Prelude.{◌≡◌, ◌++◌, ℕ, [], map, length, filter, option_map, IfOk, OnOk, IsSome};
+ghost use Rattle.std.specs.List.{list_any};
+ghost use Rattle.std.specs.Option.{option_map_or};
+ghost use Rattle.ash_host.specs.declared.event.Event.TheVariants.{Dropped};
+ghost use Rattle.ash_host.specs.Objects.{object_at, with_at, handles, fields_of};
+ghost use Rattle.ash_host.specs.Reach.{is_among, is_reachable, after_sweep, drops_of_sweep};
+ghost use Rattle.ash_phrases.specs.ObjectSteps.{change_at, with_words};
+ghost use Rattle.ash_phrases.specs.HostSteps.{with_state_in};
+ghost use Rattle.ash_plain.specs.ObjectViews.{object_seen};
+ghost use Rattle.ash_plain.specs.Sweeping.{with_found, gone};
+
+use crate::object::Object;
+use ash_host::{Event, Word};
+use std::alloc::{AllocError, Global};
+use std::collections::BTreeMap;
+use std::marker::Model;
+
+/// The objects that live, by their numbers.
+#[derive(Drop)]
+pub struct Objects {
+    entries: BTreeMap<u64, Object>,
+}
+
+impl Model for Objects {
+    ghost use Rattle.std.specs.Prelude.{ℕ, List, map};
+    ghost use Rattle.ash_host.specs.Objects as plain;
+    ghost use Rattle.ash_plain.specs.ObjectViews.{entry_seen};
+
+    ghost Value = { plain.Objects (List ℕ) };
+
+    ghost view = { λ o. map entry_seen o.entries.entries };
+}
+
+/// Appends the objects that words are handles to.
+pub(crate) fn push_handles(words: &[Word], numbers: &mut Vec<u64>) -> Result<(), AllocError>
+    ensures { OnOk result (numbers.new.items ≡ numbers.old.items ++ handles words.now) }
+{
+    for word in words {
+        if let Word::Object(number) = word {
+            numbers.push(*number)?;
+        }
+    }
+    Ok(())
+}
+
+/// Whether a number is among these.
+fn is_among(numbers: &[u64], number: u64) -> bool
+    ensures { result ≡ is_among numbers.now number }
+{
+    numbers.iter().any(|other| number == *other)
+}
+
+/// Appends an event for each host object that is not among those that were found, by ascending number.
+fn report(
+    entries: &BTreeMap<u64, Object>,
+    found: &[u64],
+    events: &mut Vec<Event>,
+) -> Result<(), AllocError>
+    ensures { OnOk result (events.new.items ≡ events.old.items ++ map Dropped (gone found.now entries.now.entries)) }
+{
+    for (number, object) in entries {
+        if object.is_host() && !is_among(found, *number) {
+            events.push(Event::Dropped(*number))?;
+        }
+    }
+    Ok(())
+}
+
+/// Takes away all objects but those that were found.
+fn keep(entries: &mut BTreeMap<u64, Object>, found: &[u64])
+    ensures { entries.new.entries ≡ filter (λ e. is_among found.now e.0) entries.old.entries }
+{
+    entries.retain(|number, _| is_among(found, *number));
+}
+
+impl Objects {
+    /// No objects.
+    pub fn new(alloc: Global) -> Objects
+        ensures { result ≡ [] }
+    {
+        Objects {
+            entries: BTreeMap::new(alloc),
+        }
+    }
+
+    /// How many live.
+    pub fn len(&self) -> usize
+        ensures { result ≡ length self.now }
+    {
+        self.entries.len()
+    }
+
+    /// The object of a number, where one lives by it.
+    pub fn get(&self, number: u64) -> Option<&Object>
+        ensures { option_map (λ object. object_seen object.now) result ≡ object_at number self.now }
+    {
+        self.entries.get(&number)
+    }
+
+    /// Puts an object at a number.
+    pub fn insert(&mut self, number: u64, object: Object) -> Result<(), AllocError>
+        ensures { OnOk result (self.new ≡ with_at number (object_seen object) self.old) }
+    {
+        self.entries.insert(number, object)?;
+        Ok(())
+    }
+
+    /// The words of an object; none where none lives by the number.
+    pub fn words(&self, number: u64) -> &[Word]
+        ensures { result.now ≡ option_map_or fields_of (object_at number self.now) [] }
+    {
+        match self.get(number) {
+            Some(object) => object.words(),
+            None => &[],
+        }
+    }
+
+    /// Gives an object other words, where one lives by the number.
+    pub(crate) fn change_words(
+        &mut self,
+        alloc: Global,
+        number: u64,
+        words: Vec<Word>,
+    ) -> Result<(), AllocError>
+        ensures { OnOk result (self.new ≡ change_at number (with_words words.items) self.old) }
+    {
+        let Some(object) = self.get(number) else {
+            return Ok(());
+        };
+        let object = object.with_words(alloc, words)?;
+        self.insert(number, object)
+    }
+
+    /// Gives a host object another state, where one lives by the number.
+    pub(crate) fn change_state(
+        &mut self,
+        alloc: Global,
+        number: u64,
+        state: Vec<u8>,
+    ) -> Result<(), AllocError>
+        ensures { OnOk result (self.new ≡ change_at number (with_state_in state.items) self.old) }
+    {
+        let Some(object) = self.get(number) else {
+            return Ok(());
+        };
+        let object = object.with_state(alloc, state)?;
+        self.insert(number, object)
+    }
+
+    /// Adds the numbers by which objects live to those that were found, each once.
+    fn find_all(&self, numbers: &[u64], found: &mut Vec<u64>) -> Result<(), AllocError>
+        ensures { OnOk result (found.new.items ≡ with_found self.now numbers.now found.old.items) }
+    {
+        for number in numbers {
+            if self.get(*number).is_some() && !is_among(found, *number) {
+                found.push(*number)?;
+            }
+        }
+        Ok(())
+    }
+
+    /// The live objects that can be reached from these.
+    fn reached(&self, alloc: Global, held: &[u64]) -> Result<Vec<u64>, AllocError>
+        ensures { IfOk result (λ found. (number : ℕ) → IsSome (object_at number self.now)
+            → is_among found.items number ≡ is_reachable held.now self.now number) }
+    {
+        let mut found = Vec::new(alloc);
+        self.find_all(held, &mut found)?;
+        let mut next = 0;
+        while next < found.len() {
+            let mut numbers = Vec::new(alloc);
+            push_handles(self.words(found[next]), &mut numbers)?;
+            self.find_all(&numbers, &mut found)?;
+            next += 1;
+        }
+        Ok(found)
+    }
+
+    /// Takes away what can't be reached from what is held, and appends an event for each host object among it, by
+    /// ascending number.
+    pub(crate) fn sweep(
+        &mut self,
+        alloc: Global,
+        held: &[u64],
+        events: &mut Vec<Event>,
+    ) -> Result<(), AllocError>
+        ensures objects { OnOk result (self.new ≡ after_sweep held.now self.old) }
+        ensures events { OnOk result (events.new.items ≡ events.old.items ++ map Dropped (drops_of_sweep held.now self.old)) }
+    {
+        let found = self.reached(alloc, held)?;
+        report(&self.entries, &found, events)?;
+        keep(&mut self.entries, &found);
+        Ok(())
+    }
+}

@@ -1,0 +1,80 @@
+//! Operators on values, and what is stored at a location.
+
+ghost use Rattle.std.specs.Prelude.{◌≡◌};
+ghost use Rattle.ash_phrases.specs.Operators.{calculate, operate};
+ghost use Rattle.ash_phrases.specs.Expressions.{store, update, count_at};
+ghost use Rattle.ash_plain.specs.Views.{activity_seen};
+ghost use Rattle.ash_plain.specs.LocationViews.{location_seen};
+ghost use Rattle.ash_plain.specs.Running.{RunsAs};
+
+use crate::activity::Activity;
+use crate::locations::Location;
+use crate::operators::{calculated_by, converted_to, counted, given_by, holds};
+use crate::run_error::{RunError, RunResult};
+use ash_host::Word;
+use ash_integers::DivisionFault;
+use ash_phrases::Exception;
+use ash_typed::{Calculation, Kind, Operation, Step};
+
+impl Activity {
+    /// What an operator that makes an integer of two gives. A quotient that is refused is an exception.
+    pub(crate) fn calculate(
+        &self,
+        calculation: Calculation,
+        left: Word,
+        right: Word,
+    ) -> RunResult<Word>
+        ensures { RunsAs (λ w. w) result (activity_seen self.now) (calculate calculation left right (activity_seen self.now)) }
+    {
+        match calculated_by(calculation.operator, calculation.of, left, right) {
+            Ok(word) => Ok(word),
+            Err(DivisionFault::ByZero) => Err(RunError::Raised(Exception::DivideByZero)),
+            Err(DivisionFault::Overflow) => Err(RunError::Raised(Exception::DivideOverflow)),
+        }
+    }
+
+    /// What an operator makes of two operands.
+    pub(crate) fn operate(&self, operation: Operation, left: Word, right: Word) -> RunResult<Word>
+        ensures { RunsAs (λ w. w) result (activity_seen self.now) (operate operation left right (activity_seen self.now)) }
+    {
+        match operation {
+            Operation::Calculate(calculation) => self.calculate(calculation, left, right),
+            Operation::Compare(comparator, of) => Ok(Word::Bool(holds(
+                comparator, of, left, right,
+            ))),
+        }
+    }
+
+    /// Stores a value, and gives it.
+    pub(crate) fn store(&mut self, word: Word, location: Location) -> RunResult<Word>
+        ensures { RunsAs (λ w. w) result (activity_seen self.new) (store word (location_seen location) (activity_seen self.old)) }
+    {
+        self.write(location, word)?;
+        Ok(word)
+    }
+
+    /// Stores what an operator makes of what a location holds, converted to its type.
+    pub(crate) fn update(
+        &mut self,
+        kind: Kind,
+        calculation: Calculation,
+        right: Word,
+        location: Location,
+    ) -> RunResult<Word>
+        ensures { RunsAs (λ w. w) result (activity_seen self.new) (update kind calculation right (location_seen location) (activity_seen self.old)) }
+    {
+        let left = self.read(location)?;
+        let word = self.calculate(calculation, converted_to(calculation.of, left), right)?;
+        self.store(converted_to(kind, word), location)
+    }
+
+    /// `++` or `--` at a location.
+    pub(crate) fn count_at(&mut self, kind: Kind, step: Step, location: Location) -> RunResult<Word>
+        ensures { RunsAs (λ w. w) result (activity_seen self.new) (count_at kind step (location_seen location) (activity_seen self.old)) }
+    {
+        let old = self.read(location)?;
+        let new = counted(step, kind, old);
+        self.write(location, new)?;
+        Ok(given_by(step, old, new))
+    }
+}
