@@ -5,8 +5,7 @@ use Rattle.ash_phrases.specs.Runs.{Progress, Done, Ended, NoStep, Raising, OutOf
 use Rattle.ash_plain.specs.declared.run_error.RunError.{RunError}
 use Rattle.ash_plain.specs.declared.run_error.RunError.TheVariants as errors
 
--- The code ends by an error as the phrase ends, at the activity that it leaves. Where memory ran out, and where the code
--- does not know the phrase yet, nothing is said.
+-- The code ends by an error as the phrase ends, at the activity that it leaves. Where memory ran out, nothing is said.
 abbrev pub FailsAs : {A : Type 0} → RunError → Activity → Progress A → Type 0
 FailsAs (errors.Raised exception) activity progress = progress ≡ Ended (Raising exception) activity
 FailsAs errors.OutOfTicks activity progress = progress ≡ Ended OutOfTicks activity
