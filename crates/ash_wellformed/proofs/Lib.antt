@@ -24,3 +24,4 @@ pub mod Bodies
 pub mod Ends
 pub mod Kept
 pub mod Modules
+pub mod SourceOrder

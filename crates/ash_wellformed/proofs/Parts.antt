@@ -16,6 +16,7 @@ use Rattle.ash_phrases.specs.ArraySteps.{max_elements}
 use Rattle.ash_phrases.specs.Classes.{Program, place_of_class, place_of_interface, element_of}
 use Rattle.ash_wellformed.specs.WellFormed.{Context, IsContext, Shape, OfClass, OfElements, OfKind, shape_of, IsOfClass, Implements, IsNamed, IsKnownFor, IsArrayOf, IsReference, to_nothing, to_object, IsValue, is_truth, is_integer, is_handle, AreValues, AllAre, none_are, and_is, IsObject, is_script, is_array}
 use Rattle.ash_wellformed.proofs.Places.{one_class, class_or_interface, one_interface}
+use Rattle.ash_wellformed.proofs.SourceOrder.{in_source_order}
 
 same_owner : {owner other : List ℕ} {place at : ℕ} → OfClass owner place ≡ OfClass other at → owner ≡ other
 same_owner e = cc
@@ -121,19 +122,19 @@ module _ {c : Context} (context : IsContext c) where
         let same = one_program _ _ e in
         let (j, there) = there_from (p.tree).interfaces interface named in
         let (i, at) = there_from (p.tree).interfaces other (subst (λ (r : Program). other < length (r.tree).interfaces) same known_there) in
-        one_interface p.tree context.ordered other interface i j at there (subst (λ (r : Program). place_of_interface r.tree other ≡ place_of_interface p.tree interface) same (same_places e))
+        one_interface p.tree (in_source_order context.sound) other interface i j at there (subst (λ (r : Program). place_of_interface r.tree other ≡ place_of_interface p.tree interface) same (same_places e))
 
     no_class_there : (interface other : ℕ) → interface < length (p.tree).interfaces → Handles q.name (place_of_class q.tree other) ≡ Handles p.name (place_of_interface p.tree interface) → ⊥
     no_class_there interface other named e =
         let same = one_program _ _ e in
         let (i, at) = there_from (p.tree).interfaces interface named in
-        class_or_interface p.tree context.ordered other interface i at (subst (λ (r : Program). place_of_class r.tree other ≡ place_of_interface p.tree interface) same (same_places e))
+        class_or_interface p.tree (in_source_order context.sound) other interface i at (subst (λ (r : Program). place_of_class r.tree other ≡ place_of_interface p.tree interface) same (same_places e))
 
     no_interface_there : (class other : ℕ) → other < length (q.tree).interfaces → Handles q.name (place_of_interface q.tree other) ≡ Handles p.name (place_of_class p.tree class) → ⊥
     no_interface_there class other named e =
         let same = one_program _ _ e in
         let (i, at) = there_from (p.tree).interfaces other (subst (λ (r : Program). other < length (r.tree).interfaces) same named) in
-        class_or_interface p.tree context.ordered class other i at (sym (subst (λ (r : Program). place_of_interface r.tree other ≡ place_of_class p.tree class) same (same_places e)))
+        class_or_interface p.tree (in_source_order context.sound) class other i at (sym (subst (λ (r : Program). place_of_interface r.tree other ≡ place_of_class p.tree class) same (same_places e)))
 
   -- a module that has the same elements by its types has values of the same type
   element_as : {all : Objects (List ℕ)} (q : Program) (e d : typed_element.Element) {w : Word} → IsKnownFor c.modules q d → IsNamed p.tree e → IsNamed q.tree d → element_of q d ≡ element_of p e → IsValue q all (type_of_element d) w → IsValue p all (type_of_element e) w

@@ -7,7 +7,7 @@ use Rattle.std.proofs.lemmas.Option.{same_Some}
 use Rattle.std.proofs.lemmas.List.Sums.{sum_by-cons}
 use Rattle.ash_typed.specs.Modules.{Interface, Module}
 use Rattle.ash_phrases.specs.Classes.{place_of_class, place_of_interface}
-use Rattle.ash_wellformed.specs.WellFormed.{IsInSourceOrder}
+use Rattle.ash_wellformed.proofs.SourceOrder.{IsInSourceOrder}
 
 -- how many interfaces are before the end of a class
 abbrev before : ℕ → List Interface → ℕ

@@ -20,7 +20,7 @@ use Rattle.ash_typed.specs.declared.types.ObjectType.TheVariants as objects
 use Rattle.ash_typed.specs.declared.types.VarType.{VarType}
 use Rattle.ash_typed.specs.declared.types.VarType.TheVariants as vars
 use Rattle.ash_typed.specs.TypeOf.{ValueType, no_value, null_value, value, type_of_element}
-use Rattle.ash_typed.specs.Modules.{Interface, Class, Module}
+use Rattle.ash_typed.specs.Modules.{Class, Module}
 use Rattle.ash_typed.specs.Signatures as signatures
 use Rattle.ash_typed.specs.Signatures.{Signatures, signatures_of, type_declared, types_of_globals}
 use Rattle.ash_typed.specs.SoundExpressions.{Environment}
@@ -44,21 +44,10 @@ pub record Context : Type 0 where
   pub modules : Known
   pub began : World
 
--- No interface has more classes before it than a later one, so that each class and each interface has a place of its own in
--- the source.
-abbrev pub IsInSourceOrder : Module → Type 0
-IsInSourceOrder m =
-    (earlier later : ℕ) (i j : Interface)
-    → earlier ≤ later
-    → slice_get m.interfaces earlier ≡ Some i
-    → slice_get m.interfaces later ≡ Some j
-    → i.classes_before ≤ j.classes_before
-
 -- The module that runs is one of those that are known, and is sound.
 pub record IsContext (c : Context) : Type 0 where
   pub known : c.modules (c.program).name ≡ Some (c.program).tree
   pub sound : IsSound c.host (c.program).tree
-  pub ordered : IsInSourceOrder (c.program).tree
 
 -- what the module that runs declares
 abbrev pub declared : Context → Signatures

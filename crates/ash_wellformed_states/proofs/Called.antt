@@ -24,7 +24,6 @@ use Rattle.ash_steps.specs.Tasks.{is_module_name, max_seq, tree_in, tree_of}
 use Rattle.ash_steps.specs.Premises.{ReadsSound}
 use Rattle.ash_wellformed_states.specs.WellFormedStates.{AreHosts, HasValidName, known_of, IsLoaded, IsWellFormedState}
 use Rattle.ash_wellformed_states.proofs.Named.{rec_of, rec_map, in_filter, from_filter, find_map, name_says, name_yes, in_globals, from_globals}
-use Rattle.ash_wellformed_states.proofs.SourceOrder.{in_source_order}
 use Rattle.ash_wellformed_states.proofs.Ascending.{found_by_name, ascend_map}
 use Rattle.ash_wellformed_states.proofs.Left.{root_cases, hosts_after, begun, state_well, keeps_loaded, known_some}
 
@@ -83,7 +82,7 @@ module _ {Fault : Type 0} (embedding : Embedding Fault) (host : Host) (sound : R
   c = record { host = host; program = record { name = m.name; tree = tree }; modules = known_of embedding s.modules; began = before }
 
   context : IsContext c
-  context = record { known = known_some embedding s.modules m tree found is; sound = sound m.source tree is; ordered = in_source_order (sound m.source tree is) }
+  context = record { known = known_some embedding s.modules m tree found is; sound = sound m.source tree is }
 
   is_loaded : Contains s.modules m
   is_loaded = found_in (has_name m.name) s.modules m found

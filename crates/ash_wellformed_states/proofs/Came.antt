@@ -26,7 +26,6 @@ use Rattle.ash_steps.specs.Tasks.{is_module_name, max_modules, max_seq, tree_in,
 use Rattle.ash_steps.specs.Premises.{ReadsSound}
 use Rattle.ash_wellformed_states.specs.WellFormedStates.{AreHosts, HasValidName, known_of, IsLoaded, IsWellFormedState}
 use Rattle.ash_wellformed_states.proofs.Named.{rec_of, rec_from, rec_with, from_filter, find_filter, find_with_other, find_with_new, length-filter, length-with, in_with_new, in_with_old, name_says, name_yes, found_name, in_globals, from_globals}
-use Rattle.ash_wellformed_states.proofs.SourceOrder.{in_source_order}
 use Rattle.ash_wellformed_states.proofs.Ascending.{ascend_filter, ascend_with}
 use Rattle.ash_wellformed_states.proofs.Left.{root_cases, hosts_after, begun, state_well, keeps_loaded, removed}
 
@@ -117,7 +116,7 @@ module _ {Fault : Type 0} (embedding : Embedding Fault) (host : Host) (s : State
     knows_old key t at = knows_old_from key t (bytes_eq name key) refl at
 
     context : IsContext c
-    context = record { known = known_new []; sound = sound source tree is; ordered = in_source_order (sound source tree is) }
+    context = record { known = known_new []; sound = sound source tree is }
 
     living_before : AreObjects c.modules s.objects
     living_before = more_modules_keep (known_of embedding s.modules) c.modules s.objects knows_old h.living

@@ -1,6 +1,5 @@
 pub mod Named
 pub mod Ascending
-pub mod SourceOrder
 pub mod Asked
 pub mod Left
 pub mod Called

@@ -4,7 +4,16 @@ use Rattle.std.proofs.lemmas.Option.{same_Some}
 use Rattle.ash_typed.specs.Modules.{Interface, Module}
 use Rattle.ash_typed.specs.Signatures.{Host}
 use Rattle.ash_typed.specs.SoundModules.{AreInOrder, IsSound}
-use Rattle.ash_wellformed.specs.WellFormed.{IsInSourceOrder}
+
+-- No interface has more classes before it than a later one, so that each class and each interface has a place of its own in
+-- the source.
+abbrev pub IsInSourceOrder : Module → Type 0
+IsInSourceOrder m =
+    (earlier later : ℕ) (i j : Interface)
+    → earlier ≤ later
+    → slice_get m.interfaces earlier ≡ Some i
+    → slice_get m.interfaces later ≡ Some j
+    → i.classes_before ≤ j.classes_before
 
 -- each has at least as many classes before it as the first may have
 at_least : (least : ℕ) (is : List Interface) → AreInOrder least is → (k : ℕ) (i : Interface) → slice_get is k ≡ Some i → least ≤ i.classes_before
