@@ -74,9 +74,14 @@ def write(record):
     os.replace(FILE + ".new", FILE)
 
 
-# How many edits one run of the gate tries at the most. All of them are off record at once where the toolchain has changed,
-# and would take longer than a run has on a slow machine.
-MAX_EDITS = 150
+# How many edits one run of the gate tries at the most for each processor. All of them are off record at once where the
+# toolchain has changed, and would take longer than a run has on a slow machine.
+MAX_EDITS_FOR_A_PROCESSOR = 75
+
+
+def max_edits():
+    """How many edits one run of the gate tries at the most on this machine."""
+    return MAX_EDITS_FOR_A_PROCESSOR * len(os.sched_getaffinity(0))
 
 
 def put_off(known):
@@ -84,7 +89,7 @@ def put_off(known):
     found, count = [], 0
     for name in sorted(crates(), key=lambda it: -len(edits(it))):
         if name not in known and edits(name):
-            if count + len(edits(name)) > MAX_EDITS:
+            if count + len(edits(name)) > max_edits():
                 found.append(name)
             else:
                 count += len(edits(name))

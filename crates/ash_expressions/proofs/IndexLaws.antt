@@ -1,51 +1,55 @@
--- Indexes of names, and how a list of names grows.
-use Rattle.std.proofs.Common.{◌≡◌, ℕ, ◌+◌, suc, Bool, true, false, cond, List, [], ◌∷◌, ◌++◌, length, slice_get, Option, Some, None, is_some, refl, sym, ap, subst, ◌∙◌, ◌||◌, ◌<◌, ◌≤◌, map, take, get_or, arith}
+-- Indexes of names, made from the last name on.
+use Rattle.std.proofs.Common.{◌≡◌, ℕ, ◌+◌, suc, Bool, true, false, cond, List, [], ◌∷◌, ◌++◌, length, slice_get, Option, Some, None, is_some, refl, sym, ap, subst, ◌∙◌, ◌||◌, ◌<◌, ◌≤◌, map, drop, get_or, arith}
 use Rattle.std.proofs.lemmas.Bool.{false≢true}
-use Rattle.std.specs.List.{list_any}
 use Rattle.std.specs.Option.{option_map, option_and_then}
 use Rattle.std.specs.Str.{bytes_eq}
 use Rattle.std.specs.Borrow.{Bor}
-use Rattle.std.proofs.lemmas.List.{take_more, map_push}
-use Rattle.std.proofs.Math.Seq.{length-take-le}
-use Rattle.std.proofs.Math.ListN.{length-map}
+use Rattle.std.proofs.lemmas.List.{drop_more}
 use Rattle.std.proofs.lemmas.Map.Text.{hash_map_updates_str}
 use Rattle.std.proofs.lemmas.Slice.Eq.{bytes_eq-Decides}
 use Rattle.indexmap.specs.IndexMap.{IndexMap, UpdatesBy}
 use Rattle.ash_registrations.specs.Names.{place_of}
-use Rattle.ash_registrations.proofs.Places.{placed_is_any, place_stays, place_of_new}
 use Rattle.ash_typing.specs.Environment.{first_from}
 use Rattle.ash_expressions.specs.NameIndex.{place_in_index, IsNameIndex, texts}
 
--- one more leaves the place of the first that passes
-place_unchanged : {X : Type 0} (p : X → Bool) (xs : List X) (y : X) → list_any p xs ≡ true → place_of p (xs ++ y ∷ []) ≡ place_of p xs
-place_unchanged p [] y h = absurd (false≢true h)
-place_unchanged p (x ∷ xs) y h =
-    (elim (p x) as (λ b. (b || list_any p xs) ≡ true → cond b (Some 0) (option_map suc (place_of p (xs ++ y ∷ []))) ≡ cond b (Some 0) (option_map suc (place_of p xs))) [
-      | true ↦ λ _. refl
-      | false ↦ λ f. ap (option_map suc) (place_unchanged p xs y f)
-    ]) h
+-- each name has the place of the first of these names that equals it, counted from the place of the first of them
+abbrev pub ArePlacesFrom : {S : Type 0} → ℕ → IndexMap (Bor (List ℕ)) ℕ S → List (List ℕ) → Type 0
+ArePlacesFrom at places names = (name : List ℕ) → place_in_index places name ≡ option_map (λ k. at + k) (place_of (bytes_eq name) names)
 
--- a name that is there already moves none
-name_unchanged : (names : List (List ℕ)) (key name : List ℕ) → list_any (bytes_eq key) names ≡ true → place_of (bytes_eq name) (names ++ key ∷ []) ≡ place_of (bytes_eq name) names
-name_unchanged names key name h =
-    (elim (bytes_eq name key) as (λ b. bytes_eq name key ≡ b → place_of (bytes_eq name) (names ++ key ∷ []) ≡ place_of (bytes_eq name) names) [
-      | true ↦ λ e. place_unchanged (bytes_eq name) names key (subst (λ n. list_any (bytes_eq n) names ≡ true) (sym ((bytes_eq-Decides name key).0 e)) h)
-      | false ↦ λ e. place_stays (bytes_eq name) names key e
+one_on : (at : ℕ) (o : Option ℕ) → option_map (λ k. (at + 1) + k) o ≡ option_map (λ k. at + k) (option_map suc o)
+one_on at None = refl
+one_on at (Some k) = let e : (at + 1) + k ≡ at + suc k = omega arith in ap (λ n. Some n) e
+
+apart : (key name : List ℕ) → bytes_eq key name ≡ false → bytes_eq name key ≡ false
+apart key name h =
+    (elim (bytes_eq name key) as (λ b. bytes_eq name key ≡ b → b ≡ false) [
+      | true ↦ λ e. absurd (false≢true (sym h ∙ (bytes_eq-Decides key name).1 (sym ((bytes_eq-Decides name key).0 e))))
+      | false ↦ λ e. refl
     ]) refl
 
-module _ {S : Type 0} (old : IndexMap (Bor (List ℕ)) ℕ S) (names more : List (List ℕ)) (key : List ℕ) where
-  among : IsNameIndex old names → (b : Bool) → is_some (place_in_index old key) ≡ b → list_any (bytes_eq key) names ≡ b
-  among h b e = sym (placed_is_any (bytes_eq key) names) ∙ ap is_some (sym (h key)) ∙ e
+one_before : (at : ℕ) (key name : List ℕ) (o found : Option ℕ) → found ≡ option_map (λ k. (at + 1) + k) o → cond (bytes_eq key name) (Some at) found ≡ option_map (λ k. at + k) (cond (bytes_eq name key) (Some 0) (option_map suc o))
+one_before at key name o found h =
+    let P : Bool → Option ℕ = λ b. option_map (λ k. at + k) (cond b (Some 0) (option_map suc o)) in
+    (elim (bytes_eq key name) as (λ b. bytes_eq key name ≡ b → cond b (Some at) found ≡ P (bytes_eq name key)) [
+      | true ↦ λ e.
+          let same : bytes_eq name key ≡ true = (bytes_eq-Decides name key).1 (sym ((bytes_eq-Decides key name).0 e)) in
+          let first : at ≡ at + 0 = omega arith in
+          ap (λ n. Some n) first ∙ sym (ap P same)
+      | false ↦ λ e. h ∙ one_on at o ∙ sym (ap P (apart key name e))
+    ]) refl
 
-  -- a name that has a place already
-  pub known_name : IsNameIndex old names → is_some (place_in_index old key) ≡ true → more ≡ names ++ key ∷ [] → IsNameIndex old more
-  known_name h e m = λ name. h name ∙ sym (name_unchanged names key name (among h true e)) ∙ ap (place_of (bytes_eq name)) (sym m)
+-- a name before the others takes the place before theirs
+pub placed_before : {S : Type 0} (old new : IndexMap (Bor (List ℕ)) ℕ S) (at : ℕ) (key : List ℕ) (names : List (List ℕ)) → ArePlacesFrom (at + 1) old names → UpdatesBy (λ x y. bytes_eq x.now y.now) (λ k. bytes_eq key k.now) old new (Some at) → ArePlacesFrom at new (key ∷ names)
+placed_before old new at key names h updates = λ name.
+    hash_map_updates_str key old new (Some at) updates name ∙ one_before at key name (place_of (bytes_eq name) names) (place_in_index old name) (h name)
 
-  -- a name that has none yet takes the next
-  pub new_name : (new : IndexMap (Bor (List ℕ)) ℕ S) (at : ℕ) → IsNameIndex old names → is_some (place_in_index old key) ≡ false → more ≡ names ++ key ∷ [] → at ≡ length names → UpdatesBy (λ x y. bytes_eq x.now y.now) (λ k. bytes_eq key k.now) old new (Some at) → IsNameIndex new more
-  new_name new at h e m last updates = λ name.
-      hash_map_updates_str key old new (Some at) updates name
-      ∙ place_of_new bytes_eq names more key key name (place_in_index old name) at (λ other. refl) (among h false e) (h name) last m
+none_on : (o : Option ℕ) → option_map (λ k. 0 + k) o ≡ o
+none_on None = refl
+none_on (Some k) = let e : 0 + k ≡ k = omega arith in ap (λ n. Some n) e
+
+-- places from 0
+pub placed_from_none : {S : Type 0} (places : IndexMap (Bor (List ℕ)) ℕ S) (names : List (List ℕ)) → ArePlacesFrom 0 places names → IsNameIndex places names
+placed_from_none places names h = λ name. h name ∙ none_on (place_of (bytes_eq name) names)
 
 module _ {X Y : Type 0} (test : Y → Bool) (view : X → Y) where
   -- the item at a place, with its number
@@ -80,9 +84,6 @@ pub place_mapped : {X : Type 0} (name : List ℕ) (named : X → List ℕ) (xs :
 place_mapped name named [] = refl
 place_mapped name named (x ∷ xs) = ap (λ o. cond (bytes_eq name (named x)) (Some 0) (option_map suc o)) (place_mapped name named xs)
 
--- the names up to the next, and those with it
-pub before_next : (names : List (Bor (List ℕ))) (i : ℕ) → i ≤ length names → i ≡ length (texts (take i names))
-before_next names i h = sym (length-map (take i names) (λ (name : Bor (List ℕ)). name.now) ∙ length-take-le i names h)
-
-pub with_next : (names : List (Bor (List ℕ))) (i : ℕ) (d : Bor (List ℕ)) → i < length names → texts (take (i + 1) names) ≡ texts (take i names) ++ (get_or names i d).now ∷ []
-with_next names i d h = ap texts (take_more names i d h) ∙ map_push (λ (name : Bor (List ℕ)). name.now) (take i names) (get_or names i d)
+-- the names from one on: it, and those after it
+pub from_next : (names : List (Bor (List ℕ))) (i : ℕ) (d : Bor (List ℕ)) → i < length names → texts (drop i names) ≡ (get_or names i d).now ∷ texts (drop (i + 1) names)
+from_next names i d h = ap texts (drop_more names i d h)

@@ -11,7 +11,7 @@ use std::alloc::{AllocError, Global};
 /// The place of the first of each name.
 pub(crate) type NameIndex<'a> = IndexMap<&'a str, usize>;
 
-/// The index of these names.
+/// The index of these names. It goes from the last name to the first, so that the first of each name is what is left.
 pub(crate) fn name_index_of<'a>(
     alloc: Global,
     names: &[&'a str],
@@ -19,10 +19,8 @@ pub(crate) fn name_index_of<'a>(
     ensures { IfOk result (λ places. IsNameIndex places (texts names.now)) }
 {
     let mut places = IndexMap::with_capacity(alloc, names.len())?;
-    for (place, name) in names.iter().enumerate() {
-        if !places.contains_key(*name) {
-            places.insert(*name, place)?;
-        }
+    for place in (0..names.len()).rev() {
+        places.insert(names[place], place)?;
     }
     Ok(places)
 }
